@@ -75,9 +75,9 @@ mutual
   suffixes_told NoSuffixes g a u v h = h
   suffixes_told (Index index others) g a u v h =
       let b : Verdict Value = both a (judge g index) (indexed g) in
-      suffixes_told others g b (indexed_use (place_at 0 a) (is_moved g b) u (use_of g index))
-      (indexed_uses (place_at 0 a) (is_moved g b) v (uses_of g index))
-      (indexed_used (length g.locals) u (use_of g index) v (uses_of g index) h (uses_told index g) (place_at 0 a) (is_moved g b))
+      suffixes_told others g b (indexed_use (place_at 0 a) (is_moved g b) a u (use_of g index))
+      (indexed_uses (place_at 0 a) (is_moved g b) a v (uses_of g index))
+      (indexed_used (length g.locals) u (use_of g index) v (uses_of g index) h (uses_told index g) (place_at 0 a) (is_moved g b) a)
   suffixes_told (Dot f others) g a u v h =
       let b : Verdict Value = after a (member g f) in
       suffixes_told others g b (member_use (place_at 0 a) (is_moved g b) u) (member_uses (place_at 0 a) (is_moved g b) v)

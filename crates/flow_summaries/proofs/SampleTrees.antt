@@ -21,10 +21,10 @@ variable_at at s = Expression.Variable (name_at at s)
 
 -- the types int *`U, int *`r and int ? from a place on
 abbrev pub unique_at : ℕ → TypeName
-unique_at at = record { at = at; base = tree.Int; pointers = pointer sign.Nullable (Some (tree.Unique (at + 5))) ∷ [] }
+unique_at at = record { at = at; base = tree.Int; pointers = pointer (sign.Nullable 1) (Some (tree.Unique (at + 5))) ∷ [] }
 
 abbrev pub alias_type_at : ℕ → TypeName
-alias_type_at at = record { at = at; base = tree.Int; pointers = pointer sign.Nullable (Some (region_at (at + 5) "r")) ∷ [] }
+alias_type_at at = record { at = at; base = tree.Int; pointers = pointer (sign.Nullable 1) (Some (region_at (at + 5) "r")) ∷ [] }
 
 abbrev pub fat_at : ℕ → TypeName
 fat_at at = record { at = at; base = tree.Int; pointers = pointer sign.Fat None ∷ [] }

@@ -101,10 +101,11 @@ module _ (n : ℕ) (u : Use) (v : Uses) (h : UsesAs n u v) where
 -- ---- the others
 
 module _ (n : ℕ) (u w : Use) (v x : Uses) (h : UsesAs n u v) (k : UsesAs n w x) where
-  pub indexed_used : (at : ℕ) (moves : Bool) → UsesAs n (indexed_use at moves u w) (indexed_uses at moves v x)
-  indexed_used at moves =
-      used_as_place n at moves u.own v.own (λ s. (indexed_use at moves u w).look s) (in_turn x.look v.look) h.own
-      (does_in_turn n w.look u.look x.look v.look k.look h.look)
+  pub indexed_used : (at : ℕ) (moves : Bool) (a : Verdict Value) → UsesAs n (indexed_use at moves a u w) (indexed_uses at moves a v x)
+  indexed_used at moves a =
+      used_as_place n at moves (u.own && not (is_unique_value a)) (v.own && not (is_unique_value a)) (λ s. (indexed_use at moves a u w).look s)
+      (in_turn x.look (pointed_uses at a v)) (ap (λ o. o && not (is_unique_value a)) h.own)
+      (does_in_turn n w.look (pointed_use at a u) x.look (pointed_uses at a v) k.look (pointed_does n u v h at a))
 
   pub applied_used : UsesAs n (applied_use u w) (applied_uses v x)
   applied_used =

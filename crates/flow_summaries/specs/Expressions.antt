@@ -52,7 +52,7 @@ abbrev mutual
   uses_suffixes g v u NoSuffixes = u
   uses_suffixes g v u (Index index others) =
       uses_suffixes g (both v (judge g index) (indexed g))
-      (indexed_uses (place_at 0 v) (is_moved g (both v (judge g index) (indexed g))) u (uses_of g index)) others
+      (indexed_uses (place_at 0 v) (is_moved g (both v (judge g index) (indexed g))) v u (uses_of g index)) others
   uses_suffixes g v u (Dot f others) =
       uses_suffixes g (after v (member g f)) (member_uses (place_at 0 v) (is_moved g (after v (member g f))) u) others
   uses_suffixes g v u (Arrow f others) =

@@ -82,8 +82,8 @@ abbrev pub contents_uses : Env → ℕ → Verdict Value → Uses → Uses
 contents_uses g at v e = uses_as_place at (is_moved g (after v (contents g at))) false (pointed_uses at v e)
 
 -- `a[b]`: b goes before a
-abbrev pub indexed_uses : ℕ → Bool → Uses → Uses → Uses
-indexed_uses at moves a b = uses_as_place at moves a.own (in_turn b.look a.look)
+abbrev pub indexed_uses : ℕ → Bool → Verdict Value → Uses → Uses → Uses
+indexed_uses at moves v a b = uses_as_place at moves (a.own && not (is_unique_value v)) (in_turn b.look (pointed_uses at v a))
 
 -- `e.f`
 abbrev pub member_uses : ℕ → Bool → Uses → Uses

@@ -31,11 +31,11 @@ abbrev pointers_begin : Program
 pointers_begin =
     tree.StructItem (record { at = 0; tag = (named "P"); regions = []; members = ((record { of = (typed tree.Int []); name = (named "x") }) ∷ (record { of = (typed tree.Char ((pointer Fat None) ∷ [])); name = (named "s") }) ∷ []) }) ∷
     tree.FunctionItem (function (typed tree.Int []) (named "main") [] (
-    (tree.Local (typed tree.Int ((pointer Nullable None) ∷ [])) (named "p") Initializer.Unset) ▹
+    (tree.Local (typed tree.Int ((pointer (Nullable 1) None) ∷ [])) (named "p") Initializer.Unset) ▹
     (tree.Local (typed tree.Int ((pointer Fat None) ∷ [])) (named "q") Initializer.Unset) ▹
-    (tree.Local (typed (tree.Struct (named "P") []) ((pointer Nullable None) ∷ [])) (named "r") Initializer.Unset) ▹
+    (tree.Local (typed (tree.Struct (named "P") []) ((pointer (Nullable 1) None) ∷ [])) (named "r") Initializer.Unset) ▹
     (tree.Local (typed (tree.Struct (named "P") []) ((pointer Fat None) ∷ [])) (named "t") Initializer.Unset) ▹
-    (tree.Local (typed tree.Int ((pointer Nullable (Some (tree.Unique 0))) ∷ [])) (named "u") Initializer.Unset) ▹
+    (tree.Local (typed tree.Int ((pointer (Nullable 1) (Some (tree.Unique 0))) ∷ [])) (named "u") Initializer.Unset) ▹
     (Statement.Return 0 (Some (Expression.Chain (Expression.Grouped 0 (Expression.Chain (variable "p") (MoreLinks Equal (Expression.Null 0) NoLinks))) (MoreLinks Add (Expression.Chain (Expression.Grouped 0 (Expression.Chain (variable "q") (MoreLinks Equal (Expression.Null 0) NoLinks))) (MoreLinks Multiply (number 2) NoLinks)) (MoreLinks Add (Expression.Chain (Expression.Grouped 0 (Expression.Chain (variable "r") (MoreLinks Equal (Expression.Null 0) NoLinks))) (MoreLinks Multiply (number 4) NoLinks)) (MoreLinks Add (Expression.Chain (Expression.Grouped 0 (Expression.Chain (variable "t") (MoreLinks Equal (Expression.Null 0) NoLinks))) (MoreLinks Multiply (number 8) NoLinks)) (MoreLinks Add (Expression.Chain (Expression.Grouped 0 (Expression.Chain (variable "u") (MoreLinks Equal (Expression.Null 0) NoLinks))) (MoreLinks Multiply (number 16) NoLinks)) (MoreLinks Add (Expression.NumElts 0 (variable "q")) NoLinks)))))))) ▸
     NoItems)) ∷ []
 
@@ -48,7 +48,7 @@ arrays_begin =
     tree.FunctionItem (function (typed tree.Int []) (named "main") [] (
     (tree.Local (typed tree.Int []) (named "a") (Initializer.Elements 2)) ▹
     (tree.Local (typed tree.Char []) (named "c") (Initializer.Elements 2)) ▹
-    (tree.Local (typed tree.Int ((pointer Nullable None) ∷ [])) (named "p") (Initializer.Elements 2)) ▹
+    (tree.Local (typed tree.Int ((pointer (Nullable 1) None) ∷ [])) (named "p") (Initializer.Elements 2)) ▹
     (tree.Local (typed tree.Unsigned ((pointer Fat None) ∷ [])) (named "q") (Initializer.Elements 1)) ▹
     (Statement.Return 0 (Some (Expression.Chain (Expression.Suffixed (variable "a") (Index (number 0) NoSuffixes)) (MoreLinks Add (Expression.Suffixed (variable "a") (Index (number 1) NoSuffixes)) (MoreLinks Add (Expression.Suffixed (variable "c") (Index (number 1) NoSuffixes)) (MoreLinks Add (Expression.Grouped 0 (Expression.Chain (Expression.Suffixed (variable "p") (Index (number 1) NoSuffixes)) (MoreLinks Equal (Expression.Null 0) NoLinks))) (MoreLinks Add (Expression.Chain (Expression.Grouped 0 (Expression.Chain (Expression.Suffixed (variable "q") (Index (number 0) NoSuffixes)) (MoreLinks Equal (Expression.Null 0) NoLinks))) (MoreLinks Multiply (number 2) NoLinks)) (MoreLinks Add (Expression.Chain (Expression.NumElts 0 (variable "p")) (MoreLinks Multiply (number 4) NoLinks)) NoLinks)))))))) ▸
     NoItems)) ∷ []
@@ -60,7 +60,7 @@ arrays_begin_runs = refl
 abbrev structs_begin : Program
 structs_begin =
     tree.StructItem (record { at = 0; tag = (named "I"); regions = []; members = ((record { of = (typed tree.Char []); name = (named "c") }) ∷ (record { of = (typed tree.Int ((pointer Fat None) ∷ [])); name = (named "q") }) ∷ []) }) ∷
-    tree.StructItem (record { at = 0; tag = (named "P"); regions = []; members = ((record { of = (typed tree.Int []); name = (named "x") }) ∷ (record { of = (typed (tree.Struct (named "I") []) []); name = (named "i") }) ∷ (record { of = (typed tree.Int ((pointer Nullable None) ∷ [])); name = (named "p") }) ∷ []) }) ∷
+    tree.StructItem (record { at = 0; tag = (named "P"); regions = []; members = ((record { of = (typed tree.Int []); name = (named "x") }) ∷ (record { of = (typed (tree.Struct (named "I") []) []); name = (named "i") }) ∷ (record { of = (typed tree.Int ((pointer (Nullable 1) None) ∷ [])); name = (named "p") }) ∷ []) }) ∷
     tree.FunctionItem (function (typed tree.Int []) (named "main") [] (
     (tree.Local (typed (tree.Struct (named "P") []) []) (named "a") Initializer.Unset) ▹
     (tree.Local (typed (tree.Struct (named "P") []) []) (named "b") (Initializer.Elements 2)) ▹
@@ -94,7 +94,7 @@ each_turn_begins_runs = refl
 abbrev unique_in_parentheses : Program
 unique_in_parentheses =
     tree.FunctionItem (function (typed tree.Int []) (named "main") [] (
-    (tree.Local (typed tree.Int ((pointer Nullable (Some (tree.Unique 0))) ∷ [])) (named "p") (Initializer.Value (Expression.NewIn 0 (Expression.Grouped 0 (Expression.UniqueRegion 0)) (One (number 3))))) ▹
+    (tree.Local (typed tree.Int ((pointer (Nullable 1) (Some (tree.Unique 0))) ∷ [])) (named "p") (Initializer.Value (Expression.NewIn 0 (Expression.Grouped 0 (Expression.UniqueRegion 0)) (One (number 3))))) ▹
     (tree.Local (typed tree.Int []) (named "r") (Initializer.Value (Expression.Prefixed 0 Dereference (variable "p")))) ▹
     (Statement.FreeUnique 0 (named "p")) ▸
     (Statement.Return 0 (Some (variable "r"))) ▸
@@ -107,9 +107,9 @@ unique_in_parentheses_runs = refl
 abbrev alias_of_null : Program
 alias_of_null =
     tree.FunctionItem (function (typed tree.Int []) (named "main") [] (
-    (tree.Local (typed tree.Int ((pointer Nullable (Some (tree.Unique 0))) ∷ [])) (named "p") (Initializer.Value (Expression.Null 0))) ▹
+    (tree.Local (typed tree.Int ((pointer (Nullable 1) (Some (tree.Unique 0))) ∷ [])) (named "p") (Initializer.Value (Expression.Null 0))) ▹
     (Statement.Block 0 (
-    (tree.Alias 0 (tree.Named (named "r")) (typed tree.Int ((pointer Nullable (Some (tree.Named (named "r")))) ∷ [])) (named "x") (named "p")) ▹
+    (tree.Alias 0 (tree.Named (named "r")) (typed tree.Int ((pointer (Nullable 1) (Some (tree.Named (named "r")))) ∷ [])) (named "x") (named "p")) ▹
     (Statement.If 0 (Expression.Chain (variable "x") (MoreLinks Equal (Expression.Null 0) NoLinks)) (Statement.Run (Expression.Call (named "putchar") (MoreExpressions (number 65) NoExpressions)))) ▸
     NoItems)) ▸
     (Statement.FreeUnique 0 (named "p")) ▸
@@ -123,11 +123,11 @@ alias_of_null_runs = refl
 abbrev alias_continued : Program
 alias_continued =
     tree.FunctionItem (function (typed tree.Int []) (named "main") [] (
-    (tree.Local (typed tree.Int ((pointer Nullable (Some (tree.Unique 0))) ∷ [])) (named "p") (Initializer.Value (Expression.NewIn 0 (Expression.UniqueRegion 0) (One (number 0))))) ▹
+    (tree.Local (typed tree.Int ((pointer (Nullable 1) (Some (tree.Unique 0))) ∷ [])) (named "p") (Initializer.Value (Expression.NewIn 0 (Expression.UniqueRegion 0) (One (number 0))))) ▹
     (tree.Local (typed tree.Int []) (named "i") (Initializer.Value (number 0))) ▹
     (Statement.While 0 (Expression.Chain (variable "i") (MoreLinks Less (number 2) NoLinks)) (Statement.Block 0 (
     (Statement.Run (Expression.Assign (variable "i") (Expression.Chain (variable "i") (MoreLinks Add (number 1) NoLinks)))) ▸
-    (tree.Alias 0 (tree.Named (named "r")) (typed tree.Int ((pointer Nullable (Some (tree.Named (named "r")))) ∷ [])) (named "x") (named "p")) ▹
+    (tree.Alias 0 (tree.Named (named "r")) (typed tree.Int ((pointer (Nullable 1) (Some (tree.Named (named "r")))) ∷ [])) (named "x") (named "p")) ▹
     (Statement.Run (Expression.Assign (Expression.Prefixed 0 Dereference (variable "x")) (Expression.Chain (Expression.Prefixed 0 Dereference (variable "x")) (MoreLinks Add (variable "i") NoLinks)))) ▸
     (Statement.Continue 0) ▸
     NoItems))) ▸
@@ -143,7 +143,7 @@ alias_continued_runs = refl
 abbrev unique_overwritten : Program
 unique_overwritten =
     tree.FunctionItem (function (typed tree.Int []) (named "main") [] (
-    (tree.Local (typed tree.Int ((pointer Nullable (Some (tree.Unique 0))) ∷ [])) (named "p") (Initializer.Value (Expression.NewIn 0 (Expression.UniqueRegion 0) (One (number 1))))) ▹
+    (tree.Local (typed tree.Int ((pointer (Nullable 1) (Some (tree.Unique 0))) ∷ [])) (named "p") (Initializer.Value (Expression.NewIn 0 (Expression.UniqueRegion 0) (One (number 1))))) ▹
     (Statement.Run (Expression.Assign (variable "p") (Expression.NewIn 0 (Expression.UniqueRegion 0) (One (number 2))))) ▸
     (tree.Local (typed tree.Int []) (named "r") (Initializer.Value (Expression.Prefixed 0 Dereference (variable "p")))) ▹
     (Statement.FreeUnique 0 (named "p")) ▸

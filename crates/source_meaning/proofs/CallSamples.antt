@@ -51,7 +51,7 @@ two_conversions_runs = refl
 -- int f(int *p, int ? q) { return *p * 10 + numelts(q); } int main() { int x = 3; int a[2]; a[1] = 4; return f(a + 1, &x); }
 abbrev pointer_arguments : Program
 pointer_arguments =
-    tree.FunctionItem (function (typed tree.Int []) (named "f") ((record { of = (typed tree.Int ((pointer Nullable None) ∷ [])); name = (named "p") }) ∷ (record { of = (typed tree.Int ((pointer Fat None) ∷ [])); name = (named "q") }) ∷ []) (
+    tree.FunctionItem (function (typed tree.Int []) (named "f") ((record { of = (typed tree.Int ((pointer (Nullable 1) None) ∷ [])); name = (named "p") }) ∷ (record { of = (typed tree.Int ((pointer Fat None) ∷ [])); name = (named "q") }) ∷ []) (
     (Statement.Return 0 (Some (Expression.Chain (Expression.Chain (Expression.Prefixed 0 Dereference (variable "p")) (MoreLinks Multiply (number 10) NoLinks)) (MoreLinks Add (Expression.NumElts 0 (variable "q")) NoLinks)))) ▸
     NoItems)) ∷
     tree.FunctionItem (function (typed tree.Int []) (named "main") [] (
@@ -127,12 +127,12 @@ handle_before_count_runs = refl
 -- int f(int *`U p) { let alias<`r> int *`r x = p; return *x; } int main() { int *`U p = rnew(unique_region) 4; return f(p); }
 abbrev alias_returned : Program
 alias_returned =
-    tree.FunctionItem (function (typed tree.Int []) (named "f") ((record { of = (typed tree.Int ((pointer Nullable (Some (tree.Unique 0))) ∷ [])); name = (named "p") }) ∷ []) (
-    (tree.Alias 0 (tree.Named (named "r")) (typed tree.Int ((pointer Nullable (Some (tree.Named (named "r")))) ∷ [])) (named "x") (named "p")) ▹
+    tree.FunctionItem (function (typed tree.Int []) (named "f") ((record { of = (typed tree.Int ((pointer (Nullable 1) (Some (tree.Unique 0))) ∷ [])); name = (named "p") }) ∷ []) (
+    (tree.Alias 0 (tree.Named (named "r")) (typed tree.Int ((pointer (Nullable 1) (Some (tree.Named (named "r")))) ∷ [])) (named "x") (named "p")) ▹
     (Statement.Return 0 (Some (Expression.Prefixed 0 Dereference (variable "x")))) ▸
     NoItems)) ∷
     tree.FunctionItem (function (typed tree.Int []) (named "main") [] (
-    (tree.Local (typed tree.Int ((pointer Nullable (Some (tree.Unique 0))) ∷ [])) (named "p") (Initializer.Value (Expression.NewIn 0 (Expression.UniqueRegion 0) (One (number 4))))) ▹
+    (tree.Local (typed tree.Int ((pointer (Nullable 1) (Some (tree.Unique 0))) ∷ [])) (named "p") (Initializer.Value (Expression.NewIn 0 (Expression.UniqueRegion 0) (One (number 4))))) ▹
     (Statement.Return 0 (Some (Expression.Call (named "f") (MoreExpressions (variable "p") NoExpressions)))) ▸
     NoItems)) ∷ []
 

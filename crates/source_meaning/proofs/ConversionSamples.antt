@@ -15,8 +15,8 @@ use Rattle.source_meaning.proofs.Trees.{named, variable, number, pointer, typed,
 abbrev address_of_null : Program
 address_of_null =
     tree.FunctionItem (function (typed tree.Int []) (named "main") [] (
-    (tree.Local (typed tree.Int ((pointer Nullable None) ∷ [])) (named "p") (Initializer.Value (Expression.Null 0))) ▹
-    (tree.Local (typed tree.Int ((pointer Nullable None) ∷ [])) (named "q") (Initializer.Value (Expression.Prefixed 0 AddressOf (Expression.Prefixed 0 Dereference (variable "p"))))) ▹
+    (tree.Local (typed tree.Int ((pointer (Nullable 1) None) ∷ [])) (named "p") (Initializer.Value (Expression.Null 0))) ▹
+    (tree.Local (typed tree.Int ((pointer (Nullable 1) None) ∷ [])) (named "q") (Initializer.Value (Expression.Prefixed 0 AddressOf (Expression.Prefixed 0 Dereference (variable "p"))))) ▹
     (Statement.Return 0 (Some (number 0))) ▸
     NoItems)) ∷ []
 
@@ -28,7 +28,7 @@ abbrev address_past_the_end : Program
 address_past_the_end =
     tree.FunctionItem (function (typed tree.Int []) (named "main") [] (
     (tree.Local (typed tree.Int []) (named "a") (Initializer.Elements 3)) ▹
-    (tree.Local (typed tree.Int ((pointer Nullable None) ∷ [])) (named "p") (Initializer.Value (Expression.Prefixed 0 AddressOf (Expression.Suffixed (variable "a") (Index (number 2) NoSuffixes))))) ▹
+    (tree.Local (typed tree.Int ((pointer (Nullable 1) None) ∷ [])) (named "p") (Initializer.Value (Expression.Prefixed 0 AddressOf (Expression.Suffixed (variable "a") (Index (number 2) NoSuffixes))))) ▹
     (Statement.Run (Expression.Call (named "putchar") (MoreExpressions (number 65) NoExpressions))) ▸
     (Statement.Run (Expression.Assign (variable "p") (Expression.Prefixed 0 AddressOf (Expression.Suffixed (variable "a") (Index (number 3) NoSuffixes))))) ▸
     (Statement.Return 0 (Some (number 0))) ▸
@@ -44,7 +44,7 @@ fat_to_never_null =
     (tree.Local (typed tree.Int []) (named "a") (Initializer.Elements 2)) ▹
     (Statement.Run (Expression.Assign (Expression.Suffixed (variable "a") (Index (number 1) NoSuffixes)) (number 4))) ▸
     (tree.Local (typed tree.Int ((pointer Fat None) ∷ [])) (named "p") (Initializer.Value (variable "a"))) ▹
-    (tree.Local (typed tree.Int ((pointer NotNull None) ∷ [])) (named "q") (Initializer.Value (Expression.Chain (variable "p") (MoreLinks Add (number 1) NoLinks)))) ▹
+    (tree.Local (typed tree.Int ((pointer (NotNull 1) None) ∷ [])) (named "q") (Initializer.Value (Expression.Chain (variable "p") (MoreLinks Add (number 1) NoLinks)))) ▹
     (Statement.Return 0 (Some (Expression.Prefixed 0 Dereference (variable "q")))) ▸
     NoItems)) ∷ []
 
@@ -56,7 +56,7 @@ abbrev fat_null_to_never_null : Program
 fat_null_to_never_null =
     tree.FunctionItem (function (typed tree.Int []) (named "main") [] (
     (tree.Local (typed tree.Int ((pointer Fat None) ∷ [])) (named "p") (Initializer.Value (Expression.Null 0))) ▹
-    (tree.Local (typed tree.Int ((pointer NotNull None) ∷ [])) (named "q") (Initializer.Value (variable "p"))) ▹
+    (tree.Local (typed tree.Int ((pointer (NotNull 1) None) ∷ [])) (named "q") (Initializer.Value (variable "p"))) ▹
     (Statement.Return 0 (Some (number 0))) ▸
     NoItems)) ∷ []
 
@@ -69,7 +69,7 @@ fat_end_to_never_null =
     tree.FunctionItem (function (typed tree.Int []) (named "main") [] (
     (tree.Local (typed tree.Int []) (named "a") (Initializer.Elements 2)) ▹
     (tree.Local (typed tree.Int ((pointer Fat None) ∷ [])) (named "p") (Initializer.Value (variable "a"))) ▹
-    (tree.Local (typed tree.Int ((pointer NotNull None) ∷ [])) (named "q") (Initializer.Value (Expression.Chain (variable "p") (MoreLinks Add (number 2) NoLinks)))) ▹
+    (tree.Local (typed tree.Int ((pointer (NotNull 1) None) ∷ [])) (named "q") (Initializer.Value (Expression.Chain (variable "p") (MoreLinks Add (number 2) NoLinks)))) ▹
     (Statement.Return 0 (Some (number 0))) ▸
     NoItems)) ∷ []
 
@@ -80,7 +80,7 @@ fat_end_to_never_null_runs = refl
 abbrev null_to_fat : Program
 null_to_fat =
     tree.FunctionItem (function (typed tree.Int []) (named "main") [] (
-    (tree.Local (typed tree.Int ((pointer Nullable None) ∷ [])) (named "p") (Initializer.Value (Expression.Null 0))) ▹
+    (tree.Local (typed tree.Int ((pointer (Nullable 1) None) ∷ [])) (named "p") (Initializer.Value (Expression.Null 0))) ▹
     (tree.Local (typed tree.Int ((pointer Fat None) ∷ [])) (named "q") (Initializer.Value (variable "p"))) ▹
     (Statement.If 0 (Expression.Chain (variable "q") (MoreLinks Equal (Expression.Null 0) NoLinks)) (Statement.Return 0 (Some (Expression.Chain (Expression.NumElts 0 (variable "q")) (MoreLinks Add (number 7) NoLinks))))) ▸
     (Statement.Return 0 (Some (number 0))) ▸
@@ -95,7 +95,7 @@ array_to_thin =
     tree.FunctionItem (function (typed tree.Int []) (named "main") [] (
     (tree.Local (typed tree.Int []) (named "a") (Initializer.Elements 2)) ▹
     (Statement.Run (Expression.Assign (Expression.Suffixed (variable "a") (Index (number 0) NoSuffixes)) (number 5))) ▸
-    (tree.Local (typed tree.Int ((pointer Nullable None) ∷ [])) (named "p") (Initializer.Value (variable "a"))) ▹
+    (tree.Local (typed tree.Int ((pointer (Nullable 1) None) ∷ [])) (named "p") (Initializer.Value (variable "a"))) ▹
     (Statement.Return 0 (Some (Expression.Prefixed 0 Dereference (variable "p")))) ▸
     NoItems)) ∷ []
 
@@ -200,9 +200,9 @@ different_pointers =
     (tree.Local (typed tree.Int []) (named "x") Initializer.Unset) ▹
     (tree.Local (typed tree.Int []) (named "y") Initializer.Unset) ▹
     (tree.Local (typed tree.Int []) (named "a") (Initializer.Elements 2)) ▹
-    (tree.Local (typed tree.Int ((pointer Nullable None) ∷ [])) (named "p") (Initializer.Value (Expression.Prefixed 0 AddressOf (variable "x")))) ▹
-    (tree.Local (typed tree.Int ((pointer Nullable None) ∷ [])) (named "q") (Initializer.Value (Expression.Prefixed 0 AddressOf (variable "y")))) ▹
-    (tree.Local (typed tree.Int ((pointer Nullable None) ∷ [])) (named "h") (Initializer.Value (Expression.New 0 (One (number 0))))) ▹
+    (tree.Local (typed tree.Int ((pointer (Nullable 1) None) ∷ [])) (named "p") (Initializer.Value (Expression.Prefixed 0 AddressOf (variable "x")))) ▹
+    (tree.Local (typed tree.Int ((pointer (Nullable 1) None) ∷ [])) (named "q") (Initializer.Value (Expression.Prefixed 0 AddressOf (variable "y")))) ▹
+    (tree.Local (typed tree.Int ((pointer (Nullable 1) None) ∷ [])) (named "h") (Initializer.Value (Expression.New 0 (One (number 0))))) ▹
     (Statement.Return 0 (Some (Expression.Chain (Expression.Grouped 0 (Expression.Chain (variable "p") (MoreLinks Equal (variable "q") NoLinks))) (MoreLinks Add (Expression.Chain (Expression.Grouped 0 (Expression.Chain (variable "p") (MoreLinks NotEqual (variable "q") NoLinks))) (MoreLinks Multiply (number 2) NoLinks)) (MoreLinks Add (Expression.Chain (Expression.Grouped 0 (Expression.Chain (variable "p") (MoreLinks Equal (Expression.Prefixed 0 AddressOf (variable "x")) NoLinks))) (MoreLinks Multiply (number 4) NoLinks)) (MoreLinks Add (Expression.Chain (Expression.Grouped 0 (Expression.Chain (Expression.Prefixed 0 AddressOf (Expression.Suffixed (variable "a") (Index (number 0) NoSuffixes))) (MoreLinks NotEqual (Expression.Prefixed 0 AddressOf (Expression.Suffixed (variable "a") (Index (number 1) NoSuffixes))) NoLinks))) (MoreLinks Multiply (number 8) NoLinks)) (MoreLinks Add (Expression.Chain (Expression.Grouped 0 (Expression.Chain (variable "p") (MoreLinks NotEqual (Expression.Prefixed 0 AddressOf (variable "x")) NoLinks))) (MoreLinks Multiply (number 16) NoLinks)) (MoreLinks Add (Expression.Chain (Expression.Grouped 0 (Expression.Chain (variable "p") (MoreLinks NotEqual (variable "h") NoLinks))) (MoreLinks Multiply (number 32) NoLinks)) NoLinks)))))))) ▸
     NoItems)) ∷ []
 
@@ -213,8 +213,8 @@ different_pointers_runs = refl
 abbrev null_and_dead : Program
 null_and_dead =
     tree.FunctionItem (function (typed tree.Int []) (named "main") [] (
-    (tree.Local (typed tree.Int ((pointer Nullable None) ∷ [])) (named "n") (Initializer.Value (Expression.Null 0))) ▹
-    (tree.Local (typed tree.Int ((pointer Nullable None) ∷ [])) (named "p") (Initializer.Value (variable "n"))) ▹
+    (tree.Local (typed tree.Int ((pointer (Nullable 1) None) ∷ [])) (named "n") (Initializer.Value (Expression.Null 0))) ▹
+    (tree.Local (typed tree.Int ((pointer (Nullable 1) None) ∷ [])) (named "p") (Initializer.Value (variable "n"))) ▹
     (Statement.Block 0 (
     (tree.Local (typed tree.Int []) (named "x") (Initializer.Value (number 2))) ▹
     (Statement.Run (Expression.Assign (variable "p") (Expression.Prefixed 0 AddressOf (variable "x")))) ▸
@@ -232,7 +232,7 @@ null_first =
     (tree.Local (typed tree.Int []) (named "x") Initializer.Unset) ▹
     (tree.Local (typed tree.Int ((pointer Fat None) ∷ [])) (named "p") (Initializer.Value (Expression.Prefixed 0 AddressOf (variable "x")))) ▹
     (tree.Local (typed tree.Int ((pointer Fat None) ∷ [])) (named "q") (Initializer.Value (Expression.Null 0))) ▹
-    (tree.Local (typed tree.Int ((pointer Nullable None) ∷ [])) (named "r") (Initializer.Value (Expression.Null 0))) ▹
+    (tree.Local (typed tree.Int ((pointer (Nullable 1) None) ∷ [])) (named "r") (Initializer.Value (Expression.Null 0))) ▹
     (Statement.Return 0 (Some (Expression.Chain (Expression.Grouped 0 (Expression.Chain (Expression.Null 0) (MoreLinks Equal (variable "q") NoLinks))) (MoreLinks Add (Expression.Chain (Expression.Grouped 0 (Expression.Chain (Expression.Null 0) (MoreLinks NotEqual (variable "p") NoLinks))) (MoreLinks Multiply (number 2) NoLinks)) (MoreLinks Add (Expression.Chain (Expression.Grouped 0 (Expression.Chain (Expression.Null 0) (MoreLinks Equal (variable "r") NoLinks))) (MoreLinks Multiply (number 4) NoLinks)) (MoreLinks Add (Expression.Chain (Expression.Grouped 0 (Expression.Chain (Expression.Null 0) (MoreLinks Equal (variable "p") NoLinks))) (MoreLinks Multiply (number 8) NoLinks)) (MoreLinks Add (Expression.Chain (Expression.Grouped 0 (Expression.Chain (Expression.Null 0) (MoreLinks Equal (Expression.Prefixed 0 AddressOf (variable "x")) NoLinks))) (MoreLinks Multiply (number 16) NoLinks)) NoLinks))))))) ▸
     NoItems)) ∷ []
 

@@ -163,8 +163,8 @@ abbrev pointer_conditions : Program
 pointer_conditions =
     tree.FunctionItem (function (typed tree.Int []) (named "main") [] (
     (tree.Local (typed tree.Int []) (named "x") (Initializer.Value (number 3))) ▹
-    (tree.Local (typed tree.Int ((pointer Nullable None) ∷ [])) (named "p") (Initializer.Value (Expression.Prefixed 0 AddressOf (variable "x")))) ▹
-    (tree.Local (typed tree.Int ((pointer Nullable None) ∷ [])) (named "n") (Initializer.Value (Expression.Null 0))) ▹
+    (tree.Local (typed tree.Int ((pointer (Nullable 1) None) ∷ [])) (named "p") (Initializer.Value (Expression.Prefixed 0 AddressOf (variable "x")))) ▹
+    (tree.Local (typed tree.Int ((pointer (Nullable 1) None) ∷ [])) (named "n") (Initializer.Value (Expression.Null 0))) ▹
     (tree.Local (typed tree.Int ((pointer Fat None) ∷ [])) (named "q") (Initializer.Value (variable "p"))) ▹
     (tree.Local (typed tree.Int ((pointer Fat None) ∷ [])) (named "m") (Initializer.Value (Expression.Null 0))) ▹
     (tree.Local (typed tree.Int []) (named "r") (Initializer.Value (number 0))) ▹

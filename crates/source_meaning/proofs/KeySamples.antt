@@ -16,13 +16,13 @@ abbrev key_opened_and_freed : Program
 key_opened_and_freed =
     tree.FunctionItem (function (typed tree.Int []) (named "main") [] (
     (tree.NewKey 0 (tree.Named (named "r")) (named "k")) ▹
-    (tree.Local (typed tree.Int ((pointer Nullable (Some (tree.Named (named "r")))) ∷ [])) (named "p") (Initializer.Value (Expression.Null 0))) ▹
+    (tree.Local (typed tree.Int ((pointer (Nullable 1) (Some (tree.Named (named "r")))) ∷ [])) (named "p") (Initializer.Value (Expression.Null 0))) ▹
     (Statement.Block 0 (
     (tree.Open 0 (tree.Named (named "r")) (named "h") (named "k")) ▹
     (Statement.Run (Expression.Assign (variable "p") (Expression.NewIn 0 (variable "h") (One (number 5))))) ▸
     NoItems)) ▸
     (Statement.FreeKey 0 (named "k")) ▸
-    (tree.Local (typed tree.Int ((pointer Nullable (Some (tree.Named (named "r")))) ∷ [])) (named "q") (Initializer.Value (Expression.New 0 (One (number 6))))) ▹
+    (tree.Local (typed tree.Int ((pointer (Nullable 1) (Some (tree.Named (named "r")))) ∷ [])) (named "q") (Initializer.Value (Expression.New 0 (One (number 6))))) ▹
     (Statement.If 0 (Expression.Chain (variable "q") (MoreLinks Equal (Expression.Null 0) NoLinks)) (Statement.Return 0 (Some (number 1)))) ▸
     (Statement.Return 0 (Some (number 0))) ▸
     NoItems)) ∷ []
@@ -35,13 +35,13 @@ abbrev key_dead_comparison : Program
 key_dead_comparison =
     tree.FunctionItem (function (typed tree.Int []) (named "main") [] (
     (tree.NewKey 0 (tree.Named (named "r")) (named "k")) ▹
-    (tree.Local (typed tree.Int ((pointer Nullable (Some (tree.Named (named "r")))) ∷ [])) (named "p") (Initializer.Value (Expression.Null 0))) ▹
+    (tree.Local (typed tree.Int ((pointer (Nullable 1) (Some (tree.Named (named "r")))) ∷ [])) (named "p") (Initializer.Value (Expression.Null 0))) ▹
     (Statement.Block 0 (
     (tree.Open 0 (tree.Named (named "r")) (named "h") (named "k")) ▹
     (Statement.Run (Expression.Assign (variable "p") (Expression.NewIn 0 (variable "h") (One (number 5))))) ▸
     NoItems)) ▸
     (Statement.FreeKey 0 (named "k")) ▸
-    (tree.Local (typed tree.Int ((pointer Nullable (Some (tree.Named (named "r")))) ∷ [])) (named "q") (Initializer.Value (Expression.New 0 (One (number 6))))) ▹
+    (tree.Local (typed tree.Int ((pointer (Nullable 1) (Some (tree.Named (named "r")))) ∷ [])) (named "q") (Initializer.Value (Expression.New 0 (One (number 6))))) ▹
     (Statement.If 0 (Expression.Chain (variable "q") (MoreLinks Equal (Expression.Null 0) NoLinks)) (Statement.Return 0 (Some (number 1)))) ▸
     (Statement.If 0 (Expression.Chain (variable "q") (MoreLinks Equal (variable "p") NoLinks)) (Statement.Return 0 (Some (number 2)))) ▸
     (Statement.Return 0 (Some (number 0))) ▸
@@ -72,7 +72,7 @@ key_then_region =
     (tree.NewKey 0 (tree.Named (named "r")) (named "k")) ▹
     (Statement.Block 0 (
     (tree.Open 0 (tree.Named (named "r")) (named "h") (named "k")) ▹
-    (tree.Local (typed tree.Int ((pointer Nullable (Some (tree.Named (named "r")))) ∷ [])) (named "p") (Initializer.Value (Expression.NewIn 0 (variable "h") (One (number 1))))) ▹
+    (tree.Local (typed tree.Int ((pointer (Nullable 1) (Some (tree.Named (named "r")))) ∷ [])) (named "p") (Initializer.Value (Expression.NewIn 0 (variable "h") (One (number 1))))) ▹
     NoItems)) ▸
     (Statement.FreeKey 0 (named "k")) ▸
     (tree.Region 0 (tree.Named (named "s")) (named "g")) ▹
@@ -91,7 +91,7 @@ key_reopened =
     NoItems)) ∷
     tree.FunctionItem (function (typed tree.Int []) (named "main") [] (
     (tree.NewKey 0 (tree.Named (named "r")) (named "k")) ▹
-    (tree.Local (typed tree.Int ((pointer Nullable (Some (tree.Named (named "r")))) ∷ [])) (named "p") (Initializer.Value (Expression.Null 0))) ▹
+    (tree.Local (typed tree.Int ((pointer (Nullable 1) (Some (tree.Named (named "r")))) ∷ [])) (named "p") (Initializer.Value (Expression.Null 0))) ▹
     (Statement.Block 0 (
     (tree.Open 0 (tree.Named (named "r")) (named "h") (named "k")) ▹
     (Statement.Run (Expression.Assign (variable "p") (Expression.NewIn 0 (variable "h") (One (number 5))))) ▸
@@ -109,7 +109,7 @@ abbrev key_closed_read : Program
 key_closed_read =
     tree.FunctionItem (function (typed tree.Int []) (named "main") [] (
     (tree.NewKey 0 (tree.Named (named "r")) (named "k")) ▹
-    (tree.Local (typed tree.Int ((pointer Nullable (Some (tree.Named (named "r")))) ∷ [])) (named "p") (Initializer.Value (Expression.Null 0))) ▹
+    (tree.Local (typed tree.Int ((pointer (Nullable 1) (Some (tree.Named (named "r")))) ∷ [])) (named "p") (Initializer.Value (Expression.Null 0))) ▹
     (Statement.Block 0 (
     (tree.Open 0 (tree.Named (named "r")) (named "h") (named "k")) ▹
     (Statement.Run (Expression.Assign (variable "p") (Expression.NewIn 0 (variable "h") (One (number 5))))) ▸
@@ -142,7 +142,7 @@ raise_closes_nothing =
     tree.FunctionItem (function (typed tree.Int []) (named "main") [] (
     (tree.NewKey 0 (tree.Named (named "r")) (named "k")) ▹
     (tree.Open 0 (tree.Named (named "r")) (named "h") (named "k")) ▹
-    (tree.Local (typed tree.Int ((pointer Nullable None) ∷ [])) (named "p") (Initializer.Value (Expression.Null 0))) ▹
+    (tree.Local (typed tree.Int ((pointer (Nullable 1) None) ∷ [])) (named "p") (Initializer.Value (Expression.Null 0))) ▹
     (Statement.Return 0 (Some (Expression.Prefixed 0 Dereference (variable "p")))) ▸
     NoItems)) ∷ []
 

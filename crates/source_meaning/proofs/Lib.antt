@@ -20,3 +20,4 @@ pub mod PlainExpressions
 pub mod Quiet
 pub mod QuietForms
 mod ShapeSamples
+mod BoundSamples

@@ -17,7 +17,7 @@ unique_leaked =
     tree.StructItem (record { at = 0; tag = (named "S"); regions = []; members = ((record { of = (typed tree.Int []); name = (named "x") }) ∷ (record { of = (typed tree.Int []); name = (named "y") }) ∷ (record { of = (typed tree.Int []); name = (named "z") }) ∷ []) }) ∷
     tree.FunctionItem (function (typed tree.Int []) (named "main") [] (
     (Statement.While 0 (number 1) (Statement.Block 0 (
-    (tree.Local (typed (tree.Struct (named "S") []) ((pointer Nullable (Some (tree.Unique 0))) ∷ [])) (named "p") (Initializer.Value (Expression.NewIn 0 (Expression.UniqueRegion 0) (One (Expression.Call (named "S") (MoreExpressions (number 1) (MoreExpressions (number 2) (MoreExpressions (number 3) NoExpressions)))))))) ▹
+    (tree.Local (typed (tree.Struct (named "S") []) ((pointer (Nullable 1) (Some (tree.Unique 0))) ∷ [])) (named "p") (Initializer.Value (Expression.NewIn 0 (Expression.UniqueRegion 0) (One (Expression.Call (named "S") (MoreExpressions (number 1) (MoreExpressions (number 2) (MoreExpressions (number 3) NoExpressions)))))))) ▹
     (Statement.Run (Expression.Call (named "putchar") (MoreExpressions (number 46) NoExpressions))) ▸
     NoItems))) ▸
     NoItems)) ∷ []
@@ -59,7 +59,7 @@ abbrev inner_block : Program
 inner_block =
     tree.FunctionItem (function (typed tree.Int []) (named "main") [] (
     (tree.Local (typed tree.Int []) (named "y") (Initializer.Value (number 1))) ▹
-    (tree.Local (typed tree.Int ((pointer Nullable None) ∷ [])) (named "p") (Initializer.Value (Expression.Prefixed 0 AddressOf (variable "y")))) ▹
+    (tree.Local (typed tree.Int ((pointer (Nullable 1) None) ∷ [])) (named "p") (Initializer.Value (Expression.Prefixed 0 AddressOf (variable "y")))) ▹
     (Statement.Block 0 (
     (tree.Local (typed tree.Int []) (named "x") (Initializer.Value (number 2))) ▹
     NoItems)) ▸
@@ -72,10 +72,10 @@ inner_block_runs = refl
 -- int g(int *`a p) { return *p; } int f(int *`b p) { return g(p); } int main() { int x = 5; return f(&x); }
 abbrev effect_of_calls : Program
 effect_of_calls =
-    tree.FunctionItem (function (typed tree.Int []) (named "g") ((record { of = (typed tree.Int ((pointer Nullable (Some (tree.Named (named "a")))) ∷ [])); name = (named "p") }) ∷ []) (
+    tree.FunctionItem (function (typed tree.Int []) (named "g") ((record { of = (typed tree.Int ((pointer (Nullable 1) (Some (tree.Named (named "a")))) ∷ [])); name = (named "p") }) ∷ []) (
     (Statement.Return 0 (Some (Expression.Prefixed 0 Dereference (variable "p")))) ▸
     NoItems)) ∷
-    tree.FunctionItem (function (typed tree.Int []) (named "f") ((record { of = (typed tree.Int ((pointer Nullable (Some (tree.Named (named "b")))) ∷ [])); name = (named "p") }) ∷ []) (
+    tree.FunctionItem (function (typed tree.Int []) (named "f") ((record { of = (typed tree.Int ((pointer (Nullable 1) (Some (tree.Named (named "b")))) ∷ [])); name = (named "p") }) ∷ []) (
     (Statement.Return 0 (Some (Expression.Call (named "g") (MoreExpressions (variable "p") NoExpressions)))) ▸
     NoItems)) ∷
     tree.FunctionItem (function (typed tree.Int []) (named "main") [] (
@@ -89,14 +89,14 @@ effect_of_calls_runs = refl
 -- int f(int *`a p, int *`b q : `a > `b) { q = p; return *q; } int main() { int x = 1; region<`r> h; int *`r y = rnew(h) 2; return f(&x, y); }
 abbrev bound_of_regions : Program
 bound_of_regions =
-    tree.FunctionItem (record (function (typed tree.Int []) (named "f") ((record { of = (typed tree.Int ((pointer Nullable (Some (tree.Named (named "a")))) ∷ [])); name = (named "p") }) ∷ (record { of = (typed tree.Int ((pointer Nullable (Some (tree.Named (named "b")))) ∷ [])); name = (named "q") }) ∷ []) (
+    tree.FunctionItem (record (function (typed tree.Int []) (named "f") ((record { of = (typed tree.Int ((pointer (Nullable 1) (Some (tree.Named (named "a")))) ∷ [])); name = (named "p") }) ∷ (record { of = (typed tree.Int ((pointer (Nullable 1) (Some (tree.Named (named "b")))) ∷ [])); name = (named "q") }) ∷ []) (
     (Statement.Run (Expression.Assign (variable "q") (variable "p"))) ▸
     (Statement.Return 0 (Some (Expression.Prefixed 0 Dereference (variable "q")))) ▸
     NoItems)) { bounds = (record { longer = (tree.Named (named "a")); shorter = (tree.Named (named "b")) }) ∷ [] }) ∷
     tree.FunctionItem (function (typed tree.Int []) (named "main") [] (
     (tree.Local (typed tree.Int []) (named "x") (Initializer.Value (number 1))) ▹
     (tree.Region 0 (tree.Named (named "r")) (named "h")) ▹
-    (tree.Local (typed tree.Int ((pointer Nullable (Some (tree.Named (named "r")))) ∷ [])) (named "y") (Initializer.Value (Expression.NewIn 0 (variable "h") (One (number 2))))) ▹
+    (tree.Local (typed tree.Int ((pointer (Nullable 1) (Some (tree.Named (named "r")))) ∷ [])) (named "y") (Initializer.Value (Expression.NewIn 0 (variable "h") (One (number 2))))) ▹
     (Statement.Return 0 (Some (Expression.Call (named "f") (MoreExpressions (Expression.Prefixed 0 AddressOf (variable "x")) (MoreExpressions (variable "y") NoExpressions))))) ▸
     NoItems)) ∷ []
 
@@ -119,13 +119,13 @@ long_array_runs = refl
 -- struct B { int *`U p; }; struct B @g(struct B *`U b) { ufree(b); return new B(NULL); } int main() { struct B *`U b = rnew(unique_region) B(NULL); return 0; }
 abbrev struct_in_unique_block : Program
 struct_in_unique_block =
-    tree.StructItem (record { at = 0; tag = (named "B"); regions = []; members = ((record { of = (typed tree.Int ((pointer Nullable (Some (tree.Unique 0))) ∷ [])); name = (named "p") }) ∷ []) }) ∷
-    tree.FunctionItem (function (typed (tree.Struct (named "B") []) ((pointer NotNull None) ∷ [])) (named "g") ((record { of = (typed (tree.Struct (named "B") []) ((pointer Nullable (Some (tree.Unique 0))) ∷ [])); name = (named "b") }) ∷ []) (
+    tree.StructItem (record { at = 0; tag = (named "B"); regions = []; members = ((record { of = (typed tree.Int ((pointer (Nullable 1) (Some (tree.Unique 0))) ∷ [])); name = (named "p") }) ∷ []) }) ∷
+    tree.FunctionItem (function (typed (tree.Struct (named "B") []) ((pointer (NotNull 1) None) ∷ [])) (named "g") ((record { of = (typed (tree.Struct (named "B") []) ((pointer (Nullable 1) (Some (tree.Unique 0))) ∷ [])); name = (named "b") }) ∷ []) (
     (Statement.FreeUnique 0 (named "b")) ▸
     (Statement.Return 0 (Some (Expression.New 0 (One (Expression.Call (named "B") (MoreExpressions (Expression.Null 0) NoExpressions)))))) ▸
     NoItems)) ∷
     tree.FunctionItem (function (typed tree.Int []) (named "main") [] (
-    (tree.Local (typed (tree.Struct (named "B") []) ((pointer Nullable (Some (tree.Unique 0))) ∷ [])) (named "b") (Initializer.Value (Expression.NewIn 0 (Expression.UniqueRegion 0) (One (Expression.Call (named "B") (MoreExpressions (Expression.Null 0) NoExpressions)))))) ▹
+    (tree.Local (typed (tree.Struct (named "B") []) ((pointer (Nullable 1) (Some (tree.Unique 0))) ∷ [])) (named "b") (Initializer.Value (Expression.NewIn 0 (Expression.UniqueRegion 0) (One (Expression.Call (named "B") (MoreExpressions (Expression.Null 0) NoExpressions)))))) ▹
     (Statement.Return 0 (Some (number 0))) ▸
     NoItems)) ∷ []
 

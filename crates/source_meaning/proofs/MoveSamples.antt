@@ -27,8 +27,8 @@ key_moved_runs = refl
 abbrev assigned_away : Program
 assigned_away =
     tree.FunctionItem (function (typed tree.Int []) (named "main") [] (
-    (tree.Local (typed tree.Int ((pointer Nullable (Some (tree.Unique 0))) ∷ [])) (named "p") (Initializer.Value (Expression.NewIn 0 (Expression.UniqueRegion 0) (One (number 3))))) ▹
-    (tree.Local (typed tree.Int ((pointer Nullable (Some (tree.Unique 0))) ∷ [])) (named "q") (Initializer.Value (Expression.Null 0))) ▹
+    (tree.Local (typed tree.Int ((pointer (Nullable 1) (Some (tree.Unique 0))) ∷ [])) (named "p") (Initializer.Value (Expression.NewIn 0 (Expression.UniqueRegion 0) (One (number 3))))) ▹
+    (tree.Local (typed tree.Int ((pointer (Nullable 1) (Some (tree.Unique 0))) ∷ [])) (named "q") (Initializer.Value (Expression.Null 0))) ▹
     (Statement.Run (Expression.Assign (variable "q") (variable "p"))) ▸
     (Statement.Return 0 (Some (Expression.Prefixed 0 Dereference (variable "p")))) ▸
     NoItems)) ∷ []
@@ -40,8 +40,8 @@ assigned_away_runs = refl
 abbrev made_away : Program
 made_away =
     tree.FunctionItem (function (typed tree.Int []) (named "main") [] (
-    (tree.Local (typed tree.Int ((pointer Nullable (Some (tree.Unique 0))) ∷ [])) (named "p") (Initializer.Value (Expression.NewIn 0 (Expression.UniqueRegion 0) (One (number 3))))) ▹
-    (tree.Local (typed tree.Int ((pointer Nullable (Some (tree.Unique 0))) ∷ (pointer Nullable None) ∷ [])) (named "q") (Initializer.Value (Expression.New 0 (One (variable "p"))))) ▹
+    (tree.Local (typed tree.Int ((pointer (Nullable 1) (Some (tree.Unique 0))) ∷ [])) (named "p") (Initializer.Value (Expression.NewIn 0 (Expression.UniqueRegion 0) (One (number 3))))) ▹
+    (tree.Local (typed tree.Int ((pointer (Nullable 1) (Some (tree.Unique 0))) ∷ (pointer (Nullable 1) None) ∷ [])) (named "q") (Initializer.Value (Expression.New 0 (One (variable "p"))))) ▹
     (Statement.Return 0 (Some (Expression.Prefixed 0 Dereference (variable "p")))) ▸
     NoItems)) ∷ []
 
@@ -53,8 +53,8 @@ abbrev made_away_in_a_region : Program
 made_away_in_a_region =
     tree.FunctionItem (function (typed tree.Int []) (named "main") [] (
     (tree.Region 0 (tree.Named (named "r")) (named "h")) ▹
-    (tree.Local (typed tree.Int ((pointer Nullable (Some (tree.Unique 0))) ∷ [])) (named "p") (Initializer.Value (Expression.NewIn 0 (Expression.UniqueRegion 0) (One (number 3))))) ▹
-    (tree.Local (typed tree.Int ((pointer Nullable (Some (tree.Unique 0))) ∷ (pointer Nullable (Some (tree.Named (named "r")))) ∷ [])) (named "q") (Initializer.Value (Expression.NewIn 0 (variable "h") (One (variable "p"))))) ▹
+    (tree.Local (typed tree.Int ((pointer (Nullable 1) (Some (tree.Unique 0))) ∷ [])) (named "p") (Initializer.Value (Expression.NewIn 0 (Expression.UniqueRegion 0) (One (number 3))))) ▹
+    (tree.Local (typed tree.Int ((pointer (Nullable 1) (Some (tree.Unique 0))) ∷ (pointer (Nullable 1) (Some (tree.Named (named "r")))) ∷ [])) (named "q") (Initializer.Value (Expression.NewIn 0 (variable "h") (One (variable "p"))))) ▹
     (Statement.Return 0 (Some (Expression.Prefixed 0 Dereference (variable "p")))) ▸
     NoItems)) ∷ []
 
@@ -67,7 +67,7 @@ left_case =
     tree.UnionItem (record { at = 0; tag = (named "U"); regions = []; members = ((record { of = (typed tree.Int []); name = (named "a") }) ∷ (record { of = (typed tree.Char []); name = (named "b") }) ∷ []) }) ∷
     tree.FunctionItem (function (typed tree.Int []) (named "main") [] (
     (tree.Local (typed tree.Int []) (named "y") (Initializer.Value (number 1))) ▹
-    (tree.Local (typed tree.Int ((pointer Nullable None) ∷ [])) (named "p") (Initializer.Value (Expression.Prefixed 0 AddressOf (variable "y")))) ▹
+    (tree.Local (typed tree.Int ((pointer (Nullable 1) None) ∷ [])) (named "p") (Initializer.Value (Expression.Prefixed 0 AddressOf (variable "y")))) ▹
     (tree.Local (typed (tree.Union (named "U") []) []) (named "x") (Initializer.Value (Expression.MakeUnion (named "U") (named "a") (number 4)))) ▹
     (Statement.Switch 0 (variable "x") (
     MoreClauses 0 (Case (named "a") (named "v")) (
@@ -87,7 +87,7 @@ left_default =
     tree.UnionItem (record { at = 0; tag = (named "U"); regions = []; members = ((record { of = (typed tree.Int []); name = (named "a") }) ∷ (record { of = (typed tree.Char []); name = (named "b") }) ∷ []) }) ∷
     tree.FunctionItem (function (typed tree.Int []) (named "main") [] (
     (tree.Local (typed tree.Int []) (named "y") (Initializer.Value (number 1))) ▹
-    (tree.Local (typed tree.Int ((pointer Nullable None) ∷ [])) (named "p") (Initializer.Value (Expression.Prefixed 0 AddressOf (variable "y")))) ▹
+    (tree.Local (typed tree.Int ((pointer (Nullable 1) None) ∷ [])) (named "p") (Initializer.Value (Expression.Prefixed 0 AddressOf (variable "y")))) ▹
     (tree.Local (typed (tree.Union (named "U") []) []) (named "x") (Initializer.Value (Expression.MakeUnion (named "U") (named "a") (number 4)))) ▹
     (Statement.Switch 0 (variable "x") (
     MoreClauses 0 Default (

@@ -81,7 +81,7 @@ abbrev left_place_first : Program
 left_place_first =
     tree.FunctionItem (function (typed tree.Int []) (named "main") [] (
     (tree.Local (typed tree.Int []) (named "a") (Initializer.Elements 3)) ▹
-    (tree.Local (typed tree.Int ((pointer Nullable None) ∷ [])) (named "p") (Initializer.Value (Expression.Null 0))) ▹
+    (tree.Local (typed tree.Int ((pointer (Nullable 1) None) ∷ [])) (named "p") (Initializer.Value (Expression.Null 0))) ▹
     (Statement.Exchange (Expression.Prefixed 0 Dereference (variable "p")) (Expression.Suffixed (variable "a") (Index (number 3) NoSuffixes))) ▸
     (Statement.Return 0 (Some (number 0))) ▸
     NoItems)) ∷ []
@@ -94,7 +94,7 @@ abbrev right_side_first : Program
 right_side_first =
     tree.FunctionItem (function (typed tree.Int []) (named "main") [] (
     (tree.Local (typed tree.Int []) (named "a") (Initializer.Elements 3)) ▹
-    (tree.Local (typed tree.Int ((pointer Nullable None) ∷ [])) (named "p") (Initializer.Value (Expression.Null 0))) ▹
+    (tree.Local (typed tree.Int ((pointer (Nullable 1) None) ∷ [])) (named "p") (Initializer.Value (Expression.Null 0))) ▹
     (Statement.Run (Expression.Assign (Expression.Suffixed (variable "a") (Index (number 3) NoSuffixes)) (Expression.Prefixed 0 Dereference (variable "p")))) ▸
     (Statement.Return 0 (Some (number 0))) ▸
     NoItems)) ∷ []
@@ -107,7 +107,7 @@ abbrev subscript_first : Program
 subscript_first =
     tree.FunctionItem (function (typed tree.Int []) (named "main") [] (
     (tree.Local (typed tree.Int []) (named "a") (Initializer.Elements 3)) ▹
-    (tree.Local (typed tree.Int ((pointer Nullable None) ∷ [])) (named "p") (Initializer.Value (Expression.Null 0))) ▹
+    (tree.Local (typed tree.Int ((pointer (Nullable 1) None) ∷ [])) (named "p") (Initializer.Value (Expression.Null 0))) ▹
     (Statement.Return 0 (Some (Expression.Suffixed (variable "a") (Index (Expression.Chain (number 3) (MoreLinks Add (Expression.Prefixed 0 Dereference (variable "p")) NoLinks)) NoSuffixes)))) ▸
     NoItems)) ∷ []
 
@@ -164,9 +164,9 @@ count_before_request_runs = refl
 -- int @f() { region<`r> h; int *p = NULL; return p; } int main() { return *f(); }
 abbrev result_converted_first : Program
 result_converted_first =
-    tree.FunctionItem (function (typed tree.Int ((pointer NotNull None) ∷ [])) (named "f") [] (
+    tree.FunctionItem (function (typed tree.Int ((pointer (NotNull 1) None) ∷ [])) (named "f") [] (
     (tree.Region 0 (tree.Named (named "r")) (named "h")) ▹
-    (tree.Local (typed tree.Int ((pointer Nullable None) ∷ [])) (named "p") (Initializer.Value (Expression.Null 0))) ▹
+    (tree.Local (typed tree.Int ((pointer (Nullable 1) None) ∷ [])) (named "p") (Initializer.Value (Expression.Null 0))) ▹
     (Statement.Return 0 (Some (variable "p"))) ▸
     NoItems)) ∷
     tree.FunctionItem (function (typed tree.Int []) (named "main") [] (
@@ -180,9 +180,9 @@ result_converted_first_runs = refl
 abbrev value_converted_before_place : Program
 value_converted_before_place =
     tree.FunctionItem (function (typed tree.Int []) (named "main") [] (
-    (tree.Local (typed tree.Int ((pointer NotNull None) ∷ [])) (named "p") (Initializer.Value (Expression.New 0 (One (number 1))))) ▹
-    (tree.Local (typed tree.Int ((pointer Nullable None) ∷ [])) (named "n") (Initializer.Value (Expression.Null 0))) ▹
-    (tree.Local (typed tree.Int ((pointer NotNull None) ∷ (pointer Fat None) ∷ [])) (named "a") (Initializer.Value (Expression.New 0 (Array (named "i") (number 1) (variable "p"))))) ▹
+    (tree.Local (typed tree.Int ((pointer (NotNull 1) None) ∷ [])) (named "p") (Initializer.Value (Expression.New 0 (One (number 1))))) ▹
+    (tree.Local (typed tree.Int ((pointer (Nullable 1) None) ∷ [])) (named "n") (Initializer.Value (Expression.Null 0))) ▹
+    (tree.Local (typed tree.Int ((pointer (NotNull 1) None) ∷ (pointer Fat None) ∷ [])) (named "a") (Initializer.Value (Expression.New 0 (Array (named "i") (number 1) (variable "p"))))) ▹
     (Statement.Run (Expression.Assign (Expression.Suffixed (variable "a") (Index (Expression.Call (named "putchar") (MoreExpressions (number 0) NoExpressions)) NoSuffixes)) (variable "n"))) ▸
     (Statement.Return 0 (Some (number 0))) ▸
     NoItems)) ∷ []
@@ -194,7 +194,7 @@ value_converted_before_place_runs = refl
 abbrev tested_and_kept : Program
 tested_and_kept =
     tree.FunctionItem (function (typed tree.Int []) (named "main") [] (
-    (tree.Local (typed tree.Int ((pointer Nullable (Some (tree.Unique 0))) ∷ [])) (named "p") (Initializer.Value (Expression.NewIn 0 (Expression.UniqueRegion 0) (One (number 3))))) ▹
+    (tree.Local (typed tree.Int ((pointer (Nullable 1) (Some (tree.Unique 0))) ∷ [])) (named "p") (Initializer.Value (Expression.NewIn 0 (Expression.UniqueRegion 0) (One (number 3))))) ▹
     (Statement.If 0 (Expression.AnyOf (Expression.Chain (variable "p") (MoreLinks Equal (Expression.Null 0) NoLinks)) (MoreExpressions (Expression.Prefixed 0 Not (variable "p")) NoExpressions)) (Statement.Return 0 (Some (number 1)))) ▸
     (Statement.If 0 (variable "p") (Statement.FreeUnique 0 (named "p"))) ▸
     (Statement.Return 0 (Some (number 2))) ▸
@@ -207,7 +207,7 @@ tested_and_kept_runs = refl
 abbrev discarded_and_gone : Program
 discarded_and_gone =
     tree.FunctionItem (function (typed tree.Int []) (named "main") [] (
-    (tree.Local (typed tree.Int ((pointer Nullable (Some (tree.Unique 0))) ∷ [])) (named "p") (Initializer.Value (Expression.NewIn 0 (Expression.UniqueRegion 0) (One (number 3))))) ▹
+    (tree.Local (typed tree.Int ((pointer (Nullable 1) (Some (tree.Unique 0))) ∷ [])) (named "p") (Initializer.Value (Expression.NewIn 0 (Expression.UniqueRegion 0) (One (number 3))))) ▹
     (Statement.Run (variable "p")) ▸
     (Statement.FreeUnique 0 (named "p")) ▸
     (Statement.Return 0 (Some (number 2))) ▸

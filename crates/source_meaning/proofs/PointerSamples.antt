@@ -16,7 +16,7 @@ abbrev null_raise : Program
 null_raise =
     tree.FunctionItem (function (typed tree.Int []) (named "main") [] (
     (tree.Local (typed tree.Int []) (named "x") (Initializer.Value (number 7))) ▹
-    (tree.Local (typed tree.Int ((pointer Nullable None) ∷ [])) (named "p") (Initializer.Value (Expression.Prefixed 0 AddressOf (variable "x")))) ▹
+    (tree.Local (typed tree.Int ((pointer (Nullable 1) None) ∷ [])) (named "p") (Initializer.Value (Expression.Prefixed 0 AddressOf (variable "x")))) ▹
     (tree.Local (typed tree.Int []) (named "i") (Initializer.Value (number 0))) ▹
     (Statement.While 0 (number 1) (Statement.Block 0 (
     (Statement.Run (Expression.Call (named "putchar") (MoreExpressions (Expression.Character 0 46) NoExpressions))) ▸
@@ -92,10 +92,10 @@ conversions =
     tree.FunctionItem (function (typed tree.Int []) (named "main") [] (
     (tree.Local (typed tree.Int []) (named "x") (Initializer.Value (number 3))) ▹
     (tree.Local (typed tree.Int ((pointer Fat None) ∷ [])) (named "p") (Initializer.Value (Expression.Prefixed 0 AddressOf (variable "x")))) ▹
-    (tree.Local (typed tree.Int ((pointer Nullable None) ∷ [])) (named "q") (Initializer.Value (variable "p"))) ▹
-    (tree.Local (typed tree.Int ((pointer NotNull None) ∷ [])) (named "r") (Initializer.Value (variable "q"))) ▹
+    (tree.Local (typed tree.Int ((pointer (Nullable 1) None) ∷ [])) (named "q") (Initializer.Value (variable "p"))) ▹
+    (tree.Local (typed tree.Int ((pointer (NotNull 1) None) ∷ [])) (named "r") (Initializer.Value (variable "q"))) ▹
     (tree.Local (typed tree.Int ((pointer Fat None) ∷ [])) (named "n") (Initializer.Value (Expression.Null 0))) ▹
-    (tree.Local (typed tree.Int ((pointer Nullable None) ∷ [])) (named "m") (Initializer.Value (variable "n"))) ▹
+    (tree.Local (typed tree.Int ((pointer (Nullable 1) None) ∷ [])) (named "m") (Initializer.Value (variable "n"))) ▹
     (Statement.If 0 (Expression.AllOf (Expression.Chain (variable "m") (MoreLinks Equal (Expression.Null 0) NoLinks)) (MoreExpressions (Expression.Chain (Expression.NumElts 0 (variable "p")) (MoreLinks Equal (number 1) NoLinks)) (MoreExpressions (Expression.Chain (Expression.NumElts 0 (variable "n")) (MoreLinks Equal (number 0) NoLinks)) (MoreExpressions (Expression.Chain (variable "q") (MoreLinks Equal (variable "r") NoLinks)) NoExpressions)))) (Statement.Return 0 (Some (Expression.Prefixed 0 Dereference (variable "r"))))) ▸
     (Statement.Return 0 (Some (number 0))) ▸
     NoItems)) ∷ []
@@ -109,7 +109,7 @@ fat_to_thin =
     tree.FunctionItem (function (typed tree.Int []) (named "main") [] (
     (tree.Local (typed tree.Int []) (named "a") (Initializer.Elements 2)) ▹
     (tree.Local (typed tree.Int ((pointer Fat None) ∷ [])) (named "p") (Initializer.Value (variable "a"))) ▹
-    (tree.Local (typed tree.Int ((pointer Nullable None) ∷ [])) (named "q") (Initializer.Value (Expression.Chain (variable "p") (MoreLinks Add (number 2) NoLinks)))) ▹
+    (tree.Local (typed tree.Int ((pointer (Nullable 1) None) ∷ [])) (named "q") (Initializer.Value (Expression.Chain (variable "p") (MoreLinks Add (number 2) NoLinks)))) ▹
     (Statement.Return 0 (Some (number 0))) ▸
     NoItems)) ∷ []
 
@@ -119,11 +119,11 @@ fat_to_thin_runs = refl
 -- int f(int @p, int c) { return c; } int main() { int *p = NULL; return f(p, putchar(65)); }
 abbrev never_null : Program
 never_null =
-    tree.FunctionItem (function (typed tree.Int []) (named "f") ((record { of = (typed tree.Int ((pointer NotNull None) ∷ [])); name = (named "p") }) ∷ (record { of = (typed tree.Int []); name = (named "c") }) ∷ []) (
+    tree.FunctionItem (function (typed tree.Int []) (named "f") ((record { of = (typed tree.Int ((pointer (NotNull 1) None) ∷ [])); name = (named "p") }) ∷ (record { of = (typed tree.Int []); name = (named "c") }) ∷ []) (
     (Statement.Return 0 (Some (variable "c"))) ▸
     NoItems)) ∷
     tree.FunctionItem (function (typed tree.Int []) (named "main") [] (
-    (tree.Local (typed tree.Int ((pointer Nullable None) ∷ [])) (named "p") (Initializer.Value (Expression.Null 0))) ▹
+    (tree.Local (typed tree.Int ((pointer (Nullable 1) None) ∷ [])) (named "p") (Initializer.Value (Expression.Null 0))) ▹
     (Statement.Return 0 (Some (Expression.Call (named "f") (MoreExpressions (variable "p") (MoreExpressions (Expression.Call (named "putchar") (MoreExpressions (number 65) NoExpressions)) NoExpressions))))) ▸
     NoItems)) ∷ []
 
@@ -135,8 +135,8 @@ abbrev address_checks : Program
 address_checks =
     tree.StructItem (record { at = 0; tag = (named "P"); regions = []; members = ((record { of = (typed tree.Int []); name = (named "x") }) ∷ (record { of = (typed tree.Int []); name = (named "y") }) ∷ []) }) ∷
     tree.FunctionItem (function (typed tree.Int []) (named "main") [] (
-    (tree.Local (typed (tree.Struct (named "P") []) ((pointer Nullable None) ∷ [])) (named "p") (Initializer.Value (Expression.Null 0))) ▹
-    (tree.Local (typed tree.Int ((pointer Nullable None) ∷ [])) (named "q") (Initializer.Value (Expression.Prefixed 0 AddressOf (Expression.Suffixed (variable "p") (Arrow (named "y") NoSuffixes))))) ▹
+    (tree.Local (typed (tree.Struct (named "P") []) ((pointer (Nullable 1) None) ∷ [])) (named "p") (Initializer.Value (Expression.Null 0))) ▹
+    (tree.Local (typed tree.Int ((pointer (Nullable 1) None) ∷ [])) (named "q") (Initializer.Value (Expression.Prefixed 0 AddressOf (Expression.Suffixed (variable "p") (Arrow (named "y") NoSuffixes))))) ▹
     (Statement.Return 0 (Some (number 0))) ▸
     NoItems)) ∷ []
 
@@ -147,7 +147,7 @@ address_checks_runs = refl
 abbrev through_struct : Program
 through_struct =
     tree.StructItem (record { at = 0; tag = (named "P"); regions = []; members = ((record { of = (typed tree.Int []); name = (named "x") }) ∷ (record { of = (typed tree.Int []); name = (named "y") }) ∷ []) }) ∷
-    tree.FunctionItem (function (typed tree.Void []) (named "f") ((record { of = (typed (tree.Struct (named "P") []) ((pointer Nullable None) ∷ [])); name = (named "p") }) ∷ []) (
+    tree.FunctionItem (function (typed tree.Void []) (named "f") ((record { of = (typed (tree.Struct (named "P") []) ((pointer (Nullable 1) None) ∷ [])); name = (named "p") }) ∷ []) (
     (Statement.Run (Expression.Assign (Expression.Suffixed (variable "p") (Arrow (named "y") NoSuffixes)) (Expression.Chain (Expression.Suffixed (variable "p") (Arrow (named "x") NoSuffixes)) (MoreLinks Add (number 1) NoLinks)))) ▸
     NoItems)) ∷
     tree.FunctionItem (function (typed tree.Int []) (named "main") [] (
@@ -184,7 +184,7 @@ global_values =
     tree.GlobalItem (record { of = (typed tree.Int []); name = (named "a"); initial = (Initial.Elements 3) }) ∷
     tree.GlobalItem (record { of = (typed tree.Char []); name = (named "c"); initial = (Initial.Given (Constant.Number 0 321 false)) }) ∷
     tree.GlobalItem (record { of = (typed tree.Unsigned []); name = (named "u"); initial = Initial.Unset }) ∷
-    tree.GlobalItem (record { of = (typed tree.Int ((pointer Nullable None) ∷ [])); name = (named "n"); initial = (Initial.Given (Constant.Null 0)) }) ∷
+    tree.GlobalItem (record { of = (typed tree.Int ((pointer (Nullable 1) None) ∷ [])); name = (named "n"); initial = (Initial.Given (Constant.Null 0)) }) ∷
     tree.FunctionItem (function (typed tree.Int []) (named "main") [] (
     (Statement.Run (Expression.Assign (Expression.Suffixed (variable "a") (Index (number 1) NoSuffixes)) (number 5))) ▸
     (Statement.Run (Expression.Assign (Expression.Suffixed (variable "s") (Index (number 0) NoSuffixes)) (variable "c"))) ▸
@@ -216,7 +216,7 @@ union_member_runs = refl
 -- @tagged union U { int a; char b; int *p; }; int main() { union U x = U.a(4); int n = 0; while (1) { switch (x) { case {.a = v}: x = U.p(&n); continue; case {.b = c}: return 2; default: n = 7; break; } return n; } }
 abbrev union_default : Program
 union_default =
-    tree.UnionItem (record { at = 0; tag = (named "U"); regions = []; members = ((record { of = (typed tree.Int []); name = (named "a") }) ∷ (record { of = (typed tree.Char []); name = (named "b") }) ∷ (record { of = (typed tree.Int ((pointer Nullable None) ∷ [])); name = (named "p") }) ∷ []) }) ∷
+    tree.UnionItem (record { at = 0; tag = (named "U"); regions = []; members = ((record { of = (typed tree.Int []); name = (named "a") }) ∷ (record { of = (typed tree.Char []); name = (named "b") }) ∷ (record { of = (typed tree.Int ((pointer (Nullable 1) None) ∷ [])); name = (named "p") }) ∷ []) }) ∷
     tree.FunctionItem (function (typed tree.Int []) (named "main") [] (
     (tree.Local (typed (tree.Union (named "U") []) []) (named "x") (Initializer.Value (Expression.MakeUnion (named "U") (named "a") (number 4)))) ▹
     (tree.Local (typed tree.Int []) (named "n") (Initializer.Value (number 0))) ▹
@@ -245,7 +245,7 @@ struct_array =
     (tree.Local (typed (tree.Struct (named "P") []) []) (named "a") (Initializer.Elements 3)) ▹
     (tree.Local (typed (tree.Struct (named "P") []) ((pointer Fat None) ∷ [])) (named "p") (Initializer.Value (variable "a"))) ▹
     (Statement.Run (Expression.Assign (Expression.Suffixed (variable "p") (Index (number 2) (Dot (named "y") NoSuffixes))) (number 7))) ▸
-    (tree.Local (typed (tree.Struct (named "P") []) ((pointer Nullable None) ∷ [])) (named "q") (Initializer.Value (Expression.Chain (variable "p") (MoreLinks Add (number 2) NoLinks)))) ▹
+    (tree.Local (typed (tree.Struct (named "P") []) ((pointer (Nullable 1) None) ∷ [])) (named "q") (Initializer.Value (Expression.Chain (variable "p") (MoreLinks Add (number 2) NoLinks)))) ▹
     (Statement.Run (Expression.Assign (Expression.Suffixed (variable "q") (Arrow (named "x") NoSuffixes)) (number 3))) ▸
     (Statement.Return 0 (Some (Expression.Chain (Expression.Chain (Expression.Suffixed (variable "a") (Index (number 2) (Dot (named "y") NoSuffixes))) (MoreLinks Multiply (number 10) NoLinks)) (MoreLinks Add (Expression.Suffixed (Expression.Grouped 0 (Expression.Prefixed 0 AddressOf (Expression.Suffixed (variable "p") (Index (number 2) NoSuffixes)))) (Arrow (named "x") NoSuffixes)) (MoreLinks Add (Expression.NumElts 0 (Expression.Chain (variable "p") (MoreLinks Add (number 2) NoLinks))) NoLinks))))) ▸
     NoItems)) ∷ []
@@ -258,7 +258,7 @@ abbrev switch_reads_once : Program
 switch_reads_once =
     tree.UnionItem (record { at = 0; tag = (named "U"); regions = []; members = ((record { of = (typed tree.Int []); name = (named "a") }) ∷ (record { of = (typed tree.Char []); name = (named "b") }) ∷ []) }) ∷
     tree.StructItem (record { at = 0; tag = (named "S"); regions = []; members = ((record { of = (typed (tree.Union (named "U") []) []); name = (named "u") }) ∷ (record { of = (typed tree.Int []); name = (named "n") }) ∷ []) }) ∷
-    tree.FunctionItem (function (typed (tree.Struct (named "S") []) ((pointer NotNull None) ∷ [])) (named "g") ((record { of = (typed (tree.Struct (named "S") []) ((pointer NotNull None) ∷ [])); name = (named "s") }) ∷ []) (
+    tree.FunctionItem (function (typed (tree.Struct (named "S") []) ((pointer (NotNull 1) None) ∷ [])) (named "g") ((record { of = (typed (tree.Struct (named "S") []) ((pointer (NotNull 1) None) ∷ [])); name = (named "s") }) ∷ []) (
     (Statement.Run (Expression.Call (named "putchar") (MoreExpressions (number 65) NoExpressions))) ▸
     (Statement.Return 0 (Some (variable "s"))) ▸
     NoItems)) ∷

@@ -1,6 +1,6 @@
 -- Acts that read and write no byte before a unit is due: of cells, conversions, operators, calls and made values.
 use Rattle.std.proofs.Common.{ℕ, zero, suc, ◌+◌, Bool, true, false, Option, Some, None, List, [], ◌∷◌, length}
-use Rattle.std.specs.Prelude.{if◌then◌else◌, not, bytes_eq, codes}
+use Rattle.std.specs.Prelude.{◌%◌, ◌^◌, ◌-◌, nat_le, if◌then◌else◌, not, bytes_eq, codes}
 use Rattle.cyc_tree.specs.declared.expression.Operator.{Operator}
 use Rattle.cyc_tree.specs.declared.expression.Operator.TheVariants.{Subtract, BitXor}
 use Rattle.cyc_tree.specs.declared.expression.Prefix.{Prefix}
@@ -8,14 +8,14 @@ use Rattle.cyc_tree.specs.declared.expression.Prefix.TheVariants.{Negate, Not, C
 use Rattle.cyc_words.specs.declared.faults.Kind.{Kind}
 use Rattle.cyc_words.specs.Events.{ByteRead, ByteWritten, SourceEvent, Visible}
 use Rattle.step_trees.specs.Trees.{Calls, Turns}
-use Rattle.source_meaning.specs.Shapes.{parts_of, Owner, Shared, Alone, Shape, IntShape, UnsignedShape, CharShape, ThinShape, FatShape, ArrayShape, part_shape}
+use Rattle.source_meaning.specs.Shapes.{parts_of, Reach, MayBeNull, NeverNull, bound_in, Owner, Shared, Alone, Shape, IntShape, UnsignedShape, CharShape, ThinShape, FatShape, ArrayShape, part_shape}
 use Rattle.source_meaning.specs.Shapes.{part_shapes, pointee, has_tag, same_shape}
 use Rattle.source_meaning.specs.Memory.{Region, Born, Spot, Span, Scalar, IntegerType, AsInt, AsUnsigned, AsChar, Integer, Thin, Wide, HandleOf, Content, Holds}
 use Rattle.source_meaning.specs.Memory.{Blank, Gone, Lent, Object, Live, Memory, beyond, any_moved, cell_at, is_live, is_of, with_state}
 use Rattle.source_meaning.specs.Steps.{Entity, Variable, Fixed, Routine, World, Step, Stops, Says, Reads, Pays, Act, give, ◌>>=◌, ◌>>◌, stuck, raise, need}
 use Rattle.source_meaning.specs.Steps.{check, choose}
 use Rattle.source_meaning.specs.Operators.{operated, is_true}
-use Rattle.source_meaning.specs.Conversions.{cells_of, element, thin_to_thin, fat_to_thin, thin_leads, fat_leads, converted_scalar, converted, one, integer}
+use Rattle.source_meaning.specs.Conversions.{cells_of, element, elements_from, thin_to_thin, fat_to_thin, thin_leads, fat_leads, converted_scalar, converted, one, integer}
 use Rattle.source_meaning.specs.Conversions.{accessed}
 use Rattle.source_meaning.specs.Values.{value_held, read_cell, read_cells, put_content, write_cell, write_cells, put_contents, take_cells, is_lent}
 use Rattle.source_meaning.specs.Making.{Maker, AsUnique, InRegion, maker_of, ask, make_object}
@@ -117,15 +117,22 @@ element_quiet : (cells : ℕ) (p : Option Span) → Quiet (element cells p)
 element_quiet cells None = raise_quiet _
 element_quiet cells (Some s) = if_quiet _ _ _ (give_quiet _) (raise_quiet _)
 
-thin_quiet : (b : Bool) (p : Option Spot) → Quiet (thin_to_thin b p)
-thin_quiet true p = give_quiet _
-thin_quiet false None = raise_quiet _
-thin_quiet false (Some s) = give_quiet _
+thin_quiet : (b : Reach) (all : ℕ) (p : Option Spot) → Quiet (thin_to_thin b all p)
+thin_quiet (MayBeNull count) all None = give_quiet _
+thin_quiet (MayBeNull count) all (Some s) = record { go = λ next m h. (check_quiet (nat_le (count % 2 ^ 32) all)).go _ m (λ u m1. h _ m1) }
+thin_quiet (NeverNull count) all None = raise_quiet _
+thin_quiet (NeverNull count) all (Some s) = record { go = λ next m h. (check_quiet (nat_le (count % 2 ^ 32) all)).go _ m (λ u m1. h _ m1) }
 
-fat_quiet : (b : Bool) (cells : ℕ) (p : Option Span) → Quiet (fat_to_thin b cells p)
-fat_quiet true cells None = give_quiet _
-fat_quiet true cells (Some s) = record { go = λ next m h. (element_quiet cells (Some s)).go _ m (λ at m1. h _ m1) }
-fat_quiet false cells p = record { go = λ next m h. (element_quiet cells p).go _ m (λ at m1. h _ m1) }
+enough_quiet : (cells count : ℕ) (p : Option Span) → Quiet (elements_from cells count p)
+enough_quiet cells count None = raise_quiet _
+enough_quiet cells count (Some s) = record {
+  go = λ next m h. (element_quiet cells (Some s)).go _ m (λ at m1. (if_quiet (nat_le count (s.count - s.index)) _ _ (give_quiet at) (raise_quiet _)).go next m1 h);
+}
+
+fat_quiet : (b : Reach) (cells : ℕ) (p : Option Span) → Quiet (fat_to_thin b cells p)
+fat_quiet (MayBeNull count) cells None = give_quiet _
+fat_quiet (MayBeNull count) cells (Some s) = record { go = λ next m h. (enough_quiet cells (count % 2 ^ 32) (Some s)).go _ m (λ at m1. h _ m1) }
+fat_quiet (NeverNull count) cells p = record { go = λ next m h. (enough_quiet cells (count % 2 ^ 32) p).go _ m (λ at m1. h _ m1) }
 
 same_quiet : {A : Type 0} (s from : Shape) (a : A) → Quiet (check (same_shape s from) >> give a)
 same_quiet s from a = record { go = λ next m h. (check_quiet (same_shape s from)).go _ m (λ u m1. h a m1) }
@@ -144,10 +151,10 @@ scalar_quiet w UnsignedShape from (Integer t x) = give_quiet _
 scalar_quiet w CharShape from (Integer t x) = give_quiet _
 scalar_quiet w (FatShape to) from (Thin p) = record { go = λ next m h. (thin_leads_quiet Shared to from p).go _ m (λ u m1. h _ m1) }
 scalar_quiet w (FatShape to) from (Wide p) = record { go = λ next m h. (fat_leads_quiet Shared to from p).go _ m (λ u m1. h _ m1) }
-scalar_quiet w (ThinShape may_be_null owner to) from (Thin p) =
-    record { go = λ next m h. (thin_leads_quiet owner to from p).go _ m (λ u m1. (thin_quiet may_be_null p).go next m1 h) }
-scalar_quiet w (ThinShape may_be_null owner to) from (Wide p) =
-    record { go = λ next m h. (fat_leads_quiet owner to from p).go _ m (λ u m1. (fat_quiet may_be_null (length (cells_of w to)) p).go next m1 h) }
+scalar_quiet w (ThinShape bound owner to) from (Thin p) =
+    record { go = λ next m h. (thin_leads_quiet owner to from p).go _ m (λ u m1. (thin_quiet bound (bound_in from) p).go next m1 h) }
+scalar_quiet w (ThinShape bound owner to) from (Wide p) =
+    record { go = λ next m h. (fat_leads_quiet owner to from p).go _ m (λ u m1. (fat_quiet bound (length (cells_of w to)) p).go next m1 h) }
 scalar_quiet w IntShape from v = same_quiet IntShape from v
 scalar_quiet w UnsignedShape from v = same_quiet UnsignedShape from v
 scalar_quiet w s from v = same_quiet s from v
@@ -213,15 +220,17 @@ looked e x f then_quiet = record { go = λ next m h. x.look.go _ m (λ vs m1. (o
 pub contents_quiet : (w : World) (e : Sense) → IsQuietSense e → IsQuietSense (contents w e)
 contents_quiet w e x = place_is_quiet w (pointee e.shape) _ (looked e x _ (accessed_quiet _))
 
-span_quiet : (k : ℕ) (v : Scalar) → Quiet (indexed_span k v)
-span_quiet k (Wide None) = give_quiet _
-span_quiet k (Wide (Some s)) = give_quiet _
-span_quiet k v = stuck_quiet
+span_quiet : (all k : ℕ) (v : Scalar) → Quiet (indexed_span all k v)
+span_quiet all k (Wide None) = give_quiet _
+span_quiet all k (Wide (Some s)) = give_quiet _
+span_quiet all k (Thin None) = give_quiet _
+span_quiet all k (Thin (Some s)) = give_quiet _
+span_quiet all k v = stuck_quiet
 
 pub indexed_quiet : (w : World) (a b : Sense) → IsQuietSense a → IsQuietSense b → IsQuietSense (indexed w a b)
 indexed_quiet w a b x y = place_is_quiet w (pointee a.shape) _ (record {
   go = λ next m h. y.look.go _ m (λ us m1. (one_quiet us).go _ m1 (λ u m2. (integer_quiet u).go _ m2 (λ k m3.
-      x.look.go _ m3 (λ vs m4. (one_quiet vs).go _ m4 (λ v m5. (span_quiet k v).go _ m5 (λ p m6. (accessed_quiet _ p).go next m6 h))))));
+      x.look.go _ m3 (λ vs m4. (one_quiet vs).go _ m4 (λ v m5. (span_quiet (bound_in a.shape) k v).go _ m5 (λ p m6. (accessed_quiet _ p).go next m6 h))))));
 })
 
 pub member_quiet : (w : World) (e : Sense) (f : List ℕ) → IsQuietSense e → IsQuietSense (member w e f)

@@ -13,7 +13,7 @@ use Rattle.source_meaning.specs.Shapes.{settled_by, same_shape}
 use Rattle.source_meaning.specs.Memory.{Region, Frame, Born, Spot, Scalar, AsInt, AsUnsigned, AsChar, Integer, Thin, HandleOf, KeyOf, Tagged, Holds, Gone, Lent}
 use Rattle.source_meaning.specs.Memory.{Object, State, Closed, Dead, is_live, is_closed, with_state, blank_object, is_moved}
 use Rattle.source_meaning.specs.Steps.{Entity, Variable, Fixed, Routine, World, Scope, Flow, Falls, Breaks, Continues, Returns, Step, Stops, Says, Reads, Pays}
-use Rattle.source_meaning.specs.Steps.{Act, give, ◌>>=◌, ◌>>◌, stuck, take_turn, need, finally, run}
+use Rattle.source_meaning.specs.Steps.{Act, give, ◌>>=◌, stuck, take_turn, need, finally, run}
 use Rattle.source_meaning.specs.Conversions.{cells_of, element}
 use Rattle.source_meaning.specs.Values.{put_content}
 use Rattle.source_meaning.specs.Making.{set_state, heap_maker}

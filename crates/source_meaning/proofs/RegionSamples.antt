@@ -31,7 +31,7 @@ region_in_loop =
     tree.FunctionItem (function (typed tree.Int []) (named "main") [] (
     (tree.Region 0 (tree.Named (named "r")) (named "h")) ▹
     (Statement.While 0 (number 1) (Statement.Block 0 (
-    (tree.Local (typed tree.Int ((pointer Nullable (Some (tree.Named (named "r")))) ∷ [])) (named "p") (Initializer.Value (Expression.NewIn 0 (variable "h") (One (number 1))))) ▹
+    (tree.Local (typed tree.Int ((pointer (Nullable 1) (Some (tree.Named (named "r")))) ∷ [])) (named "p") (Initializer.Value (Expression.NewIn 0 (variable "h") (One (number 1))))) ▹
     (Statement.Run (Expression.Call (named "putchar") (MoreExpressions (number 46) NoExpressions))) ▸
     NoItems))) ▸
     NoItems)) ∷ []
@@ -44,9 +44,9 @@ abbrev two_regions : Program
 two_regions =
     tree.FunctionItem (function (typed tree.Int []) (named "main") [] (
     (tree.Region 0 (tree.Named (named "a")) (named "g")) ▹
-    (tree.Local (typed tree.Int ((pointer Nullable (Some (tree.Named (named "a")))) ∷ [])) (named "x") (Initializer.Value (Expression.NewIn 0 (variable "g") (One (number 1))))) ▹
+    (tree.Local (typed tree.Int ((pointer (Nullable 1) (Some (tree.Named (named "a")))) ∷ [])) (named "x") (Initializer.Value (Expression.NewIn 0 (variable "g") (One (number 1))))) ▹
     (tree.Region 0 (tree.Named (named "b")) (named "h")) ▹
-    (tree.Local (typed tree.Int ((pointer Nullable (Some (tree.Named (named "b")))) ∷ [])) (named "y") (Initializer.Value (Expression.NewIn 0 (variable "h") (One (number 2))))) ▹
+    (tree.Local (typed tree.Int ((pointer (Nullable 1) (Some (tree.Named (named "b")))) ∷ [])) (named "y") (Initializer.Value (Expression.NewIn 0 (variable "h") (One (number 2))))) ▹
     (Statement.Run (Expression.Assign (variable "y") (variable "x"))) ▸
     (Statement.Return 0 (Some (number 0))) ▸
     NoItems)) ∷ []
@@ -61,7 +61,7 @@ reverse_exits =
     (tree.Region 0 (tree.Named (named "a")) (named "x")) ▹
     (tree.Region 0 (tree.Named (named "b")) (named "y")) ▹
     (tree.Region 0 (tree.Named (named "c")) (named "z")) ▹
-    (tree.Local (typed tree.Int ((pointer Nullable (Some (tree.Named (named "c")))) ∷ [])) (named "p") (Initializer.Value (Expression.NewIn 0 (variable "z") (One (variable "i"))))) ▹
+    (tree.Local (typed tree.Int ((pointer (Nullable 1) (Some (tree.Named (named "c")))) ∷ [])) (named "p") (Initializer.Value (Expression.NewIn 0 (variable "z") (One (variable "i"))))) ▹
     (Statement.If 0 (Expression.Chain (Expression.Prefixed 0 Dereference (variable "p")) (MoreLinks Equal (variable "i") NoLinks)) (Statement.Return 0 (Some (number 1)))) ▸
     (Statement.Return 0 (Some (number 0))) ▸
     NoItems)) ∷
@@ -78,7 +78,7 @@ abbrev raise_frees_nothing : Program
 raise_frees_nothing =
     tree.FunctionItem (function (typed tree.Int []) (named "main") [] (
     (tree.Region 0 (tree.Named (named "r")) (named "h")) ▹
-    (tree.Local (typed tree.Int ((pointer Nullable None) ∷ [])) (named "p") (Initializer.Value (Expression.Null 0))) ▹
+    (tree.Local (typed tree.Int ((pointer (Nullable 1) None) ∷ [])) (named "p") (Initializer.Value (Expression.Null 0))) ▹
     (Statement.Return 0 (Some (Expression.Prefixed 0 Dereference (variable "p")))) ▸
     NoItems)) ∷ []
 
@@ -90,7 +90,7 @@ abbrev result_before_exit : Program
 result_before_exit =
     tree.FunctionItem (function (typed tree.Int []) (named "main") [] (
     (tree.Region 0 (tree.Named (named "r")) (named "h")) ▹
-    (tree.Local (typed tree.Int ((pointer Nullable None) ∷ [])) (named "p") (Initializer.Value (Expression.NewIn 0 (variable "h") (One (number 5))))) ▹
+    (tree.Local (typed tree.Int ((pointer (Nullable 1) None) ∷ [])) (named "p") (Initializer.Value (Expression.NewIn 0 (variable "h") (One (number 5))))) ▹
     (Statement.Return 0 (Some (Expression.Prefixed 0 Dereference (variable "p")))) ▸
     NoItems)) ∷ []
 
@@ -155,9 +155,9 @@ no_elements_runs = refl
 abbrev operand_before_request : Program
 operand_before_request =
     tree.FunctionItem (function (typed tree.Int []) (named "main") [] (
-    (tree.Local (typed tree.Int ((pointer NotNull None) ∷ [])) (named "p") (Initializer.Value (Expression.New 0 (One (Expression.Call (named "putchar") (MoreExpressions (number 65) NoExpressions)))))) ▹
-    (tree.Local (typed tree.Int ((pointer NotNull (Some (tree.Heap 0))) ∷ [])) (named "q") (Initializer.Value (Expression.NewIn 0 (Expression.HeapRegion 0) (One (Expression.Prefixed 0 Dereference (variable "p")))))) ▹
-    (tree.Local (typed tree.Char ((pointer NotNull None) ∷ [])) (named "c") (Initializer.Value (Expression.New 0 (One (Expression.Character 0 120))))) ▹
+    (tree.Local (typed tree.Int ((pointer (NotNull 1) None) ∷ [])) (named "p") (Initializer.Value (Expression.New 0 (One (Expression.Call (named "putchar") (MoreExpressions (number 65) NoExpressions)))))) ▹
+    (tree.Local (typed tree.Int ((pointer (NotNull 1) (Some (tree.Heap 0))) ∷ [])) (named "q") (Initializer.Value (Expression.NewIn 0 (Expression.HeapRegion 0) (One (Expression.Prefixed 0 Dereference (variable "p")))))) ▹
+    (tree.Local (typed tree.Char ((pointer (NotNull 1) None) ∷ [])) (named "c") (Initializer.Value (Expression.New 0 (One (Expression.Character 0 120))))) ▹
     (Statement.Return 0 (Some (Expression.Prefixed 0 Dereference (variable "q")))) ▸
     NoItems)) ∷ []
 
@@ -169,7 +169,7 @@ abbrev dangling : Program
 dangling =
     tree.FunctionItem (function (typed tree.Int []) (named "main") [] (
     (tree.Local (typed tree.Int []) (named "y") (Initializer.Value (number 1))) ▹
-    (tree.Local (typed tree.Int ((pointer Nullable None) ∷ [])) (named "p") (Initializer.Value (Expression.Prefixed 0 AddressOf (variable "y")))) ▹
+    (tree.Local (typed tree.Int ((pointer (Nullable 1) None) ∷ [])) (named "p") (Initializer.Value (Expression.Prefixed 0 AddressOf (variable "y")))) ▹
     (Statement.Block 0 (
     (tree.Local (typed tree.Int []) (named "x") (Initializer.Value (number 2))) ▹
     (Statement.Run (Expression.Assign (variable "p") (Expression.Prefixed 0 AddressOf (variable "x")))) ▸
@@ -185,8 +185,8 @@ abbrev dangling_comparison : Program
 dangling_comparison =
     tree.FunctionItem (function (typed tree.Int []) (named "main") [] (
     (tree.Local (typed tree.Int []) (named "y") (Initializer.Value (number 1))) ▹
-    (tree.Local (typed tree.Int ((pointer Nullable None) ∷ [])) (named "p") (Initializer.Value (Expression.Prefixed 0 AddressOf (variable "y")))) ▹
-    (tree.Local (typed tree.Int ((pointer Nullable None) ∷ [])) (named "q") (Initializer.Value (variable "p"))) ▹
+    (tree.Local (typed tree.Int ((pointer (Nullable 1) None) ∷ [])) (named "p") (Initializer.Value (Expression.Prefixed 0 AddressOf (variable "y")))) ▹
+    (tree.Local (typed tree.Int ((pointer (Nullable 1) None) ∷ [])) (named "q") (Initializer.Value (variable "p"))) ▹
     (Statement.Block 0 (
     (tree.Local (typed tree.Int []) (named "x") (Initializer.Value (number 2))) ▹
     (Statement.Run (Expression.Assign (variable "p") (Expression.Prefixed 0 AddressOf (variable "x")))) ▸

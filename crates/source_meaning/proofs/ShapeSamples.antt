@@ -15,8 +15,8 @@ abbrev other_pointee : Program
 other_pointee =
     tree.FunctionItem (function (typed tree.Int []) (named "main") [] (
     (tree.Local (typed tree.Char []) (named "c") (Initializer.Value (number 97))) ▹
-    (tree.Local (typed tree.Char ((pointer Nullable None) ∷ [])) (named "p") (Initializer.Value (Expression.Prefixed 0 AddressOf (variable "c")))) ▹
-    (tree.Local (typed tree.Int ((pointer Nullable None) ∷ [])) (named "q") (Initializer.Value (variable "p"))) ▹
+    (tree.Local (typed tree.Char ((pointer (Nullable 1) None) ∷ [])) (named "p") (Initializer.Value (Expression.Prefixed 0 AddressOf (variable "c")))) ▹
+    (tree.Local (typed tree.Int ((pointer (Nullable 1) None) ∷ [])) (named "q") (Initializer.Value (variable "p"))) ▹
     (Statement.Return 0 (Some (Expression.Prefixed 0 Dereference (variable "q")))) ▸
     NoItems)) ∷ []
 
@@ -28,8 +28,8 @@ abbrev other_pointee_assigned : Program
 other_pointee_assigned =
     tree.FunctionItem (function (typed tree.Int []) (named "main") [] (
     (tree.Local (typed tree.Char []) (named "c") (Initializer.Value (number 97))) ▹
-    (tree.Local (typed tree.Char ((pointer Nullable None) ∷ [])) (named "p") (Initializer.Value (Expression.Prefixed 0 AddressOf (variable "c")))) ▹
-    (tree.Local (typed tree.Int ((pointer Nullable None) ∷ [])) (named "q") (Initializer.Value (Expression.Null 0))) ▹
+    (tree.Local (typed tree.Char ((pointer (Nullable 1) None) ∷ [])) (named "p") (Initializer.Value (Expression.Prefixed 0 AddressOf (variable "c")))) ▹
+    (tree.Local (typed tree.Int ((pointer (Nullable 1) None) ∷ [])) (named "q") (Initializer.Value (Expression.Null 0))) ▹
     (Statement.Run (Expression.Assign (variable "q") (variable "p"))) ▸
     (Statement.Return 0 (Some (number 0))) ▸
     NoItems)) ∷ []
@@ -41,8 +41,8 @@ other_pointee_assigned_runs = refl
 abbrev null_passes : Program
 null_passes =
     tree.FunctionItem (function (typed tree.Int []) (named "main") [] (
-    (tree.Local (typed tree.Char ((pointer Nullable None) ∷ [])) (named "p") (Initializer.Value (Expression.Null 0))) ▹
-    (tree.Local (typed tree.Int ((pointer Nullable None) ∷ [])) (named "q") (Initializer.Value (variable "p"))) ▹
+    (tree.Local (typed tree.Char ((pointer (Nullable 1) None) ∷ [])) (named "p") (Initializer.Value (Expression.Null 0))) ▹
+    (tree.Local (typed tree.Int ((pointer (Nullable 1) None) ∷ [])) (named "q") (Initializer.Value (variable "p"))) ▹
     (Statement.Return 0 (Some (Expression.Chain (variable "q") (MoreLinks Equal (Expression.Null 0) NoLinks)))) ▸
     NoItems)) ∷ []
 
@@ -54,8 +54,8 @@ abbrev becomes_unique : Program
 becomes_unique =
     tree.FunctionItem (function (typed tree.Int []) (named "main") [] (
     (tree.Local (typed tree.Int []) (named "x") (Initializer.Value (number 1))) ▹
-    (tree.Local (typed tree.Int ((pointer Nullable None) ∷ [])) (named "p") (Initializer.Value (Expression.Prefixed 0 AddressOf (variable "x")))) ▹
-    (tree.Local (typed tree.Int ((pointer Nullable (Some (tree.Unique 0))) ∷ [])) (named "q") (Initializer.Value (variable "p"))) ▹
+    (tree.Local (typed tree.Int ((pointer (Nullable 1) None) ∷ [])) (named "p") (Initializer.Value (Expression.Prefixed 0 AddressOf (variable "x")))) ▹
+    (tree.Local (typed tree.Int ((pointer (Nullable 1) (Some (tree.Unique 0))) ∷ [])) (named "q") (Initializer.Value (variable "p"))) ▹
     (Statement.Return 0 (Some (number 0))) ▸
     NoItems)) ∷ []
 
@@ -66,8 +66,8 @@ becomes_unique_runs = refl
 abbrev others_exchanged : Program
 others_exchanged =
     tree.FunctionItem (function (typed tree.Int []) (named "main") [] (
-    (tree.Local (typed tree.Int ((pointer Nullable None) ∷ [])) (named "p") (Initializer.Value (Expression.Null 0))) ▹
-    (tree.Local (typed tree.Char ((pointer Nullable None) ∷ [])) (named "q") (Initializer.Value (Expression.Null 0))) ▹
+    (tree.Local (typed tree.Int ((pointer (Nullable 1) None) ∷ [])) (named "p") (Initializer.Value (Expression.Null 0))) ▹
+    (tree.Local (typed tree.Char ((pointer (Nullable 1) None) ∷ [])) (named "q") (Initializer.Value (Expression.Null 0))) ▹
     (Statement.Exchange (variable "p") (variable "q")) ▸
     (Statement.Return 0 (Some (number 0))) ▸
     NoItems)) ∷ []
@@ -79,8 +79,8 @@ others_exchanged_runs = refl
 abbrev unique_assignment : Program
 unique_assignment =
     tree.FunctionItem (function (typed tree.Int []) (named "main") [] (
-    (tree.Local (typed tree.Int ((pointer Nullable (Some (tree.Unique 0))) ∷ [])) (named "p") (Initializer.Value (Expression.Null 0))) ▹
-    (tree.Local (typed tree.Int ((pointer Nullable (Some (tree.Unique 0))) ∷ [])) (named "q") (Initializer.Value (Expression.Null 0))) ▹
+    (tree.Local (typed tree.Int ((pointer (Nullable 1) (Some (tree.Unique 0))) ∷ [])) (named "p") (Initializer.Value (Expression.Null 0))) ▹
+    (tree.Local (typed tree.Int ((pointer (Nullable 1) (Some (tree.Unique 0))) ∷ [])) (named "q") (Initializer.Value (Expression.Null 0))) ▹
     (Statement.Return 0 (Some (Expression.Chain (Expression.Grouped 0 (Expression.Assign (variable "q") (variable "p"))) (MoreLinks Equal (Expression.Null 0) NoLinks)))) ▸
     NoItems)) ∷ []
 

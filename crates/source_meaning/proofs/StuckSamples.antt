@@ -17,7 +17,7 @@ use Rattle.source_meaning.proofs.Trees.{named, variable, number, pointer, typed,
 abbrev blank_read : Program
 blank_read =
     tree.FunctionItem (function (typed tree.Int []) (named "main") [] (
-    (tree.Local (typed tree.Int ((pointer NotNull None) ∷ [])) (named "p") Initializer.Unset) ▹
+    (tree.Local (typed tree.Int ((pointer (NotNull 1) None) ∷ [])) (named "p") Initializer.Unset) ▹
     (Statement.Return 0 (Some (Expression.Prefixed 0 Dereference (variable "p")))) ▸
     NoItems)) ∷ []
 
@@ -29,8 +29,8 @@ abbrev blank_exchanged : Program
 blank_exchanged =
     tree.FunctionItem (function (typed tree.Int []) (named "main") [] (
     (tree.Local (typed tree.Int []) (named "x") (Initializer.Value (number 1))) ▹
-    (tree.Local (typed tree.Int ((pointer NotNull None) ∷ [])) (named "p") Initializer.Unset) ▹
-    (tree.Local (typed tree.Int ((pointer NotNull None) ∷ [])) (named "q") (Initializer.Value (Expression.Prefixed 0 AddressOf (variable "x")))) ▹
+    (tree.Local (typed tree.Int ((pointer (NotNull 1) None) ∷ [])) (named "p") Initializer.Unset) ▹
+    (tree.Local (typed tree.Int ((pointer (NotNull 1) None) ∷ [])) (named "q") (Initializer.Value (Expression.Prefixed 0 AddressOf (variable "x")))) ▹
     (Statement.Exchange (variable "p") (variable "q")) ▸
     (Statement.Return 0 (Some (number 0))) ▸
     NoItems)) ∷ []
@@ -42,9 +42,9 @@ blank_exchanged_runs = refl
 abbrev lent_exchanged : Program
 lent_exchanged =
     tree.FunctionItem (function (typed tree.Int []) (named "main") [] (
-    (tree.Local (typed tree.Int ((pointer Nullable (Some (tree.Unique 0))) ∷ [])) (named "p") (Initializer.Value (Expression.NewIn 0 (Expression.UniqueRegion 0) (One (number 3))))) ▹
-    (tree.Local (typed tree.Int ((pointer Nullable (Some (tree.Unique 0))) ∷ [])) (named "q") (Initializer.Value (Expression.Null 0))) ▹
-    (tree.Alias 0 (tree.Named (named "r")) (typed tree.Int ((pointer Nullable (Some (tree.Named (named "r")))) ∷ [])) (named "x") (named "p")) ▹
+    (tree.Local (typed tree.Int ((pointer (Nullable 1) (Some (tree.Unique 0))) ∷ [])) (named "p") (Initializer.Value (Expression.NewIn 0 (Expression.UniqueRegion 0) (One (number 3))))) ▹
+    (tree.Local (typed tree.Int ((pointer (Nullable 1) (Some (tree.Unique 0))) ∷ [])) (named "q") (Initializer.Value (Expression.Null 0))) ▹
+    (tree.Alias 0 (tree.Named (named "r")) (typed tree.Int ((pointer (Nullable 1) (Some (tree.Named (named "r")))) ∷ [])) (named "x") (named "p")) ▹
     (Statement.Exchange (variable "p") (variable "q")) ▸
     (Statement.Return 0 (Some (number 0))) ▸
     NoItems)) ∷ []
@@ -56,9 +56,9 @@ lent_exchanged_runs = refl
 abbrev exchanged_with_lent : Program
 exchanged_with_lent =
     tree.FunctionItem (function (typed tree.Int []) (named "main") [] (
-    (tree.Local (typed tree.Int ((pointer Nullable (Some (tree.Unique 0))) ∷ [])) (named "p") (Initializer.Value (Expression.NewIn 0 (Expression.UniqueRegion 0) (One (number 3))))) ▹
-    (tree.Local (typed tree.Int ((pointer Nullable (Some (tree.Unique 0))) ∷ [])) (named "q") (Initializer.Value (Expression.Null 0))) ▹
-    (tree.Alias 0 (tree.Named (named "r")) (typed tree.Int ((pointer Nullable (Some (tree.Named (named "r")))) ∷ [])) (named "x") (named "p")) ▹
+    (tree.Local (typed tree.Int ((pointer (Nullable 1) (Some (tree.Unique 0))) ∷ [])) (named "p") (Initializer.Value (Expression.NewIn 0 (Expression.UniqueRegion 0) (One (number 3))))) ▹
+    (tree.Local (typed tree.Int ((pointer (Nullable 1) (Some (tree.Unique 0))) ∷ [])) (named "q") (Initializer.Value (Expression.Null 0))) ▹
+    (tree.Alias 0 (tree.Named (named "r")) (typed tree.Int ((pointer (Nullable 1) (Some (tree.Named (named "r")))) ∷ [])) (named "x") (named "p")) ▹
     (Statement.Exchange (variable "q") (variable "p")) ▸
     (Statement.Return 0 (Some (number 0))) ▸
     NoItems)) ∷ []
@@ -70,8 +70,8 @@ exchanged_with_lent_runs = refl
 abbrev gone_exchanged : Program
 gone_exchanged =
     tree.FunctionItem (function (typed tree.Int []) (named "main") [] (
-    (tree.Local (typed tree.Int ((pointer Nullable (Some (tree.Unique 0))) ∷ [])) (named "p") (Initializer.Value (Expression.NewIn 0 (Expression.UniqueRegion 0) (One (number 3))))) ▹
-    (tree.Local (typed tree.Int ((pointer Nullable (Some (tree.Unique 0))) ∷ [])) (named "q") (Initializer.Value (Expression.Null 0))) ▹
+    (tree.Local (typed tree.Int ((pointer (Nullable 1) (Some (tree.Unique 0))) ∷ [])) (named "p") (Initializer.Value (Expression.NewIn 0 (Expression.UniqueRegion 0) (One (number 3))))) ▹
+    (tree.Local (typed tree.Int ((pointer (Nullable 1) (Some (tree.Unique 0))) ∷ [])) (named "q") (Initializer.Value (Expression.Null 0))) ▹
     (Statement.FreeUnique 0 (named "p")) ▸
     (Statement.Exchange (variable "p") (variable "q")) ▸
     (Statement.Return 0 (Some (number 0))) ▸
@@ -84,8 +84,8 @@ gone_exchanged_runs = refl
 abbrev exchanged_with_gone : Program
 exchanged_with_gone =
     tree.FunctionItem (function (typed tree.Int []) (named "main") [] (
-    (tree.Local (typed tree.Int ((pointer Nullable (Some (tree.Unique 0))) ∷ [])) (named "p") (Initializer.Value (Expression.NewIn 0 (Expression.UniqueRegion 0) (One (number 3))))) ▹
-    (tree.Local (typed tree.Int ((pointer Nullable (Some (tree.Unique 0))) ∷ [])) (named "q") (Initializer.Value (Expression.Null 0))) ▹
+    (tree.Local (typed tree.Int ((pointer (Nullable 1) (Some (tree.Unique 0))) ∷ [])) (named "p") (Initializer.Value (Expression.NewIn 0 (Expression.UniqueRegion 0) (One (number 3))))) ▹
+    (tree.Local (typed tree.Int ((pointer (Nullable 1) (Some (tree.Unique 0))) ∷ [])) (named "q") (Initializer.Value (Expression.Null 0))) ▹
     (Statement.FreeUnique 0 (named "p")) ▸
     (Statement.Exchange (variable "q") (variable "p")) ▸
     (Statement.Return 0 (Some (number 0))) ▸
@@ -97,7 +97,7 @@ exchanged_with_gone_runs = refl
 -- struct B { int n; int *`U p; }; int main() { struct B a = B(1, NULL); struct B b = a; return a.p == NULL; }
 abbrev struct_gone : Program
 struct_gone =
-    tree.StructItem (record { at = 0; tag = (named "B"); regions = []; members = ((record { of = (typed tree.Int []); name = (named "n") }) ∷ (record { of = (typed tree.Int ((pointer Nullable (Some (tree.Unique 0))) ∷ [])); name = (named "p") }) ∷ []) }) ∷
+    tree.StructItem (record { at = 0; tag = (named "B"); regions = []; members = ((record { of = (typed tree.Int []); name = (named "n") }) ∷ (record { of = (typed tree.Int ((pointer (Nullable 1) (Some (tree.Unique 0))) ∷ [])); name = (named "p") }) ∷ []) }) ∷
     tree.FunctionItem (function (typed tree.Int []) (named "main") [] (
     (tree.Local (typed (tree.Struct (named "B") []) []) (named "a") (Initializer.Value (Expression.Call (named "B") (MoreExpressions (number 1) (MoreExpressions (Expression.Null 0) NoExpressions))))) ▹
     (tree.Local (typed (tree.Struct (named "B") []) []) (named "b") (Initializer.Value (variable "a"))) ▹
@@ -111,9 +111,9 @@ struct_gone_runs = refl
 abbrev fat_of_unique_read : Program
 fat_of_unique_read =
     tree.FunctionItem (function (typed tree.Int []) (named "main") [] (
-    (tree.Local (typed tree.Int ((pointer Nullable (Some (tree.Unique 0))) ∷ [])) (named "a") (Initializer.Elements 1)) ▹
-    (tree.Local (typed tree.Int ((pointer Nullable None) ∷ (pointer Fat None) ∷ [])) (named "q") (Initializer.Value (variable "a"))) ▹
-    (tree.Local (typed tree.Int ((pointer Nullable None) ∷ [])) (named "x") (Initializer.Value (Expression.Prefixed 0 Dereference (variable "q")))) ▹
+    (tree.Local (typed tree.Int ((pointer (Nullable 1) (Some (tree.Unique 0))) ∷ [])) (named "a") (Initializer.Elements 1)) ▹
+    (tree.Local (typed tree.Int ((pointer (Nullable 1) None) ∷ (pointer Fat None) ∷ [])) (named "q") (Initializer.Value (variable "a"))) ▹
+    (tree.Local (typed tree.Int ((pointer (Nullable 1) None) ∷ [])) (named "x") (Initializer.Value (Expression.Prefixed 0 Dereference (variable "q")))) ▹
     (Statement.Return 0 (Some (Expression.Chain (Expression.Prefixed 0 Dereference (variable "q")) (MoreLinks Equal (Expression.Null 0) NoLinks)))) ▸
     NoItems)) ∷ []
 
@@ -124,9 +124,9 @@ fat_of_unique_read_runs = refl
 abbrev thin_of_unique_read : Program
 thin_of_unique_read =
     tree.FunctionItem (function (typed tree.Int []) (named "main") [] (
-    (tree.Local (typed tree.Int ((pointer Nullable (Some (tree.Unique 0))) ∷ [])) (named "a") (Initializer.Elements 1)) ▹
-    (tree.Local (typed tree.Int ((pointer Nullable None) ∷ (pointer Nullable None) ∷ [])) (named "q") (Initializer.Value (variable "a"))) ▹
-    (tree.Local (typed tree.Int ((pointer Nullable None) ∷ [])) (named "x") (Initializer.Value (Expression.Prefixed 0 Dereference (variable "q")))) ▹
+    (tree.Local (typed tree.Int ((pointer (Nullable 1) (Some (tree.Unique 0))) ∷ [])) (named "a") (Initializer.Elements 1)) ▹
+    (tree.Local (typed tree.Int ((pointer (Nullable 1) None) ∷ (pointer (Nullable 1) None) ∷ [])) (named "q") (Initializer.Value (variable "a"))) ▹
+    (tree.Local (typed tree.Int ((pointer (Nullable 1) None) ∷ [])) (named "x") (Initializer.Value (Expression.Prefixed 0 Dereference (variable "q")))) ▹
     (Statement.Return 0 (Some (Expression.Chain (Expression.Prefixed 0 Dereference (variable "q")) (MoreLinks Equal (Expression.Null 0) NoLinks)))) ▸
     NoItems)) ∷ []
 
@@ -137,9 +137,9 @@ thin_of_unique_read_runs = refl
 abbrev address_of_unique_read : Program
 address_of_unique_read =
     tree.FunctionItem (function (typed tree.Int []) (named "main") [] (
-    (tree.Local (typed tree.Int ((pointer Nullable (Some (tree.Unique 0))) ∷ [])) (named "u") Initializer.Unset) ▹
-    (tree.Local (typed tree.Int ((pointer Nullable None) ∷ (pointer Fat None) ∷ [])) (named "q") (Initializer.Value (Expression.Prefixed 0 AddressOf (variable "u")))) ▹
-    (tree.Local (typed tree.Int ((pointer Nullable None) ∷ [])) (named "x") (Initializer.Value (Expression.Prefixed 0 Dereference (variable "q")))) ▹
+    (tree.Local (typed tree.Int ((pointer (Nullable 1) (Some (tree.Unique 0))) ∷ [])) (named "u") Initializer.Unset) ▹
+    (tree.Local (typed tree.Int ((pointer (Nullable 1) None) ∷ (pointer Fat None) ∷ [])) (named "q") (Initializer.Value (Expression.Prefixed 0 AddressOf (variable "u")))) ▹
+    (tree.Local (typed tree.Int ((pointer (Nullable 1) None) ∷ [])) (named "x") (Initializer.Value (Expression.Prefixed 0 Dereference (variable "q")))) ▹
     (Statement.Return 0 (Some (Expression.Chain (Expression.Prefixed 0 Dereference (variable "q")) (MoreLinks Equal (Expression.Null 0) NoLinks)))) ▸
     NoItems)) ∷ []
 
@@ -151,7 +151,7 @@ abbrev local_freed : Program
 local_freed =
     tree.FunctionItem (function (typed tree.Int []) (named "main") [] (
     (tree.Local (typed tree.Int []) (named "x") (Initializer.Value (number 1))) ▹
-    (tree.Local (typed tree.Int ((pointer Nullable None) ∷ [])) (named "p") (Initializer.Value (Expression.Prefixed 0 AddressOf (variable "x")))) ▹
+    (tree.Local (typed tree.Int ((pointer (Nullable 1) None) ∷ [])) (named "p") (Initializer.Value (Expression.Prefixed 0 AddressOf (variable "x")))) ▹
     (Statement.FreeUnique 0 (named "p")) ▸
     (Statement.Return 0 (Some (number 0))) ▸
     NoItems)) ∷ []
@@ -190,7 +190,7 @@ abbrev dead_local_written : Program
 dead_local_written =
     tree.FunctionItem (function (typed tree.Int []) (named "main") [] (
     (tree.Local (typed tree.Int []) (named "y") (Initializer.Value (number 1))) ▹
-    (tree.Local (typed tree.Int ((pointer Nullable None) ∷ [])) (named "p") (Initializer.Value (Expression.Prefixed 0 AddressOf (variable "y")))) ▹
+    (tree.Local (typed tree.Int ((pointer (Nullable 1) None) ∷ [])) (named "p") (Initializer.Value (Expression.Prefixed 0 AddressOf (variable "y")))) ▹
     (Statement.Block 0 (
     (tree.Local (typed tree.Int []) (named "x") (Initializer.Value (number 2))) ▹
     (Statement.Run (Expression.Assign (variable "p") (Expression.Prefixed 0 AddressOf (variable "x")))) ▸
@@ -206,7 +206,7 @@ dead_local_written_runs = refl
 abbrev dead_object_written : Program
 dead_object_written =
     tree.FunctionItem (function (typed tree.Int []) (named "main") [] (
-    (tree.Local (typed tree.Int ((pointer NotNull None) ∷ [])) (named "p") (Initializer.Value (Expression.New 0 (One (number 1))))) ▹
+    (tree.Local (typed tree.Int ((pointer (NotNull 1) None) ∷ [])) (named "p") (Initializer.Value (Expression.New 0 (One (number 1))))) ▹
     (Statement.Block 0 (
     (tree.Region 0 (tree.Named (named "r")) (named "h")) ▹
     (Statement.Run (Expression.Assign (variable "p") (Expression.NewIn 0 (variable "h") (One (number 2))))) ▸
@@ -320,7 +320,7 @@ abbrev shared_freed : Program
 shared_freed =
     tree.FunctionItem (function (typed tree.Int []) (named "main") [] (
     (tree.Region 0 (tree.Named (named "r")) (named "h")) ▹
-    (tree.Local (typed tree.Int ((pointer Nullable (Some (tree.Named (named "r")))) ∷ [])) (named "p") (Initializer.Value (Expression.NewIn 0 (variable "h") (One (number 5))))) ▹
+    (tree.Local (typed tree.Int ((pointer (Nullable 1) (Some (tree.Named (named "r")))) ∷ [])) (named "p") (Initializer.Value (Expression.NewIn 0 (variable "h") (One (number 5))))) ▹
     (Statement.FreeUnique 0 (named "p")) ▸
     (Statement.Return 0 (Some (number 0))) ▸
     NoItems)) ∷ []
@@ -335,7 +335,7 @@ shared_freed_opened =
     (tree.NewKey 0 (tree.Named (named "r")) (named "k")) ▹
     (Statement.Block 0 (
     (tree.Open 0 (tree.Named (named "r")) (named "h") (named "k")) ▹
-    (tree.Local (typed tree.Int ((pointer Nullable (Some (tree.Named (named "r")))) ∷ [])) (named "p") (Initializer.Value (Expression.NewIn 0 (variable "h") (One (number 5))))) ▹
+    (tree.Local (typed tree.Int ((pointer (Nullable 1) (Some (tree.Named (named "r")))) ∷ [])) (named "p") (Initializer.Value (Expression.NewIn 0 (variable "h") (One (number 5))))) ▹
     (Statement.FreeUnique 0 (named "p")) ▸
     NoItems)) ▸
     (Statement.Return 0 (Some (number 0))) ▸
@@ -349,9 +349,9 @@ abbrev shared_aliased : Program
 shared_aliased =
     tree.FunctionItem (function (typed tree.Int []) (named "main") [] (
     (tree.Region 0 (tree.Named (named "r")) (named "h")) ▹
-    (tree.Local (typed tree.Int ((pointer Nullable (Some (tree.Named (named "r")))) ∷ [])) (named "p") (Initializer.Value (Expression.NewIn 0 (variable "h") (One (number 5))))) ▹
+    (tree.Local (typed tree.Int ((pointer (Nullable 1) (Some (tree.Named (named "r")))) ∷ [])) (named "p") (Initializer.Value (Expression.NewIn 0 (variable "h") (One (number 5))))) ▹
     (Statement.Block 0 (
-    (tree.Alias 0 (tree.Named (named "s")) (typed tree.Int ((pointer Nullable (Some (tree.Named (named "s")))) ∷ [])) (named "q") (named "p")) ▹
+    (tree.Alias 0 (tree.Named (named "s")) (typed tree.Int ((pointer (Nullable 1) (Some (tree.Named (named "s")))) ∷ [])) (named "q") (named "p")) ▹
     NoItems)) ▸
     (Statement.Return 0 (Some (number 0))) ▸
     NoItems)) ∷ []

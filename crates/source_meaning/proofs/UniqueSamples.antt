@@ -17,7 +17,7 @@ unique_loop =
     tree.FunctionItem (function (typed tree.Int []) (named "main") [] (
     (tree.Local (typed tree.Int []) (named "i") (Initializer.Value (number 0))) ▹
     (Statement.While 0 (Expression.Chain (variable "i") (MoreLinks Less (number 2) NoLinks)) (Statement.Block 0 (
-    (tree.Local (typed (tree.Struct (named "S") []) ((pointer Nullable (Some (tree.Unique 0))) ∷ [])) (named "p") (Initializer.Value (Expression.NewIn 0 (Expression.UniqueRegion 0) (One (Expression.Call (named "S") (MoreExpressions (number 1) (MoreExpressions (number 2) (MoreExpressions (number 3) NoExpressions)))))))) ▹
+    (tree.Local (typed (tree.Struct (named "S") []) ((pointer (Nullable 1) (Some (tree.Unique 0))) ∷ [])) (named "p") (Initializer.Value (Expression.NewIn 0 (Expression.UniqueRegion 0) (One (Expression.Call (named "S") (MoreExpressions (number 1) (MoreExpressions (number 2) (MoreExpressions (number 3) NoExpressions)))))))) ▹
     (Statement.FreeUnique 0 (named "p")) ▸
     (Statement.Run (Expression.Call (named "putchar") (MoreExpressions (number 46) NoExpressions))) ▸
     (Statement.Run (Expression.Assign (variable "i") (Expression.Chain (variable "i") (MoreLinks Add (number 1) NoLinks)))) ▸
@@ -31,12 +31,12 @@ unique_loop_runs = refl
 abbrev freed_before_place : Program
 freed_before_place =
     tree.StructItem (record { at = 0; tag = (named "S"); regions = []; members = ((record { of = (typed tree.Int []); name = (named "f") }) ∷ []) }) ∷
-    tree.FunctionItem (function (typed tree.Int []) (named "g") ((record { of = (typed (tree.Struct (named "S") []) ((pointer Nullable (Some (tree.Unique 0))) ∷ [])); name = (named "p") }) ∷ []) (
+    tree.FunctionItem (function (typed tree.Int []) (named "g") ((record { of = (typed (tree.Struct (named "S") []) ((pointer (Nullable 1) (Some (tree.Unique 0))) ∷ [])); name = (named "p") }) ∷ []) (
     (Statement.FreeUnique 0 (named "p")) ▸
     (Statement.Return 0 (Some (number 1))) ▸
     NoItems)) ∷
     tree.FunctionItem (function (typed tree.Int []) (named "main") [] (
-    (tree.Local (typed (tree.Struct (named "S") []) ((pointer Nullable (Some (tree.Unique 0))) ∷ [])) (named "p") (Initializer.Value (Expression.NewIn 0 (Expression.UniqueRegion 0) (One (Expression.Call (named "S") (MoreExpressions (number 0) NoExpressions)))))) ▹
+    (tree.Local (typed (tree.Struct (named "S") []) ((pointer (Nullable 1) (Some (tree.Unique 0))) ∷ [])) (named "p") (Initializer.Value (Expression.NewIn 0 (Expression.UniqueRegion 0) (One (Expression.Call (named "S") (MoreExpressions (number 0) NoExpressions)))))) ▹
     (Statement.Run (Expression.Assign (Expression.Suffixed (variable "p") (Arrow (named "f") NoSuffixes)) (Expression.Call (named "g") (MoreExpressions (variable "p") NoExpressions)))) ▸
     (Statement.Return 0 (Some (number 0))) ▸
     NoItems)) ∷ []
@@ -48,10 +48,10 @@ freed_before_place_runs = refl
 abbrev aliased : Program
 aliased =
     tree.FunctionItem (function (typed tree.Int []) (named "main") [] (
-    (tree.Local (typed tree.Int ((pointer NotNull (Some (tree.Unique 0))) ∷ [])) (named "p") (Initializer.Value (Expression.NewIn 0 (Expression.UniqueRegion 0) (One (number 4))))) ▹
+    (tree.Local (typed tree.Int ((pointer (NotNull 1) (Some (tree.Unique 0))) ∷ [])) (named "p") (Initializer.Value (Expression.NewIn 0 (Expression.UniqueRegion 0) (One (number 4))))) ▹
     (Statement.Block 0 (
-    (tree.Alias 0 (tree.Named (named "r")) (typed tree.Int ((pointer NotNull (Some (tree.Named (named "r")))) ∷ [])) (named "x") (named "p")) ▹
-    (tree.Local (typed tree.Int ((pointer NotNull (Some (tree.Named (named "r")))) ∷ [])) (named "y") (Initializer.Value (variable "x"))) ▹
+    (tree.Alias 0 (tree.Named (named "r")) (typed tree.Int ((pointer (NotNull 1) (Some (tree.Named (named "r")))) ∷ [])) (named "x") (named "p")) ▹
+    (tree.Local (typed tree.Int ((pointer (NotNull 1) (Some (tree.Named (named "r")))) ∷ [])) (named "y") (Initializer.Value (variable "x"))) ▹
     (Statement.Run (Expression.Assign (Expression.Prefixed 0 Dereference (variable "y")) (Expression.Chain (Expression.Prefixed 0 Dereference (variable "x")) (MoreLinks Add (number 1) NoLinks)))) ▸
     NoItems)) ▸
     (Statement.Return 0 (Some (Expression.Prefixed 0 Dereference (variable "p")))) ▸
@@ -64,10 +64,10 @@ aliased_runs = refl
 abbrev aliased_and_freed : Program
 aliased_and_freed =
     tree.FunctionItem (function (typed tree.Int []) (named "main") [] (
-    (tree.Local (typed tree.Int ((pointer NotNull (Some (tree.Unique 0))) ∷ [])) (named "p") (Initializer.Value (Expression.NewIn 0 (Expression.UniqueRegion 0) (One (number 4))))) ▹
+    (tree.Local (typed tree.Int ((pointer (NotNull 1) (Some (tree.Unique 0))) ∷ [])) (named "p") (Initializer.Value (Expression.NewIn 0 (Expression.UniqueRegion 0) (One (number 4))))) ▹
     (Statement.Block 0 (
-    (tree.Alias 0 (tree.Named (named "r")) (typed tree.Int ((pointer NotNull (Some (tree.Named (named "r")))) ∷ [])) (named "x") (named "p")) ▹
-    (tree.Local (typed tree.Int ((pointer NotNull (Some (tree.Named (named "r")))) ∷ [])) (named "y") (Initializer.Value (variable "x"))) ▹
+    (tree.Alias 0 (tree.Named (named "r")) (typed tree.Int ((pointer (NotNull 1) (Some (tree.Named (named "r")))) ∷ [])) (named "x") (named "p")) ▹
+    (tree.Local (typed tree.Int ((pointer (NotNull 1) (Some (tree.Named (named "r")))) ∷ [])) (named "y") (Initializer.Value (variable "x"))) ▹
     (Statement.Run (Expression.Assign (Expression.Prefixed 0 Dereference (variable "y")) (Expression.Chain (Expression.Prefixed 0 Dereference (variable "x")) (MoreLinks Add (number 1) NoLinks)))) ▸
     (Statement.FreeUnique 0 (named "p")) ▸
     NoItems)) ▸
@@ -80,10 +80,10 @@ aliased_and_freed_runs = refl
 -- struct B { int *`U p; }; int main() { struct B @b = new B(rnew(unique_region) 3); int *`U t = NULL; t :=: b->p; int r = *t; ufree(t); return r; }
 abbrev exchanged : Program
 exchanged =
-    tree.StructItem (record { at = 0; tag = (named "B"); regions = []; members = ((record { of = (typed tree.Int ((pointer Nullable (Some (tree.Unique 0))) ∷ [])); name = (named "p") }) ∷ []) }) ∷
+    tree.StructItem (record { at = 0; tag = (named "B"); regions = []; members = ((record { of = (typed tree.Int ((pointer (Nullable 1) (Some (tree.Unique 0))) ∷ [])); name = (named "p") }) ∷ []) }) ∷
     tree.FunctionItem (function (typed tree.Int []) (named "main") [] (
-    (tree.Local (typed (tree.Struct (named "B") []) ((pointer NotNull None) ∷ [])) (named "b") (Initializer.Value (Expression.New 0 (One (Expression.Call (named "B") (MoreExpressions (Expression.NewIn 0 (Expression.UniqueRegion 0) (One (number 3))) NoExpressions)))))) ▹
-    (tree.Local (typed tree.Int ((pointer Nullable (Some (tree.Unique 0))) ∷ [])) (named "t") (Initializer.Value (Expression.Null 0))) ▹
+    (tree.Local (typed (tree.Struct (named "B") []) ((pointer (NotNull 1) None) ∷ [])) (named "b") (Initializer.Value (Expression.New 0 (One (Expression.Call (named "B") (MoreExpressions (Expression.NewIn 0 (Expression.UniqueRegion 0) (One (number 3))) NoExpressions)))))) ▹
+    (tree.Local (typed tree.Int ((pointer (Nullable 1) (Some (tree.Unique 0))) ∷ [])) (named "t") (Initializer.Value (Expression.Null 0))) ▹
     (Statement.Exchange (variable "t") (Expression.Suffixed (variable "b") (Arrow (named "p") NoSuffixes))) ▸
     (tree.Local (typed tree.Int []) (named "r") (Initializer.Value (Expression.Prefixed 0 Dereference (variable "t")))) ▹
     (Statement.FreeUnique 0 (named "t")) ▸
@@ -96,13 +96,13 @@ exchanged_runs = refl
 -- struct B { int *`U p; }; struct B @g(struct B *`U b) { ufree(b); return new B(NULL); } int main() { struct B *`U b = rnew(unique_region) B(NULL); b->p :=: g(b)->p; return 0; }
 abbrev exchanged_with_freed : Program
 exchanged_with_freed =
-    tree.StructItem (record { at = 0; tag = (named "B"); regions = []; members = ((record { of = (typed tree.Int ((pointer Nullable (Some (tree.Unique 0))) ∷ [])); name = (named "p") }) ∷ []) }) ∷
-    tree.FunctionItem (function (typed (tree.Struct (named "B") []) ((pointer NotNull None) ∷ [])) (named "g") ((record { of = (typed (tree.Struct (named "B") []) ((pointer Nullable (Some (tree.Unique 0))) ∷ [])); name = (named "b") }) ∷ []) (
+    tree.StructItem (record { at = 0; tag = (named "B"); regions = []; members = ((record { of = (typed tree.Int ((pointer (Nullable 1) (Some (tree.Unique 0))) ∷ [])); name = (named "p") }) ∷ []) }) ∷
+    tree.FunctionItem (function (typed (tree.Struct (named "B") []) ((pointer (NotNull 1) None) ∷ [])) (named "g") ((record { of = (typed (tree.Struct (named "B") []) ((pointer (Nullable 1) (Some (tree.Unique 0))) ∷ [])); name = (named "b") }) ∷ []) (
     (Statement.FreeUnique 0 (named "b")) ▸
     (Statement.Return 0 (Some (Expression.New 0 (One (Expression.Call (named "B") (MoreExpressions (Expression.Null 0) NoExpressions)))))) ▸
     NoItems)) ∷
     tree.FunctionItem (function (typed tree.Int []) (named "main") [] (
-    (tree.Local (typed (tree.Struct (named "B") []) ((pointer Nullable (Some (tree.Unique 0))) ∷ [])) (named "b") (Initializer.Value (Expression.NewIn 0 (Expression.UniqueRegion 0) (One (Expression.Call (named "B") (MoreExpressions (Expression.Null 0) NoExpressions)))))) ▹
+    (tree.Local (typed (tree.Struct (named "B") []) ((pointer (Nullable 1) (Some (tree.Unique 0))) ∷ [])) (named "b") (Initializer.Value (Expression.NewIn 0 (Expression.UniqueRegion 0) (One (Expression.Call (named "B") (MoreExpressions (Expression.Null 0) NoExpressions)))))) ▹
     (Statement.Exchange (Expression.Suffixed (variable "b") (Arrow (named "p") NoSuffixes)) (Expression.Suffixed (Expression.Call (named "g") (MoreExpressions (variable "b") NoExpressions)) (Arrow (named "p") NoSuffixes))) ▸
     (Statement.Return 0 (Some (number 0))) ▸
     NoItems)) ∷ []
@@ -114,8 +114,8 @@ exchanged_with_freed_runs = refl
 abbrev moved_and_read : Program
 moved_and_read =
     tree.FunctionItem (function (typed tree.Int []) (named "main") [] (
-    (tree.Local (typed tree.Int ((pointer Nullable None) ∷ [])) (named "p") (Initializer.Value (Expression.NewIn 0 (Expression.UniqueRegion 0) (One (number 3))))) ▹
-    (tree.Local (typed tree.Int ((pointer Nullable None) ∷ [])) (named "q") (Initializer.Value (variable "p"))) ▹
+    (tree.Local (typed tree.Int ((pointer (Nullable 1) None) ∷ [])) (named "p") (Initializer.Value (Expression.NewIn 0 (Expression.UniqueRegion 0) (One (number 3))))) ▹
+    (tree.Local (typed tree.Int ((pointer (Nullable 1) None) ∷ [])) (named "q") (Initializer.Value (variable "p"))) ▹
     (Statement.FreeUnique 0 (named "q")) ▸
     (Statement.Return 0 (Some (Expression.Prefixed 0 Dereference (variable "p")))) ▸
     NoItems)) ∷ []
@@ -127,7 +127,7 @@ moved_and_read_runs = refl
 abbrev null_freed : Program
 null_freed =
     tree.FunctionItem (function (typed tree.Int []) (named "main") [] (
-    (tree.Local (typed tree.Int ((pointer Nullable (Some (tree.Unique 0))) ∷ [])) (named "p") (Initializer.Value (Expression.Null 0))) ▹
+    (tree.Local (typed tree.Int ((pointer (Nullable 1) (Some (tree.Unique 0))) ∷ [])) (named "p") (Initializer.Value (Expression.Null 0))) ▹
     (Statement.FreeUnique 0 (named "p")) ▸
     (Statement.Return 0 (Some (number 0))) ▸
     NoItems)) ∷ []
@@ -138,7 +138,7 @@ null_freed_runs = refl
 -- struct B { int n; int *`U p; }; int main() { struct B a = B(1, NULL); struct B b = a; return a.n; }
 abbrev struct_moved : Program
 struct_moved =
-    tree.StructItem (record { at = 0; tag = (named "B"); regions = []; members = ((record { of = (typed tree.Int []); name = (named "n") }) ∷ (record { of = (typed tree.Int ((pointer Nullable (Some (tree.Unique 0))) ∷ [])); name = (named "p") }) ∷ []) }) ∷
+    tree.StructItem (record { at = 0; tag = (named "B"); regions = []; members = ((record { of = (typed tree.Int []); name = (named "n") }) ∷ (record { of = (typed tree.Int ((pointer (Nullable 1) (Some (tree.Unique 0))) ∷ [])); name = (named "p") }) ∷ []) }) ∷
     tree.FunctionItem (function (typed tree.Int []) (named "main") [] (
     (tree.Local (typed (tree.Struct (named "B") []) []) (named "a") (Initializer.Value (Expression.Call (named "B") (MoreExpressions (number 1) (MoreExpressions (Expression.Null 0) NoExpressions))))) ▹
     (tree.Local (typed (tree.Struct (named "B") []) []) (named "b") (Initializer.Value (variable "a"))) ▹
@@ -152,7 +152,7 @@ struct_moved_runs = refl
 abbrev assigned_again : Program
 assigned_again =
     tree.FunctionItem (function (typed tree.Int []) (named "main") [] (
-    (tree.Local (typed tree.Int ((pointer Nullable (Some (tree.Unique 0))) ∷ [])) (named "p") (Initializer.Value (Expression.Null 0))) ▹
+    (tree.Local (typed tree.Int ((pointer (Nullable 1) (Some (tree.Unique 0))) ∷ [])) (named "p") (Initializer.Value (Expression.Null 0))) ▹
     (Statement.FreeUnique 0 (named "p")) ▸
     (Statement.Run (Expression.Assign (variable "p") (Expression.NewIn 0 (Expression.UniqueRegion 0) (One (number 2))))) ▸
     (tree.Local (typed tree.Int []) (named "r") (Initializer.Value (Expression.Prefixed 0 Dereference (variable "p")))) ▹
@@ -167,9 +167,9 @@ assigned_again_runs = refl
 abbrev alias_restored : Program
 alias_restored =
     tree.FunctionItem (function (typed tree.Int []) (named "main") [] (
-    (tree.Local (typed tree.Int ((pointer NotNull (Some (tree.Unique 0))) ∷ [])) (named "p") (Initializer.Value (Expression.NewIn 0 (Expression.UniqueRegion 0) (One (number 4))))) ▹
+    (tree.Local (typed tree.Int ((pointer (NotNull 1) (Some (tree.Unique 0))) ∷ [])) (named "p") (Initializer.Value (Expression.NewIn 0 (Expression.UniqueRegion 0) (One (number 4))))) ▹
     (Statement.While 0 (number 1) (Statement.Block 0 (
-    (tree.Alias 0 (tree.Named (named "r")) (typed tree.Int ((pointer NotNull (Some (tree.Named (named "r")))) ∷ [])) (named "x") (named "p")) ▹
+    (tree.Alias 0 (tree.Named (named "r")) (typed tree.Int ((pointer (NotNull 1) (Some (tree.Named (named "r")))) ∷ [])) (named "x") (named "p")) ▹
     (Statement.Run (Expression.Assign (Expression.Prefixed 0 Dereference (variable "x")) (number 6))) ▸
     (Statement.Break 0) ▸
     NoItems))) ▸
@@ -185,9 +185,9 @@ alias_restored_runs = refl
 abbrev alias_takes_inner_regions : Program
 alias_takes_inner_regions =
     tree.FunctionItem (function (typed tree.Int []) (named "main") [] (
-    (tree.Local (typed tree.Int ((pointer NotNull (Some (tree.Unique 0))) ∷ (pointer NotNull (Some (tree.Unique 0))) ∷ [])) (named "p") (Initializer.Value (Expression.NewIn 0 (Expression.UniqueRegion 0) (One (Expression.NewIn 0 (Expression.UniqueRegion 0) (One (number 3))))))) ▹
-    (tree.Alias 0 (tree.Named (named "r")) (typed tree.Int ((pointer NotNull None) ∷ (pointer NotNull (Some (tree.Named (named "r")))) ∷ [])) (named "x") (named "p")) ▹
-    (tree.Local (typed tree.Int ((pointer NotNull None) ∷ [])) (named "y") (Initializer.Value (Expression.Prefixed 0 Dereference (variable "x")))) ▹
+    (tree.Local (typed tree.Int ((pointer (NotNull 1) (Some (tree.Unique 0))) ∷ (pointer (NotNull 1) (Some (tree.Unique 0))) ∷ [])) (named "p") (Initializer.Value (Expression.NewIn 0 (Expression.UniqueRegion 0) (One (Expression.NewIn 0 (Expression.UniqueRegion 0) (One (number 3))))))) ▹
+    (tree.Alias 0 (tree.Named (named "r")) (typed tree.Int ((pointer (NotNull 1) None) ∷ (pointer (NotNull 1) (Some (tree.Named (named "r")))) ∷ [])) (named "x") (named "p")) ▹
+    (tree.Local (typed tree.Int ((pointer (NotNull 1) None) ∷ [])) (named "y") (Initializer.Value (Expression.Prefixed 0 Dereference (variable "x")))) ▹
     (Statement.Return 0 (Some (Expression.Prefixed 0 Dereference (Expression.Prefixed 0 Dereference (variable "x"))))) ▸
     NoItems)) ∷ []
 
@@ -197,13 +197,13 @@ alias_takes_inner_regions_runs = refl
 -- int g(int *`U p) { int r = *p; ufree(p); return r; } int main() { int *`U p = rnew(unique_region) 3; return g(p) + g(p); }
 abbrev moved_into_a_call : Program
 moved_into_a_call =
-    tree.FunctionItem (function (typed tree.Int []) (named "g") ((record { of = (typed tree.Int ((pointer Nullable (Some (tree.Unique 0))) ∷ [])); name = (named "p") }) ∷ []) (
+    tree.FunctionItem (function (typed tree.Int []) (named "g") ((record { of = (typed tree.Int ((pointer (Nullable 1) (Some (tree.Unique 0))) ∷ [])); name = (named "p") }) ∷ []) (
     (tree.Local (typed tree.Int []) (named "r") (Initializer.Value (Expression.Prefixed 0 Dereference (variable "p")))) ▹
     (Statement.FreeUnique 0 (named "p")) ▸
     (Statement.Return 0 (Some (variable "r"))) ▸
     NoItems)) ∷
     tree.FunctionItem (function (typed tree.Int []) (named "main") [] (
-    (tree.Local (typed tree.Int ((pointer Nullable (Some (tree.Unique 0))) ∷ [])) (named "p") (Initializer.Value (Expression.NewIn 0 (Expression.UniqueRegion 0) (One (number 3))))) ▹
+    (tree.Local (typed tree.Int ((pointer (Nullable 1) (Some (tree.Unique 0))) ∷ [])) (named "p") (Initializer.Value (Expression.NewIn 0 (Expression.UniqueRegion 0) (One (number 3))))) ▹
     (Statement.Return 0 (Some (Expression.Chain (Expression.Call (named "g") (MoreExpressions (variable "p") NoExpressions)) (MoreLinks Add (Expression.Call (named "g") (MoreExpressions (variable "p") NoExpressions)) NoLinks)))) ▸
     NoItems)) ∷ []
 
@@ -214,8 +214,8 @@ moved_into_a_call_runs = refl
 abbrev moved_by_its_making : Program
 moved_by_its_making =
     tree.FunctionItem (function (typed tree.Int []) (named "main") [] (
-    (tree.Local (typed tree.Int ((pointer Nullable None) ∷ [])) (named "p") (Initializer.Value (Expression.NewIn 0 (Expression.UniqueRegion 0) (One (number 3))))) ▹
-    (tree.Local (typed tree.Int ((pointer Nullable None) ∷ [])) (named "q") (Initializer.Value (variable "p"))) ▹
+    (tree.Local (typed tree.Int ((pointer (Nullable 1) None) ∷ [])) (named "p") (Initializer.Value (Expression.NewIn 0 (Expression.UniqueRegion 0) (One (number 3))))) ▹
+    (tree.Local (typed tree.Int ((pointer (Nullable 1) None) ∷ [])) (named "q") (Initializer.Value (variable "p"))) ▹
     (Statement.Return 0 (Some (Expression.Prefixed 0 Dereference (variable "p")))) ▸
     NoItems)) ∷ []
 
@@ -226,7 +226,7 @@ moved_by_its_making_runs = refl
 abbrev freed_and_tested : Program
 freed_and_tested =
     tree.FunctionItem (function (typed tree.Int []) (named "main") [] (
-    (tree.Local (typed tree.Int ((pointer Nullable (Some (tree.Unique 0))) ∷ [])) (named "p") (Initializer.Value (Expression.NewIn 0 (Expression.UniqueRegion 0) (One (number 3))))) ▹
+    (tree.Local (typed tree.Int ((pointer (Nullable 1) (Some (tree.Unique 0))) ∷ [])) (named "p") (Initializer.Value (Expression.NewIn 0 (Expression.UniqueRegion 0) (One (number 3))))) ▹
     (Statement.FreeUnique 0 (named "p")) ▸
     (Statement.Return 0 (Some (Expression.Chain (variable "p") (MoreLinks Equal (Expression.Null 0) NoLinks)))) ▸
     NoItems)) ∷ []
@@ -238,8 +238,8 @@ freed_and_tested_runs = refl
 abbrev lent_and_assigned : Program
 lent_and_assigned =
     tree.FunctionItem (function (typed tree.Int []) (named "main") [] (
-    (tree.Local (typed tree.Int ((pointer Nullable (Some (tree.Unique 0))) ∷ [])) (named "p") (Initializer.Value (Expression.NewIn 0 (Expression.UniqueRegion 0) (One (number 3))))) ▹
-    (tree.Alias 0 (tree.Named (named "r")) (typed tree.Int ((pointer Nullable (Some (tree.Named (named "r")))) ∷ [])) (named "x") (named "p")) ▹
+    (tree.Local (typed tree.Int ((pointer (Nullable 1) (Some (tree.Unique 0))) ∷ [])) (named "p") (Initializer.Value (Expression.NewIn 0 (Expression.UniqueRegion 0) (One (number 3))))) ▹
+    (tree.Alias 0 (tree.Named (named "r")) (typed tree.Int ((pointer (Nullable 1) (Some (tree.Named (named "r")))) ∷ [])) (named "x") (named "p")) ▹
     (Statement.Run (Expression.Assign (variable "p") (Expression.Null 0))) ▸
     (Statement.Return 0 (Some (number 0))) ▸
     NoItems)) ∷ []
@@ -251,10 +251,10 @@ lent_and_assigned_runs = refl
 abbrev freed_twice : Program
 freed_twice =
     tree.FunctionItem (function (typed tree.Int []) (named "main") [] (
-    (tree.Local (typed tree.Int ((pointer Nullable (Some (tree.Unique 0))) ∷ [])) (named "p") (Initializer.Value (Expression.NewIn 0 (Expression.UniqueRegion 0) (One (number 3))))) ▹
-    (tree.Local (typed tree.Int ((pointer Nullable (Some (tree.Heap 0))) ∷ [])) (named "s") (Initializer.Value (Expression.Null 0))) ▹
+    (tree.Local (typed tree.Int ((pointer (Nullable 1) (Some (tree.Unique 0))) ∷ [])) (named "p") (Initializer.Value (Expression.NewIn 0 (Expression.UniqueRegion 0) (One (number 3))))) ▹
+    (tree.Local (typed tree.Int ((pointer (Nullable 1) (Some (tree.Heap 0))) ∷ [])) (named "s") (Initializer.Value (Expression.Null 0))) ▹
     (Statement.Block 0 (
-    (tree.Alias 0 (tree.Named (named "r")) (typed tree.Int ((pointer Nullable (Some (tree.Named (named "r")))) ∷ [])) (named "x") (named "p")) ▹
+    (tree.Alias 0 (tree.Named (named "r")) (typed tree.Int ((pointer (Nullable 1) (Some (tree.Named (named "r")))) ∷ [])) (named "x") (named "p")) ▹
     (Statement.Run (Expression.Assign (variable "s") (variable "x"))) ▸
     NoItems)) ▸
     (Statement.FreeUnique 0 (named "p")) ▸

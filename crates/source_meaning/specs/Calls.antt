@@ -5,7 +5,7 @@ use Rattle.cyc_tree.specs.declared.expression.Operator.TheVariants.{Subtract, Bi
 use Rattle.cyc_tree.specs.declared.expression.Prefix.{Prefix}
 use Rattle.cyc_tree.specs.declared.expression.Prefix.TheVariants.{Negate, Not, Complement, Dereference, AddressOf}
 use Rattle.cyc_words.specs.Events.{ByteWritten}
-use Rattle.source_meaning.specs.Shapes.{Owner, Shared, Alone, Shape, IntShape, UnsignedShape, CharShape, ThinShape, FatShape, StructShape, UnionShape, parts_of, has_tag, part_position, part_shape, part_shapes}
+use Rattle.source_meaning.specs.Shapes.{Owner, Shared, Alone, Shape, IntShape, UnsignedShape, CharShape, NeverNull, ThinShape, FatShape, StructShape, UnionShape, parts_of, has_tag, part_position, part_shape, part_shapes}
 use Rattle.source_meaning.specs.Memory.{IntegerType, AsInt, AsUnsigned, AsChar, Spot, Scalar, Integer, Thin, Wide, Tagged, beyond, array_of, blank_cell, blank_object}
 use Rattle.source_meaning.specs.Steps.{Routine, World, Reads, Act, give, ◌>>=◌, ◌>>◌, stuck, show, pay, invoke, memory, need, choose}
 use Rattle.source_meaning.specs.Operators.{truth_value, operated, is_true, operator_shape}
@@ -140,7 +140,7 @@ union_made w tag f e =
 -- `new` and `rnew`: the handle is evaluated, then the value, then memory is asked for, and then the value is stored
 abbrev pub made : World → Act Maker → Owner → Sense → Sense
 made w where_to owner e =
-    value_sense (ThinShape false owner e.shape)
+    value_sense (ThinShape (NeverNull 1) owner e.shape)
     (where_to >>= λ to. e.value >>= λ vs. ask to (size_of w e.shape) (blank_object (cells_of w e.shape)) >>= λ s.
     write_cells s vs >> give (Thin (Some s) ∷ []))
 

@@ -1,7 +1,7 @@
 -- Conversions: what a value becomes where it is stored, passed or returned.
-use Rattle.std.specs.Prelude.{ℕ, ◌*◌, ◌%◌, Bool, true, false, ◌&&◌, Option, Some, None, List, [], ◌∷◌, length, nat_lt, if◌then◌else◌}
+use Rattle.std.specs.Prelude.{ℕ, ◌^◌, ◌-◌, nat_le, ◌*◌, ◌%◌, ◌&&◌, Option, Some, None, List, [], ◌∷◌, length, nat_lt, if◌then◌else◌}
 use Rattle.cyc_words.specs.declared.faults.Kind.TheVariants.{NullException, ArrayBounds}
-use Rattle.source_meaning.specs.Shapes.{Owner, Shared, Shape, IntShape, UnsignedShape, CharShape, ThinShape, FatShape, same_shape, goes_to, pointee}
+use Rattle.source_meaning.specs.Shapes.{Reach, MayBeNull, NeverNull, bound_in, Owner, Shared, Shape, IntShape, UnsignedShape, CharShape, ThinShape, FatShape, same_shape, goes_to, pointee}
 use Rattle.source_meaning.specs.Sizes.{cells_by, struct_cells, extent_by, struct_extent, union_extent}
 use Rattle.source_meaning.specs.Memory.{AsInt, AsUnsigned, AsChar, Spot, Span, Scalar, Integer, Thin, Wide, beyond}
 use Rattle.source_meaning.specs.Steps.{World, Act, give, ◌>>=◌, ◌>>◌, stuck, raise, check}
@@ -19,22 +19,28 @@ abbrev pub element : ℕ → Option Span → Act Spot
 element cells None = raise NullException
 element cells (Some s) = (if nat_lt s.index s.count then give (beyond s.first (s.index * cells)) else raise ArrayBounds)
 
--- thin to thin: where the place never holds NULL, NULL raises
-abbrev pub thin_to_thin : Bool → Option Spot → Act Scalar
-thin_to_thin true p = give (Thin p)
-thin_to_thin false None = raise NullException
-thin_to_thin false (Some s) = give (Thin (Some s))
+-- thin to thin: where the place never holds NULL, NULL raises; a pointer to so many elements becomes one to no more
+abbrev pub thin_to_thin : Reach → ℕ → Option Spot → Act Scalar
+thin_to_thin (MayBeNull count) all None = give (Thin None)
+thin_to_thin (MayBeNull count) all (Some s) = check (nat_le (count % 2 ^ 32) all) >> give (Thin (Some s))
+thin_to_thin (NeverNull count) all None = raise NullException
+thin_to_thin (NeverNull count) all (Some s) = check (nat_le (count % 2 ^ 32) all) >> give (Thin (Some s))
 
--- fat to thin: NULL stays NULL or raises; otherwise the current element has to be in bounds
-abbrev pub fat_to_thin : Bool → ℕ → Option Span → Act Scalar
-fat_to_thin true cells None = give (Thin None)
-fat_to_thin true cells (Some s) = element cells (Some s) >>= λ at. give (Thin (Some at))
-fat_to_thin false cells p = element cells p >>= λ at. give (Thin (Some at))
+-- the current element of a fat pointer, where so many elements are left from there on
+abbrev pub elements_from : (cells count : ℕ) → Option Span → Act Spot
+elements_from cells count None = raise NullException
+elements_from cells count (Some s) = element cells (Some s) >>= λ at. (if nat_le count (s.count - s.index) then give at else raise ArrayBounds)
 
--- thin to fat: one element, at index 0; NULL stays NULL
-abbrev pub thin_to_fat : Option Spot → Scalar
-thin_to_fat None = Wide None
-thin_to_fat (Some s) = Wide (Some (record { first = s; count = 1; index = 0 }))
+-- fat to thin: NULL stays NULL or raises; otherwise the elements from the current one on have to be in bounds
+abbrev pub fat_to_thin : Reach → ℕ → Option Span → Act Scalar
+fat_to_thin (MayBeNull count) cells None = give (Thin None)
+fat_to_thin (MayBeNull count) cells (Some s) = elements_from cells (count % 2 ^ 32) (Some s) >>= λ at. give (Thin (Some at))
+fat_to_thin (NeverNull count) cells p = elements_from cells (count % 2 ^ 32) p >>= λ at. give (Thin (Some at))
+
+-- thin to fat: so many elements as its bound says, at index 0; NULL stays NULL
+abbrev pub thin_to_fat : ℕ → Option Spot → Scalar
+thin_to_fat all None = Wide None
+thin_to_fat all (Some s) = Wide (Some (record { first = s; count = all; index = 0 }))
 
 -- a pointer leads to what the place's shape says, as the shape of its own type does
 abbrev pub leads : Owner → Shape → Shape → Act (Unit {0})
@@ -54,9 +60,9 @@ abbrev pub converted_scalar : World → Shape → Shape → Scalar → Act Scala
 converted_scalar w IntShape from (Integer t x) = give (Integer AsInt x)
 converted_scalar w UnsignedShape from (Integer t x) = give (Integer AsUnsigned x)
 converted_scalar w CharShape from (Integer t x) = give (Integer AsChar (x % 256))
-converted_scalar w (ThinShape may_be_null owner to) from (Thin p) = thin_leads owner to from p >> thin_to_thin may_be_null p
-converted_scalar w (ThinShape may_be_null owner to) from (Wide p) = fat_leads owner to from p >> fat_to_thin may_be_null (length (cells_of w to)) p
-converted_scalar w (FatShape to) from (Thin p) = thin_leads Shared to from p >> give (thin_to_fat p)
+converted_scalar w (ThinShape bound owner to) from (Thin p) = thin_leads owner to from p >> thin_to_thin bound (bound_in from) p
+converted_scalar w (ThinShape bound owner to) from (Wide p) = fat_leads owner to from p >> fat_to_thin bound (length (cells_of w to)) p
+converted_scalar w (FatShape to) from (Thin p) = thin_leads Shared to from p >> give (thin_to_fat (bound_in from) p)
 converted_scalar w (FatShape to) from (Wide p) = fat_leads Shared to from p >> give (Wide p)
 converted_scalar w s from v = check (same_shape s from) >> give v
 

@@ -1,7 +1,7 @@
 -- What an expression denotes in a scope.
 use Rattle.std.specs.Prelude.{Bool, true, false, None, List, [], ◌∷◌}
 use Rattle.cyc_tree.specs.Tree.{Expression, Expressions, NoExpressions, MoreExpressions, Links, NoLinks, MoreLinks, Suffixes, NoSuffixes, Index, Dot, Arrow, Made, One, Array}
-use Rattle.source_meaning.specs.Shapes.{Shared, CharShape, UnsignedShape, VoidShape, ThinShape, FatShape, HandleShape}
+use Rattle.source_meaning.specs.Shapes.{Shared, CharShape, UnsignedShape, VoidShape, MayBeNull, ThinShape, FatShape, HandleShape}
 use Rattle.source_meaning.specs.Memory.{AsUnsigned, AsChar, Integer, Thin, HandleOf}
 use Rattle.source_meaning.specs.Steps.{Fixed, Scope, give, ◌>>=◌, need}
 use Rattle.source_meaning.specs.Making.{heap_maker}
@@ -20,7 +20,7 @@ abbrev mutual
   sense (Expression.Number at value suffix) scope = constant (number_type value suffix) value
   sense (Expression.Character at byte) scope = constant AsChar byte
   sense (Expression.Text at bytes) scope = value_sense (FatShape CharShape) (need (string_at scope.world.strings at) >>= λ v. give (v ∷ []))
-  sense (Expression.Null at) scope = value_sense (ThinShape true Shared VoidShape) (give (Thin None ∷ []))
+  sense (Expression.Null at) scope = value_sense (ThinShape (MayBeNull 1) Shared VoidShape) (give (Thin None ∷ []))
   -- the heap is the birth 0
   sense (Expression.HeapRegion at) scope = value_sense HandleShape (give (HandleOf 0 ∷ []))
   sense (Expression.UniqueRegion at) scope = no_sense

@@ -1,6 +1,6 @@
 -- Values, cells, and memory by regions.
 use Rattle.std.specs.Prelude.{ℕ, ◌+◌, Bool, true, false, ◌&&◌, Option, Some, None, List, [], ◌∷◌, map, slice_get, nat_eq, nat_lt, ◌*◌, ◌%◌, length, if◌then◌else◌}
-use Rattle.source_meaning.specs.Shapes.{Owner, Shared, Alone, Unsaid, Shape, IntShape, UnsignedShape, CharShape, ThinShape, FatShape, HandleShape, KeyShape, UnionShape}
+use Rattle.source_meaning.specs.Shapes.{Owner, Shared, Alone, Unsaid, Shape, IntShape, UnsignedShape, CharShape, MayBeNull, NeverNull, ThinShape, FatShape, HandleShape, KeyShape, UnionShape}
 
 -- ---- values
 
@@ -156,7 +156,7 @@ is_alone Unsaid = false
 
 -- a unique pointer and a key can't be copied: reading one moves it
 abbrev pub is_moved : Shape → Bool
-is_moved (ThinShape may_be_null owner to) = is_alone owner
+is_moved (ThinShape bound owner to) = is_alone owner
 is_moved KeyShape = true
 is_moved s = false
 
@@ -170,8 +170,8 @@ abbrev pub is_of : Shape → Scalar → Bool
 is_of IntShape (Integer AsInt n) = true
 is_of UnsignedShape (Integer AsUnsigned n) = true
 is_of CharShape (Integer AsChar n) = true
-is_of (ThinShape true owner to) (Thin p) = true
-is_of (ThinShape false owner to) (Thin (Some p)) = true
+is_of (ThinShape (MayBeNull count) owner to) (Thin p) = true
+is_of (ThinShape (NeverNull count) owner to) (Thin (Some p)) = true
 is_of (FatShape to) (Wide p) = true
 is_of HandleShape (HandleOf r) = true
 is_of KeyShape (KeyOf r) = true
@@ -183,7 +183,7 @@ abbrev pub first_content : Shape → Content
 first_content IntShape = Holds (Integer AsInt 0)
 first_content UnsignedShape = Holds (Integer AsUnsigned 0)
 first_content CharShape = Holds (Integer AsChar 0)
-first_content (ThinShape true owner to) = Holds (Thin None)
+first_content (ThinShape (MayBeNull count) owner to) = Holds (Thin None)
 first_content (FatShape to) = Holds (Wide None)
 first_content s = Blank
 

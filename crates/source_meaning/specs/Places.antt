@@ -1,7 +1,7 @@
 -- What an expression denotes, and the expressions that name places.
-use Rattle.std.specs.Prelude.{ℕ, false, Option, Some, None, List, [], ◌∷◌, length, nat_eq, bytes_eq, if◌then◌else◌}
+use Rattle.std.specs.Prelude.{ℕ, ◌+◌, Option, Some, None, List, [], ◌∷◌, length, nat_eq, bytes_eq, if◌then◌else◌, option_map}
 use Rattle.cyc_words.specs.Words.{sum_of}
-use Rattle.source_meaning.specs.Shapes.{Shared, Alone, Shape, VoidShape, ThinShape, FatShape, KeyShape, StructShape, UnionShape, ArrayShape, Part, parts_of, part_shape, pointee}
+use Rattle.source_meaning.specs.Shapes.{Shared, Alone, Shape, VoidShape, NeverNull, ThinShape, FatShape, KeyShape, StructShape, UnionShape, ArrayShape, Part, bound_in, parts_of, part_shape, pointee}
 use Rattle.source_meaning.specs.Sizes.{cells_before}
 use Rattle.source_meaning.specs.Memory.{Spot, Scalar, Thin, Wide, beyond}
 use Rattle.source_meaning.specs.Steps.{Entity, Variable, Fixed, Binding, World, Scope, Act, give, ◌>>=◌, ◌>>◌, stuck}
@@ -70,6 +70,16 @@ abbrev pub string_at : List (ℕ × Scalar) → ℕ → Option Scalar
 string_at [] at = None
 string_at (s ∷ ss) at = (if nat_eq s.0 at then Some s.1 else string_at ss at)
 
+-- A string's value, if it has so many elements; else NULL.
+abbrev pub own_string : ℕ → Scalar → Scalar
+own_string count (Wide (Some s)) = Wide (if nat_eq s.count count then Some s else None)
+own_string count v = v
+
+-- The string of a literal by its place and bytes: it has them and a final 0. (A text has one literal at a place. A tree that isn't a text's may have two: the
+-- other one has NULL, unless it has as many bytes.)
+abbrev pub literal_string : List (ℕ × Scalar) → (at : ℕ) (bytes : List ℕ) → Option Scalar
+literal_string strings at bytes = option_map (own_string (length bytes + 1)) (string_at strings at)
+
 -- ---- places
 
 -- *e, whose pointer is looked at
@@ -77,17 +87,19 @@ abbrev pub contents : World → Sense → Sense
 contents w e =
     place_sense w (pointee e.shape) (e.look >>= one >>= λ p. accessed (length (cells_of w (pointee e.shape))) p)
 
--- the fat pointer moved by an index, which wraps
-abbrev pub indexed_span : ℕ → Scalar → Act Scalar
-indexed_span k (Wide None) = give (Wide None)
-indexed_span k (Wide (Some s)) = give (Wide (Some (record s { index = sum_of s.index k })))
-indexed_span k v = stuck
+-- The fat pointer moved by an index, which wraps. A thin pointer leads to so many elements, of which the index says one.
+abbrev pub indexed_span : (all k : ℕ) → Scalar → Act Scalar
+indexed_span all k (Wide None) = give (Wide None)
+indexed_span all k (Wide (Some s)) = give (Wide (Some (record s { index = sum_of s.index k })))
+indexed_span all k (Thin None) = give (Wide None)
+indexed_span all k (Thin (Some s)) = give (Wide (Some (record { first = s; count = all; index = k })))
+indexed_span all k v = stuck
 
 -- a[b]: b goes before a
 abbrev pub indexed : World → Sense → Sense → Sense
 indexed w a b =
     place_sense w (pointee a.shape)
-    (b.look >>= one >>= integer >>= λ k. a.look >>= one >>= indexed_span k >>= λ p.
+    (b.look >>= one >>= integer >>= λ k. a.look >>= one >>= indexed_span (bound_in a.shape) k >>= λ p.
     accessed (length (cells_of w (pointee a.shape))) p)
 
 -- the members of a struct
@@ -103,13 +115,13 @@ member w e f =
 
 -- &e makes the checks of an access to the place, and gives a pointer that is never NULL
 abbrev pub address_of : Sense → Sense
-address_of e = value_sense (ThinShape false Shared e.shape) (e.place >>= λ s. give (Thin (Some s) ∷ []))
+address_of e = value_sense (ThinShape (NeverNull 1) Shared e.shape) (e.place >>= λ s. give (Thin (Some s) ∷ []))
 
 -- what an assignment gives: what is stored; a struct, a union, a unique pointer and a key give nothing
 abbrev pub given_by : Shape → List Scalar → List Scalar
 given_by (StructShape tag) vs = []
 given_by (UnionShape tag) vs = []
-given_by (ThinShape may_be_null Alone to) vs = []
+given_by (ThinShape bound Alone to) vs = []
 given_by KeyShape vs = []
 given_by s vs = vs
 

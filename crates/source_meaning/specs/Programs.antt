@@ -1,15 +1,15 @@
 -- What a program does on an input, with n units of fuel.
-use Rattle.std.specs.Prelude.{ℕ, suc, ◌+◌, ◌%◌, ◌^◌, Bool, true, None, List, [], ◌∷◌, ◌++◌, map, length, slice_get, option_and_then, bytes_eq, codes, if◌then◌else◌}
+use Rattle.std.specs.Prelude.{ℕ, suc, ◌+◌, ◌%◌, ◌^◌, Bool, None, List, [], ◌∷◌, ◌++◌, map, length, slice_get, option_and_then, bytes_eq, codes, if◌then◌else◌}
 use Rattle.cyc_tree.specs.Tree as tree
 use Rattle.cyc_tree.specs.Tree.{Expression, Statement, Constant, Initial, Function, Item, Program, Structure}
 use Rattle.cyc_words.specs.Words.{difference_of}
 use Rattle.cyc_words.specs.Events.{ByteRead, SourceEvent, Visible, Called, Returned, SourceEnding}
-use Rattle.source_meaning.specs.Shapes.{Shared, Shape, IntShape, UnsignedShape, VoidShape, CharShape, ThinShape, FatShape, ArrayShape, Layout, Part, part_of, written, settled}
+use Rattle.source_meaning.specs.Shapes.{Shared, Shape, IntShape, UnsignedShape, VoidShape, CharShape, MayBeNull, ThinShape, FatShape, ArrayShape, Layout, Part, part_of, written, settled}
 use Rattle.source_meaning.specs.Memory.{IntegerType, AsInt, AsUnsigned, AsChar, Born, Spot, Scalar, Integer, Thin, Holds, Cell, Object, object_of, Live, Dead, Memory, same_region, blank_object}
 use Rattle.source_meaning.specs.Steps.{Variable, Binding, Routine, World, Scope, Flow, Falls, Breaks, Continues, Returns, Step, Stops, SourceBodies, Act, give, ◌>>=◌, ◌>>◌, stuck, need, say, Outcome, run}
 use Rattle.source_meaning.specs.Conversions.{cells_of, converted, one, integer}
 use Rattle.source_meaning.specs.Values.{write_cells}
-use Rattle.source_meaning.specs.Places.{span_at, string_at}
+use Rattle.source_meaning.specs.Places.{literal_string, span_at}
 use Rattle.source_meaning.specs.Calls.{number_type, function_of}
 use Rattle.source_meaning.specs.Regions.{in_block, local_with}
 use Rattle.source_meaning.specs.Statements.{after_turn, loop, first_object, first_array, statement, block_items}
@@ -97,7 +97,7 @@ abbrev pub constant_value : List (ℕ × Scalar) → Constant → Act Scalar
 constant_value strings (Constant.Number at value suffix) = give (Integer (number_type value suffix) (value % 2 ^ 32))
 constant_value strings (Constant.Negative at value suffix) = give (Integer (number_type value suffix) (difference_of 0 (value % 2 ^ 32)))
 constant_value strings (Constant.Character at byte) = give (Integer AsChar (byte % 256))
-constant_value strings (Constant.Text at bytes) = need (string_at strings at)
+constant_value strings (Constant.Text at bytes) = need (literal_string strings at bytes)
 constant_value strings (Constant.Null at) = give (Thin None)
 
 abbrev pub integer_shape : IntegerType → Shape
@@ -111,7 +111,7 @@ constant_shape (Constant.Number at value suffix) = integer_shape (number_type va
 constant_shape (Constant.Negative at value suffix) = integer_shape (number_type value suffix)
 constant_shape (Constant.Character at byte) = CharShape
 constant_shape (Constant.Text at bytes) = FatShape CharShape
-constant_shape (Constant.Null at) = ThinShape true Shared VoidShape
+constant_shape (Constant.Null at) = ThinShape (MayBeNull 1) Shared VoidShape
 
 -- a global's object, before its constant is stored
 abbrev pub global_object : World → Initial → Shape → Object

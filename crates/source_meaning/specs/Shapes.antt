@@ -1,5 +1,5 @@
 -- What a type means at run time: a shape. A shape is a type without its region names, except that it says which pointers are unique.
-use Rattle.std.specs.Prelude.{ℕ, ◌+◌, Bool, true, false, ◌&&◌, nat_eq, Option, Some, None, List, [], ◌∷◌, bytes_eq, if◌then◌else◌, option_map}
+use Rattle.std.specs.Prelude.{ℕ, ◌%◌, ◌^◌, ◌+◌, Bool, true, false, ◌&&◌, nat_eq, Option, Some, None, List, [], ◌∷◌, bytes_eq, if◌then◌else◌, option_map}
 use Rattle.cyc_tree.specs.declared.name.Sign.{Sign}
 use Rattle.cyc_tree.specs.declared.name.Sign.TheVariants.{Nullable, NotNull, Fat}
 use Rattle.cyc_tree.specs.Tree as tree
@@ -11,14 +11,37 @@ pub data Owner : Type 0 where
   Alone : Owner
   Unsaid : Owner
 
+-- To how many elements a thin pointer leads, from where it points on, and whether it may be NULL.
+pub data Reach : Type 0 where
+  MayBeNull : (count : ℕ) → Reach
+  NeverNull : (count : ℕ) → Reach
+
+abbrev pub may_be_null : Reach → Bool
+may_be_null (MayBeNull count) = true
+may_be_null (NeverNull count) = false
+
+-- its number as it is written, and as a word
+abbrev pub number_of : Reach → ℕ
+number_of (MayBeNull count) = count
+number_of (NeverNull count) = count
+
+abbrev pub count_of : Reach → ℕ
+count_of (MayBeNull count) = count % 2 ^ 32
+count_of (NeverNull count) = count % 2 ^ 32
+
+-- one object, which a pointer leads to that has no other bound
+abbrev pub single : Bool → Reach
+single true = MayBeNull 1
+single false = NeverNull 1
+
 -- Structs and unions go by the spelling of their tags. An array is the shape of an array variable alone.
 pub data Shape : Type 0 where
   IntShape : Shape
   UnsignedShape : Shape
   CharShape : Shape
   VoidShape : Shape
-  -- a pointer to one object, which may be NULL or never is
-  ThinShape : (may_be_null : Bool) (owner : Owner) (to : Shape) → Shape
+  -- a pointer to so many elements, which may be NULL or never is
+  ThinShape : (bound : Reach) (owner : Owner) (to : Shape) → Shape
   -- a pointer that carries bounds; it is never unique
   FatShape : (to : Shape) → Shape
   HandleShape : Shape
@@ -47,8 +70,8 @@ base_shape (tree.Key region) = KeyShape
 
 -- a pointer of a sign, with an owner
 abbrev pub signed_shape : Sign → Owner → Shape → Shape
-signed_shape Nullable owner to = ThinShape true owner to
-signed_shape NotNull owner to = ThinShape false owner to
+signed_shape (Nullable count) owner to = ThinShape (MayBeNull count) owner to
+signed_shape (NotNull count) owner to = ThinShape (NeverNull count) owner to
 signed_shape Fat owner to = FatShape to
 
 -- the pointers stand from the base outwards
@@ -68,7 +91,7 @@ shared_owner Alone = Alone
 
 -- a missing region is the heap, or in a parameter's type a region variable, which never stands for the unique region
 abbrev pub settled : Shape → Shape
-settled (ThinShape may_be_null owner to) = ThinShape may_be_null (shared_owner owner) (settled to)
+settled (ThinShape bound owner to) = ThinShape bound (shared_owner owner) (settled to)
 settled (FatShape to) = FatShape (settled to)
 settled (ArrayShape count of) = ArrayShape count (settled of)
 settled s = s
@@ -81,8 +104,8 @@ first_owner Alone owner = Alone
 
 -- in a local's type a missing region is the one at the same place of its initializer's type
 abbrev pub settled_by : Shape → Shape → Shape
-settled_by (ThinShape may_be_null owner to) (ThinShape n other from) = ThinShape may_be_null (first_owner owner other) (settled_by to from)
-settled_by (ThinShape may_be_null owner to) (FatShape from) = ThinShape may_be_null (shared_owner owner) (settled_by to from)
+settled_by (ThinShape bound owner to) (ThinShape n other from) = ThinShape bound (first_owner owner other) (settled_by to from)
+settled_by (ThinShape bound owner to) (FatShape from) = ThinShape bound (shared_owner owner) (settled_by to from)
 settled_by (FatShape to) (FatShape from) = FatShape (settled_by to from)
 settled_by (FatShape to) (ThinShape n other from) = FatShape (settled_by to from)
 settled_by s from = settled s
@@ -128,16 +151,16 @@ part_shapes (p ∷ ps) = p.shape ∷ part_shapes ps
 
 -- what a pointer of this shape points to
 abbrev pub pointee : Shape → Shape
-pointee (ThinShape may_be_null owner to) = to
+pointee (ThinShape bound owner to) = to
 pointee (FatShape to) = to
 pointee s = VoidShape
 
--- ---- equal shapes
+-- to how many elements a thin pointer of this shape leads
+abbrev pub bound_in : Shape → ℕ
+bound_in (ThinShape bound owner to) = count_of bound
+bound_in s = 0
 
-abbrev pub same_bool : Bool → Bool → Bool
-same_bool true b = b
-same_bool false true = false
-same_bool false false = true
+-- ---- equal shapes
 
 abbrev pub same_owner : Owner → Owner → Bool
 same_owner Shared Shared = true
@@ -145,13 +168,18 @@ same_owner Alone Alone = true
 same_owner Unsaid Unsaid = true
 same_owner a b = false
 
+abbrev pub same_bound : Reach → Reach → Bool
+same_bound (MayBeNull j) (MayBeNull k) = nat_eq j k
+same_bound (NeverNull j) (NeverNull k) = nat_eq j k
+same_bound a b = false
+
 -- shapes are the same whole: what pointers lead to, and which union it is
 abbrev pub same_shape : Shape → Shape → Bool
 same_shape IntShape IntShape = true
 same_shape UnsignedShape UnsignedShape = true
 same_shape CharShape CharShape = true
 same_shape VoidShape VoidShape = true
-same_shape (ThinShape m o s) (ThinShape n q t) = same_bool m n && (same_owner o q && same_shape s t)
+same_shape (ThinShape m o s) (ThinShape n q t) = same_bound m n && (same_owner o q && same_shape s t)
 same_shape (FatShape s) (FatShape t) = same_shape s t
 same_shape HandleShape HandleShape = true
 same_shape KeyShape KeyShape = true
@@ -162,7 +190,7 @@ same_shape s t = false
 
 -- whether a pointer of a shape may go where the owner is this: nothing becomes unique
 abbrev pub goes_to : Owner → Shape → Bool
-goes_to Alone (ThinShape may_be_null Alone to) = true
+goes_to Alone (ThinShape bound Alone to) = true
 goes_to Alone s = false
 goes_to Shared s = true
 goes_to Unsaid s = true

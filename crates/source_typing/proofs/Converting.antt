@@ -2,12 +2,13 @@
 use Rattle.std.proofs.Common.{◌≡◌, ℕ, Bool, true, false, Option, Some, None, List, [], ◌∷◌, refl, ap, subst}
 use Rattle.std.proofs.lemmas.Bool.{eqb-true, and_parts}
 use Rattle.std.proofs.lemmas.Slice.Eq.{bytes_eq-Decides}
-use Rattle.std.specs.Prelude.{bytes_eq}
+use Rattle.std.specs.Prelude.{bytes_eq, nat_le}
+use Rattle.source_meaning.specs.Shapes.{count_of, Reach, MayBeNull, NeverNull, same_bound, single}
 use Rattle.source_typing.specs.Faults.{region_rule, outlives_rule}
 use Rattle.source_typing.specs.Regions.{Region, TheHeap, Level, same_id, Regions}
 use Rattle.source_typing.specs.Types.{StaticType, Int, Unsigned, Char, Void, Null, Thin, Fat, Unique, Handle, Key, Struct, Union, is_integer}
 use Rattle.source_typing.specs.Types.{Match, Equals, ByRegions, Differs, only, by_regions, matched, same_bool, same_ids, compare}
-use Rattle.source_typing.specs.Conversions.{conversion, ordered, if_integer, unless_differs, equal_types, broken}
+use Rattle.source_typing.specs.Conversions.{if_enough, conversion, ordered, if_integer, unless_differs, equal_types, broken}
 use Rattle.source_typing.specs.Converts.{Converts, Integers, NullToThin, NullToFat, NullToUnique, Thins, Fats, ThinToFat, FatToThin, Uniques, Same}
 
 -- ---- equal types
@@ -30,6 +31,12 @@ bool_is true true e = refl
 bool_is true false e = absurd cc
 bool_is false true e = absurd cc
 bool_is false false e = refl
+
+pub bound_is : (a b : Reach) → same_bound a b ≡ true → a ≡ b
+bound_is (MayBeNull j) (MayBeNull k) e = ap (λ (n : ℕ). MayBeNull n) (eqb-true j k e)
+bound_is (MayBeNull j) (NeverNull k) e = absurd cc
+bound_is (NeverNull j) (MayBeNull k) e = absurd cc
+bound_is (NeverNull j) (NeverNull k) e = ap (λ (n : ℕ). NeverNull n) (eqb-true j k e)
 
 pub id_is : (r q : Region) → same_id r q ≡ true → r ≡ q
 id_is TheHeap TheHeap e = refl
@@ -118,11 +125,11 @@ compare_is (Thin n r t) Char e = absurd cc
 compare_is (Thin n r t) Void e = absurd cc
 compare_is (Thin n r t) Null e = absurd cc
 compare_is (Thin n r t) (Thin m q u) e =
-    let a : (same_bool n m ≡ true) × (matched (same_id r q) (compare t u) ≡ Equals) = only_is (same_bool n m) (matched (same_id r q) (compare t u)) e in
+    let a : (same_bound n m ≡ true) × (matched (same_id r q) (compare t u) ≡ Equals) = only_is (same_bound n m) (matched (same_id r q) (compare t u)) e in
     let b : (same_id r q ≡ true) × (compare t u ≡ Equals) = matched_is (same_id r q) (compare t u) a.1 in
-    let c : n ≡ m = bool_is n m a.0 in let d : r ≡ q = id_is r q b.0 in let f : t ≡ u = compare_is t u b.1 in cc
+    let c : n ≡ m = bound_is n m a.0 in let d : r ≡ q = id_is r q b.0 in let f : t ≡ u = compare_is t u b.1 in cc
 compare_is (Thin n r t) (Fat q u) e = absurd cc
-compare_is (Thin n r t) (Unique m u) e = absurd (not_by_regions (compare t u) (only_is (same_bool n m) (by_regions (compare t u)) e).1)
+compare_is (Thin n r t) (Unique m u) e = absurd (not_by_regions (compare t u) (only_is (same_bound n (single m)) (by_regions (compare t u)) e).1)
 compare_is (Thin n r t) (Handle q) e = absurd cc
 compare_is (Thin n r t) (Key q) e = absurd cc
 compare_is (Thin n r t) (Struct b qs) e = absurd cc
@@ -146,7 +153,7 @@ compare_is (Unique n t) Unsigned e = absurd cc
 compare_is (Unique n t) Char e = absurd cc
 compare_is (Unique n t) Void e = absurd cc
 compare_is (Unique n t) Null e = absurd cc
-compare_is (Unique n t) (Thin m q u) e = absurd (not_by_regions (compare t u) (only_is (same_bool n m) (by_regions (compare t u)) e).1)
+compare_is (Unique n t) (Thin m q u) e = absurd (not_by_regions (compare t u) (only_is (same_bound (single n) m) (by_regions (compare t u)) e).1)
 compare_is (Unique n t) (Fat q u) e = absurd cc
 compare_is (Unique n t) (Unique m u) e =
     let a : (same_bool n m ≡ true) × (compare t u ≡ Equals) = only_is (same_bool n m) (compare t u) e in
@@ -226,6 +233,10 @@ pointees_are g t u r q e =
     let h : (compare t u ≡ Equals) × (ordered (g.order r q) ≡ None) = unless_none (compare t u) (ordered (g.order r q)) outlives_rule e in
     (compare_is t u h.0, ordered_is (g.order r q) h.1)
 
+enough_is : (b : Bool) (o : Option ℕ) → if_enough b o ≡ None → (b ≡ true) × (o ≡ None)
+enough_is true o e = (refl, e)
+enough_is false o e = absurd cc
+
 -- a unique pointer doesn't convert to or from another region
 never : (m : Match) → unless_differs m (Some region_rule) (Some region_rule) ≡ None → ⊥
 never Equals e = cc
@@ -246,8 +257,8 @@ conversion_is g Null Unsigned e = absurd cc
 conversion_is g Null Char e = absurd cc
 conversion_is g Null Void e = absurd cc
 conversion_is g Null Null e = absurd cc
-conversion_is g Null (Thin true q u) e = NullToThin
-conversion_is g Null (Thin false q u) e = absurd cc
+conversion_is g Null (Thin (MayBeNull count) q u) e = NullToThin
+conversion_is g Null (Thin (NeverNull count) q u) e = absurd cc
 conversion_is g Null (Fat q u) e = NullToFat
 conversion_is g Null (Unique true u) e = NullToUnique
 conversion_is g Null (Unique false u) e = absurd cc
@@ -261,8 +272,10 @@ conversion_is g (Thin n r t) Char e = absurd cc
 conversion_is g (Thin n r t) Void e = absurd cc
 conversion_is g (Thin n r t) Null e = absurd cc
 conversion_is g (Thin n r t) (Thin m q u) e =
-    let h : (t ≡ u) × (g.order r q ≡ true) = pointees_are g t u r q e in
-    subst (λ (x : StaticType). Converts g (Thin n r t) (Thin m q x)) h.0 (Thins h.1)
+    let few : (nat_le (count_of m) (count_of n) ≡ true) × (unless_differs (compare t u) (ordered (g.order r q)) (Some outlives_rule) ≡ None) =
+    enough_is (nat_le (count_of m) (count_of n)) (unless_differs (compare t u) (ordered (g.order r q)) (Some outlives_rule)) e in
+    let h : (t ≡ u) × (g.order r q ≡ true) = pointees_are g t u r q few.1 in
+    subst (λ (x : StaticType). Converts g (Thin n r t) (Thin m q x)) h.0 (Thins few.0 h.1)
 conversion_is g (Thin n r t) (Fat q u) e =
     let h : (t ≡ u) × (g.order r q ≡ true) = pointees_are g t u r q e in
     subst (λ (x : StaticType). Converts g (Thin n r t) (Fat q x)) h.0 (ThinToFat h.1)
@@ -292,7 +305,8 @@ conversion_is g (Unique n t) Unsigned e = absurd cc
 conversion_is g (Unique n t) Char e = absurd cc
 conversion_is g (Unique n t) Void e = absurd cc
 conversion_is g (Unique n t) Null e = absurd cc
-conversion_is g (Unique n t) (Thin m q u) e = absurd (never (compare t u) e)
+conversion_is g (Unique n t) (Thin m q u) e =
+    absurd (never (compare t u) (enough_is (nat_le (count_of m) 1) (unless_differs (compare t u) (Some region_rule) (Some region_rule)) e).1)
 conversion_is g (Unique n t) (Fat q u) e = absurd (never (compare t u) e)
 conversion_is g (Unique n t) (Unique m u) e =
     subst (λ (x : StaticType). Converts g (Unique n t) (Unique m x)) (compare_is t u (unless_none (compare t u) None outlives_rule e).0) Uniques

@@ -1,5 +1,5 @@
 -- What was declared before so many region names was declared before one more.
-use Rattle.std.proofs.Common.{ℕ, zero, suc, ◌+◌, ◌<◌, List, [], ◌∷◌, arith}
+use Rattle.std.proofs.Common.{ℕ, ◌+◌, List, [], ◌∷◌, arith}
 use Rattle.source_typing.specs.Named.{AllBelow, Below, NamesBelow}
 use Rattle.source_typing.specs.Regions.{Level, Region, TheHeap}
 use Rattle.source_typing.specs.Written.{RegionNamed}

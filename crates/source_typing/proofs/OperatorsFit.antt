@@ -12,6 +12,7 @@ use Rattle.source_typing.specs.Types.{is_testable, is_same, are_equal, Match, Eq
 use Rattle.source_typing.specs.Scope.{Env, Value, Nowhere, value, is_live, outlives}
 use Rattle.source_typing.specs.Converts.{IsInteger}
 use Rattle.source_typing.specs.Operators.{promoted, on_integers, is_equality, is_move, compared_thin, compared, if_equality, fat_moved, integers_joined}
+use Rattle.source_meaning.specs.Shapes.{Reach}
 use Rattle.source_typing.specs.Operators.{applied_to}
 use Rattle.source_typing.specs.Operators.{tested_both, tested, signed, is_fat, counted}
 use Rattle.source_typing.proofs.Inversion.{of_is, unless_is, test_is, none_of_both}
@@ -23,7 +24,7 @@ pub data Operates (g : Env) (o : Operator) : StaticType → StaticType → Stati
   OnFat : {r : Region} {t b : StaticType} → is_move o ≡ true → IsInteger b → Operates g o (Fat r t) b (Fat r t)
   WithNull : {a : StaticType} → is_equality o ≡ true → is_pointer a ≡ true → Operates g o a Null Int
   NullWith : {b : StaticType} → is_equality o ≡ true → is_pointer b ≡ true → Operates g o Null b Int
-  OnThin : {n m : Bool} {r q : Region} {t : StaticType} → is_equality o ≡ true → is_live g r ≡ true → is_live g q ≡ true
+  OnThin : {n m : Reach} {r q : Region} {t : StaticType} → is_equality o ≡ true → is_live g r ≡ true → is_live g q ≡ true
       → (outlives g r q ≡ true) ⊎ (outlives g q r ≡ true) → Operates g o (Thin n r t) (Thin m q t) Int
 
 -- ---- helpers
@@ -76,7 +77,7 @@ same_is Equals e = refl
 same_is ByRegions e = absurd cc
 same_is Differs e = absurd cc
 
-thin_compared : (g : Env) (o : Operator) (at : ℕ) (n m c : Bool) (r q : Region) (t u : StaticType) (w : Value) → is_equality o ≡ true → is_same t u ≡ c
+thin_compared : (g : Env) (o : Operator) (at : ℕ) (n m : Reach) (c : Bool) (r q : Region) (t u : StaticType) (w : Value) → is_equality o ≡ true → is_same t u ≡ c
     → compared_thin g at c r q ≡ Of w → Operates g o (Thin n r t) (Thin m q u) w.type
 thin_compared g o at n m false r q t u w k c e = absurd cc
 thin_compared g o at n m true r q t u w k c e = by_tests (unless_is (ordered ++ both_live) (value at Int) w e)

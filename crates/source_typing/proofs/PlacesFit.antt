@@ -52,28 +52,25 @@ contents_is g at (Union tag rs) w e = absurd cc
 
 -- ---- `a[b]`
 
--- a fat pointer into a live region
-abbrev pub Spans : Env → StaticType → Value → Type 0
-Spans g (Fat r t) w = (is_live g r ≡ true) × IsAt t (In r) w
-Spans g t w = ⊥
+pub indexed_of_is : (g : Env) (at : ℕ) (t : StaticType) (i : Bool) (w : Value) → indexed_of g at t i ≡ Of w → (i ≡ true) × PointsTo g t w
+indexed_of_is g at (Fat r t) true w e = (refl, live_is (is_live g r) at t r w e)
+indexed_of_is g at (Fat r t) false w e = absurd cc
+indexed_of_is g at (Thin n r t) true w e = (refl, live_is (is_live g r) at t r w e)
+indexed_of_is g at (Thin n r t) false w e = absurd cc
+indexed_of_is g at (Unique n t) true w e = (refl, is_at at t InBlock w e)
+indexed_of_is g at (Unique n t) false w e = absurd cc
+indexed_of_is g at Int i w e = absurd cc
+indexed_of_is g at Unsigned i w e = absurd cc
+indexed_of_is g at Char i w e = absurd cc
+indexed_of_is g at Void i w e = absurd cc
+indexed_of_is g at Null i w e = absurd cc
+indexed_of_is g at (Handle r) i w e = absurd cc
+indexed_of_is g at (Key r) i w e = absurd cc
+indexed_of_is g at (Struct tag rs) i w e = absurd cc
+indexed_of_is g at (Union tag rs) i w e = absurd cc
 
-pub spans_is : (g : Env) (at : ℕ) (t : StaticType) (i : Bool) (w : Value) → indexed_of g at t i ≡ Of w → (i ≡ true) × Spans g t w
-spans_is g at (Fat r t) true w e = (refl, live_is (is_live g r) at t r w e)
-spans_is g at (Fat r t) false w e = absurd cc
-spans_is g at (Thin n r t) i w e = absurd cc
-spans_is g at (Unique n t) i w e = absurd cc
-spans_is g at Int i w e = absurd cc
-spans_is g at Unsigned i w e = absurd cc
-spans_is g at Char i w e = absurd cc
-spans_is g at Void i w e = absurd cc
-spans_is g at Null i w e = absurd cc
-spans_is g at (Handle r) i w e = absurd cc
-spans_is g at (Key r) i w e = absurd cc
-spans_is g at (Struct tag rs) i w e = absurd cc
-spans_is g at (Union tag rs) i w e = absurd cc
-
-pub indexed_is : (g : Env) (a b w : Value) → indexed g a b ≡ Of w → (is_integer b.type ≡ true) × Spans g a.type w
-indexed_is g a b w e = spans_is g a.at a.type (is_integer b.type) w e
+pub indexed_is : (g : Env) (a b w : Value) → indexed g a b ≡ Of w → (is_integer b.type ≡ true) × PointsTo g a.type w
+indexed_is g a b w e = indexed_of_is g a.at a.type (is_integer b.type) w e
 
 -- ---- members
 

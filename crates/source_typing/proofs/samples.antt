@@ -26,3 +26,4 @@ mod MakingSamples1
 mod MakingSamples2
 mod CopySamples1
 mod CopySamples2
+mod BoundSamples

@@ -1,8 +1,10 @@
 -- Conversions: of initializers, assigned values, arguments, results and members.
--- Integers convert to each other, and pointers to pointers into regions that theirs outlive, with equal pointees; else the types are equal. Types that
+-- Integers convert to each other, and pointers to pointers into regions that theirs outlive, with equal pointees, thin ones to no more elements than theirs;
+-- else the types are equal. Types that
 -- differ in regions
 -- alone, and regions that aren't in order, are Outlives; a unique pointer to or from another region is Region; any other pair is Type.
-use Rattle.std.specs.Prelude.{Bool, List, None, Option, Some, false, true, ℕ, [], ◌∷◌}
+use Rattle.std.specs.Prelude.{Bool, List, None, Option, Some, false, nat_le, true, ℕ, [], ◌∷◌}
+use Rattle.source_meaning.specs.Shapes.{count_of, may_be_null}
 use Rattle.source_typing.specs.Faults.{Fault, fault, outlives_rule, region_rule, type_rule}
 use Rattle.source_typing.specs.Regions.{Regions}
 use Rattle.source_typing.specs.Scope.{Env, Value}
@@ -32,16 +34,21 @@ abbrev pub if_integer : Bool → Option ℕ
 if_integer true = None
 if_integer false = Some type_rule
 
+-- a pointer to so many elements converts to one to no more
+abbrev pub if_enough : Bool → Option ℕ → Option ℕ
+if_enough true o = o
+if_enough false o = Some type_rule
+
 abbrev pub conversion : Regions → StaticType → StaticType → Option ℕ
 conversion g Int u = if_integer (is_integer u)
 conversion g Unsigned u = if_integer (is_integer u)
 conversion g Char u = if_integer (is_integer u)
 conversion g Void u = Some type_rule
-conversion g Null (Thin n r t) = nullable n
+conversion g Null (Thin n r t) = nullable (may_be_null n)
 conversion g Null (Fat r t) = None
 conversion g Null (Unique n t) = nullable n
 conversion g Null u = Some type_rule
-conversion g (Thin n r t) (Thin m q u) = unless_differs (compare t u) (ordered (g.order r q)) (Some outlives_rule)
+conversion g (Thin n r t) (Thin m q u) = if_enough (nat_le (count_of m) (count_of n)) (unless_differs (compare t u) (ordered (g.order r q)) (Some outlives_rule))
 conversion g (Thin n r t) (Fat q u) = unless_differs (compare t u) (ordered (g.order r q)) (Some outlives_rule)
 conversion g (Thin n r t) (Unique m u) = unless_differs (compare t u) (Some region_rule) (Some region_rule)
 conversion g (Thin n r t) u = Some type_rule
@@ -50,7 +57,7 @@ conversion g (Fat r t) (Fat q u) = unless_differs (compare t u) (ordered (g.orde
 conversion g (Fat r t) (Unique m u) = unless_differs (compare t u) (Some region_rule) (Some region_rule)
 conversion g (Fat r t) u = Some type_rule
 conversion g (Unique n t) (Unique m u) = unless_differs (compare t u) None (Some outlives_rule)
-conversion g (Unique n t) (Thin m q u) = unless_differs (compare t u) (Some region_rule) (Some region_rule)
+conversion g (Unique n t) (Thin m q u) = if_enough (nat_le (count_of m) 1) (unless_differs (compare t u) (Some region_rule) (Some region_rule))
 conversion g (Unique n t) (Fat q u) = unless_differs (compare t u) (Some region_rule) (Some region_rule)
 conversion g (Unique n t) u = Some type_rule
 conversion g (Handle r) u = equal_types (compare (Handle r) u)

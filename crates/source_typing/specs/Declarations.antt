@@ -12,6 +12,7 @@ use Rattle.source_typing.specs.Places.{variable}
 use Rattle.source_typing.specs.Regions.{Region, Regions, TheHeap, opened, same_id, with_name, with_scope}
 use Rattle.source_typing.specs.Scope.{Env, Value, in_scope, meant, next_region, second, with_local}
 use Rattle.source_typing.specs.Tables.{Arrayed, Entry, OfFunction, OfTag, OfValue, Stored, Tables, Tag, Unknown, What, has_beginning, tag_in}
+use Rattle.source_meaning.specs.Shapes.{single}
 use Rattle.source_typing.specs.Types.{Handle, Key, PartialType, StaticType, Struct, Thin, Union, Unique, is_element, is_key, is_same, is_unique, is_void}
 use Rattle.source_typing.specs.Verdicts.{Faulty, Of, Unjudged, Verdict, after, faults_of, if_fits, refuse, unless_faulty}
 use Rattle.source_typing.specs.Written.{RegionNamed, any_missing, find_region, spots_of, written}
@@ -200,7 +201,7 @@ open_declared g x v = declared (faults_of v ++ second g x) (with_local x Unknown
 
 -- a unique pointer's type, its outermost region apart
 abbrev pub aliased : Region → StaticType → StaticType
-aliased r (Unique n t) = Thin n r t
+aliased r (Unique n t) = Thin (single n) r t
 aliased r t = t
 
 abbrev pub alias_fits : ℕ → StaticType → StaticType → Verdict StaticType

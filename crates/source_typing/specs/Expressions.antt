@@ -62,9 +62,9 @@ abbrev mutual
   pub judge_made : Env → ℕ → Verdict Goal → Made → Verdict Value
   judge_made g at goal (One e) = with_goal at goal (judge g e) (made at)
   judge_made g at goal (Array index count e) =
-      with_goal at goal (both (judge g count) (judge (with_counter index g) e) (elements at)) (array_made at)
+      with_goal at goal (both (judge g count) (judge (with_counter index g) e) elements) (array_made at)
 
   pub judge_made_in : Env → ℕ → Verdict Goal → Made → Verdict Value
   judge_made_in g at goal (One e) = with_goal at goal (judge (inside goal g) e) (made at)
   judge_made_in g at goal (Array index count e) =
-      with_goal at goal (both (judge (inside goal g) count) (judge (with_counter index (inside goal g)) e) (elements at)) (array_made at)
+      with_goal at goal (both (judge (inside goal g) count) (judge (with_counter index (inside goal g)) e) elements) (array_made at)

@@ -51,7 +51,7 @@ abbrev mutual
   use_suffixes g v u NoSuffixes = u
   use_suffixes g v u (Index index others) =
       use_suffixes g (both v (judge g index) (indexed g))
-      (indexed_use (place_at 0 v) (is_moved g (both v (judge g index) (indexed g))) u (use_of g index)) others
+      (indexed_use (place_at 0 v) (is_moved g (both v (judge g index) (indexed g))) v u (use_of g index)) others
   use_suffixes g v u (Dot f others) =
       use_suffixes g (after v (member g f)) (member_use (place_at 0 v) (is_moved g (after v (member g f))) u) others
   use_suffixes g v u (Arrow f others) =

@@ -1,18 +1,19 @@
 -- Globals: their types, constants and sizes.
 use Rattle.std.specs.Prelude.{Bool, List, None, Option, Some, false, length, map, nat_le, not, true, ℕ, ◌+◌, ◌&&◌, [], ◌∷◌, ◌++◌}
 use Rattle.cyc_tree.specs.Tree.{Constant, Initial, Item}
+use Rattle.source_meaning.specs.Shapes.{count_of as elements_of}
 use Rattle.source_meaning.specs.Sizes.{rounded_up}
 use Rattle.source_meaning.specs.Strings.{Literal, item_strings}
 use Rattle.source_typing.specs.Declarations.{converted_to, fitting, what_after, what_of}
 use Rattle.source_typing.specs.Expressions.{number_typed}
 use Rattle.source_typing.specs.Extents.{most_static_bytes, variable_size}
-use Rattle.source_typing.specs.Faults.{Fault, fault, size_rule}
+use Rattle.source_typing.specs.Faults.{Fault, fault, size_rule, test, type_rule}
 use Rattle.source_typing.specs.Operators.{string}
 use Rattle.source_typing.specs.Regions.{TheHeap}
 use Rattle.source_typing.specs.Scope.{Env, Value, value}
 use Rattle.source_typing.specs.Tables.{Entry, OfValue, has_beginning}
 use Rattle.source_typing.specs.Tags.{settled_alone}
-use Rattle.source_typing.specs.Types.{Char, Null, StaticType, is_key}
+use Rattle.source_typing.specs.Types.{Char, Null, StaticType, Thin, is_key}
 use Rattle.source_typing.specs.Verdicts.{Of, Verdict, after, faults_of}
 use Rattle.source_typing.specs.Written.{RegionNamed, Spot, spots_of, written}
 use Rattle.cyc_tree.specs.Tree as tree
@@ -55,9 +56,14 @@ global_type_by g x names =
 abbrev pub global_type : Env → tree.Global → Verdict StaticType
 global_type g x = global_type_by g x (foreign_names (spots_of g.tables x.of))
 
+-- A thin pointer to a string has no greater bound than the string has elements: its bytes, and a 0 behind them.
+abbrev pub string_faults : Constant → Verdict StaticType → List Fault
+string_faults (Constant.Text at bytes) (Of (Thin n r t)) = test (nat_le (elements_of n) (length bytes + 1)) type_rule at
+string_faults c t = []
+
 -- A constant converts to its global's type.
 abbrev pub initial_faults : Env → Initial → Verdict StaticType → List Fault
-initial_faults g (Initial.Given c) t = faults_of (constant c) ++ converted_to g (constant c) t
+initial_faults g (Initial.Given c) t = (faults_of (constant c) ++ converted_to g (constant c) t) ++ string_faults c t
 initial_faults g Initial.Unset t = []
 initial_faults g (Initial.Elements n) t = []
 

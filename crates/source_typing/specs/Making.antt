@@ -4,6 +4,7 @@ use Rattle.source_typing.specs.Faults.{region_rule, type_rule}
 use Rattle.source_typing.specs.Regions.{Region}
 use Rattle.source_typing.specs.Scope.{Enclosing, Env, InRegion, InUnique, NotKnown, Value, is_live, value}
 use Rattle.source_typing.specs.Tables.{Counter}
+use Rattle.source_meaning.specs.Shapes.{NeverNull}
 use Rattle.source_typing.specs.Types.{Fat, Handle, StaticType, Thin, Unique, is_integer, is_makeable}
 use Rattle.source_typing.specs.Verdicts.{Of, Unjudged, Verdict, after, both, if_fits, refuse}
 use Rattle.cyc_tree.specs.Tree as tree
@@ -47,24 +48,28 @@ abbrev pub with_counter : tree.Name → Env → Env
 with_counter index g = record g { locals = record { name = index.text; what = Counter; block = g.block } ∷ g.locals }
 
 -- A handle of another type is Type at the making, whether or not its operand is judged: the operand may not be, since nothing fixes its region.
-abbrev pub with_goal : ℕ → Verdict Goal → Verdict Value → (Goal → Value → Verdict Value) → Verdict Value
+abbrev pub with_goal : {A : Type 0} → ℕ → Verdict Goal → Verdict A → (Goal → A → Verdict Value) → Verdict Value
 with_goal at (Of NoHandle) Unjudged rule = refuse type_rule at
 with_goal at goal e rule = both goal e rule
 
 -- `new e` and `rnew(h) e` take a value of any type but a key, and give a pointer that is never NULL. Else Type at the making.
 abbrev pub made_to : ℕ → Goal → StaticType → Verdict Value
-made_to at (To r) t = value at (Thin false r t)
+made_to at (To r) t = value at (Thin (NeverNull 1) r t)
 made_to at ToUnique t = value at (Unique false t)
 made_to at NoHandle t = refuse type_rule at
 
 abbrev pub made : ℕ → Goal → Value → Verdict Value
 made at goal e = after (if_fits (is_makeable e.type) at e.type) (made_to at goal)
 
--- The array form takes an integer and an element, and gives a fat pointer; it isn't made in the unique region.
-abbrev pub elements : ℕ → Value → Value → Verdict Value
-elements at count e = if_fits (is_integer count.type && is_makeable e.type) at e
+-- The array form takes an integer and an element, and gives a fat pointer; it isn't made in the unique region. Like the single form it isn't judged where its
+-- handle isn't.
+abbrev pub elements : Value → Value → Verdict (Value × Value)
+elements count e = Of (count, e)
 
-abbrev pub array_made : ℕ → Goal → Value → Verdict Value
-array_made at (To r) e = value at (Fat r e.type)
-array_made at ToUnique e = refuse type_rule at
-array_made at NoHandle e = refuse type_rule at
+abbrev pub array_to : ℕ → Goal → StaticType → Verdict Value
+array_to at (To r) t = value at (Fat r t)
+array_to at ToUnique t = refuse type_rule at
+array_to at NoHandle t = refuse type_rule at
+
+abbrev pub array_made : ℕ → Goal → Value × Value → Verdict Value
+array_made at goal (count, e) = after (if_fits (is_integer count.type && is_makeable e.type) at e.type) (array_to at goal)

@@ -1,5 +1,6 @@
 -- Missing regions of a type: each is the region at the same place of another type, from the outermost pointer inwards; where there is none, the heap.
-use Rattle.std.specs.Prelude.{Bool, List, None, Option, Some, bytes_eq, false, true, ℕ, if◌then◌else◌, [], ◌∷◌}
+use Rattle.std.specs.Prelude.{Bool, List, None, Option, Some, bytes_eq, false, nat_eq, true, ℕ, if◌then◌else◌, [], ◌∷◌}
+use Rattle.source_meaning.specs.Shapes.{Reach, may_be_null, number_of}
 use Rattle.source_typing.specs.Faults.{type_rule}
 use Rattle.source_typing.specs.Regions.{Region, TheHeap}
 use Rattle.source_typing.specs.Tables.{or_heap}
@@ -34,10 +35,15 @@ filled_arguments (None ∷ rs) [] = TheHeap ∷ filled_arguments rs []
 filled_arguments (Some r ∷ rs) (o ∷ others) = r ∷ filled_arguments rs others
 filled_arguments (None ∷ rs) (o ∷ others) = o ∷ filled_arguments rs others
 
-abbrev pub thin_with : Bool → Found → Option StaticType → Option StaticType
+-- a pointer that would be unique leads to one element; None: another bound
+abbrev pub alone_with : Bool → Reach → StaticType → Option StaticType
+alone_with true n t = Some (Unique (may_be_null n) t)
+alone_with false n t = None
+
+abbrev pub thin_with : Reach → Found → Option StaticType → Option StaticType
 thin_with n f None = None
 thin_with n (Is r) (Some t) = Some (Thin n r t)
-thin_with n IsUnique (Some t) = Some (Unique n t)
+thin_with n IsUnique (Some t) = alone_with (nat_eq (number_of n) 1) n t
 thin_with n Missing (Some t) = Some (Thin n TheHeap t)
 
 abbrev pub fat_with : Found → Option StaticType → Option StaticType
@@ -54,7 +60,7 @@ abbrev pub or_found : Option Region → Found → Found
 or_found (Some r) f = Is r
 or_found None f = f
 
--- The type with its missing regions from another one. None: a fat pointer that would be unique.
+-- The type with its missing regions from another one. None: a fat pointer, or one to more elements, that would be unique.
 abbrev pub filled_from : PartialType → Option StaticType → Option StaticType
 filled_from Int s = Some Int
 filled_from Unsigned s = Some Unsigned

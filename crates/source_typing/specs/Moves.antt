@@ -98,9 +98,9 @@ pointed_use at v e s = then_passed (e.look s) (copy_if (is_unique_value v && not
 abbrev pub contents_use : Env → ℕ → Verdict Value → Use → Use
 contents_use g at v e = place_use at (is_moved g (after v (contents g at))) false (pointed_use at v e)
 
--- `a[b]`: b goes before a
-abbrev pub indexed_use : ℕ → Bool → Use → Use → Use
-indexed_use at moves a b = place_use at moves a.own (λ s. then_passed (b.look s) a.look)
+-- `a[b]`: b goes before a. What a unique pointer leads to is no part of the local that has the pointer.
+abbrev pub indexed_use : ℕ → Bool → Verdict Value → Use → Use → Use
+indexed_use at moves v a b = place_use at moves (a.own && not (is_unique_value v)) (λ s. then_passed (b.look s) (pointed_use at v a))
 
 -- `e.f`
 abbrev pub member_use : ℕ → Bool → Use → Use

@@ -6,6 +6,7 @@ use Rattle.source_typing.specs.Regions.{Region}
 use Rattle.source_typing.specs.Scope.{Env, In, InBlock, Nowhere, Seat, Value, is_live, is_place, seated, value}
 use Rattle.source_typing.specs.Tables.{Arrayed, Counter, Entry, OfBuiltin, OfFunction, OfOther, OfTag, OfValue, Part, Stored, Unknown, argument, is_copyable}
 use Rattle.source_typing.specs.Tables.{part_in, parts_in}
+use Rattle.source_meaning.specs.Shapes.{NeverNull}
 use Rattle.source_typing.specs.Types.{Fat, StaticType, Struct, Thin, Union, Unique, Unsigned, Void, is_integer, renamed}
 use Rattle.source_typing.specs.Verdicts.{Unjudged, Verdict, other_kind, refuse, unless_faulty}
 use Rattle.cyc_tree.specs.Tree as tree
@@ -37,9 +38,11 @@ contents_of g at t = refuse type_rule at
 abbrev pub contents : Env → ℕ → Value → Verdict Value
 contents g at e = contents_of g at e.type
 
--- A subscript takes a fat pointer or an array, whose region has to be live, and an integer.
+-- A subscript takes a pointer or an array, whose region has to be live, and an integer; a unique pointer's region is judged by flow.
 abbrev pub indexed_of : Env → ℕ → StaticType → Bool → Verdict Value
 indexed_of g at (Fat r t) true = in_live (is_live g r) at t r
+indexed_of g at (Thin n r t) true = in_live (is_live g r) at t r
+indexed_of g at (Unique n t) true = seated at t InBlock
 indexed_of g at t i = refuse type_rule at
 
 abbrev pub indexed : Env → Value → Value → Verdict Value
@@ -83,7 +86,7 @@ arrow g f e = arrow_of g f e.at e.type
 -- `&e` takes a place, and gives a pointer that is never NULL, in the place's region.
 abbrev pub address_of : ℕ → StaticType → Seat → Verdict Value
 address_of at t Nowhere = refuse type_rule at
-address_of at t (In r) = value at (Thin false r t)
+address_of at t (In r) = value at (Thin (NeverNull 1) r t)
 address_of at t InBlock = value at (Unique false t)
 
 abbrev pub address : ℕ → Value → Verdict Value

@@ -1,6 +1,7 @@
 -- What the names of a program mean.
 use Rattle.std.specs.Prelude.{Bool, List, None, Option, Some, bytes_eq, false, length, slice_get, suc, true, zero, ℕ, ◌&&◌, if◌then◌else◌, [], ◌∷◌}
 use Rattle.source_typing.specs.Regions.{Level, Region, TheHeap}
+use Rattle.source_meaning.specs.Shapes.{may_be_null}
 use Rattle.source_typing.specs.Types.{Char, Fat, Int, Key, StaticType, Struct, Thin, Unique, Unsigned}
 
 -- What a name of a value is: a variable or an array, with the region in which it lies; the index of `for`; or one whose type isn't known since its
@@ -114,7 +115,7 @@ abbrev pub begins : ℕ → Tables → StaticType → Bool
 begins n g Int = true
 begins n g Unsigned = true
 begins n g Char = true
-begins n g (Thin b r t) = b
+begins n g (Thin b r t) = may_be_null b
 begins n g (Unique b t) = b
 begins n g (Fat r t) = true
 begins zero g (Struct tag rs) = true

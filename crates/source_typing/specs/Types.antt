@@ -1,7 +1,7 @@
 -- Types with their regions, and when two of them are equal.
 use Rattle.std.specs.Prelude.{Bool, List, Option, bytes_eq, false, map, not, true, ℕ, ◌&&◌, ◌||◌, [], ◌∷◌}
 use Rattle.source_meaning.specs.Memory.{AsChar, AsInt, AsUnsigned, IntegerType}
-use Rattle.source_meaning.specs.Shapes.{Alone, CharShape, FatShape, HandleShape, IntShape, KeyShape, Shape, Shared, StructShape, ThinShape, UnionShape}
+use Rattle.source_meaning.specs.Shapes.{Alone, Reach, MayBeNull, same_bound, single, CharShape, FatShape, HandleShape, IntShape, KeyShape, Shape, Shared, StructShape, ThinShape, UnionShape}
 use Rattle.source_meaning.specs.Shapes.{UnsignedShape, VoidShape}
 use Rattle.source_typing.specs.Regions.{Region, same_id}
 
@@ -13,7 +13,7 @@ pub data TypeIn (R : Type 0) : Type 0 where
   Void : TypeIn R
   -- the literal `NULL` alone
   Null : TypeIn R
-  Thin : (may_be_null : Bool) (region : R) (to : TypeIn R) → TypeIn R
+  Thin : (bound : Reach) (region : R) (to : TypeIn R) → TypeIn R
   Fat : (region : R) (to : TypeIn R) → TypeIn R
   Unique : (may_be_null : Bool) (to : TypeIn R) → TypeIn R
   Handle : (region : R) → TypeIn R
@@ -49,10 +49,10 @@ shape_of Int = IntShape
 shape_of Unsigned = UnsignedShape
 shape_of Char = CharShape
 shape_of Void = VoidShape
-shape_of Null = ThinShape true Shared VoidShape
+shape_of Null = ThinShape (MayBeNull 1) Shared VoidShape
 shape_of (Thin n r t) = ThinShape n Shared (shape_of t)
 shape_of (Fat r t) = FatShape (shape_of t)
-shape_of (Unique n t) = ThinShape n Alone (shape_of t)
+shape_of (Unique n t) = ThinShape (single n) Alone (shape_of t)
 shape_of (Handle r) = HandleShape
 shape_of (Key r) = KeyShape
 shape_of (Struct tag rs) = StructShape tag
@@ -158,9 +158,9 @@ compare Unsigned Unsigned = Equals
 compare Char Char = Equals
 compare Void Void = Equals
 compare Null Null = Equals
-compare (Thin n r t) (Thin m q u) = only (same_bool n m) (matched (same_id r q) (compare t u))
-compare (Thin n r t) (Unique m u) = only (same_bool n m) (by_regions (compare t u))
-compare (Unique n t) (Thin m q u) = only (same_bool n m) (by_regions (compare t u))
+compare (Thin n r t) (Thin m q u) = only (same_bound n m) (matched (same_id r q) (compare t u))
+compare (Thin n r t) (Unique m u) = only (same_bound n (single m)) (by_regions (compare t u))
+compare (Unique n t) (Thin m q u) = only (same_bound (single n) m) (by_regions (compare t u))
 compare (Unique n t) (Unique m u) = only (same_bool n m) (compare t u)
 compare (Fat r t) (Fat q u) = matched (same_id r q) (compare t u)
 compare (Handle r) (Handle q) = matched (same_id r q) Equals

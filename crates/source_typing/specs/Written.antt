@@ -6,6 +6,7 @@ use Rattle.cyc_tree.specs.declared.name.Sign.{Sign}
 use Rattle.source_typing.specs.Faults.{Fault, fault, name_rule, region_rule, type_rule}
 use Rattle.source_typing.specs.Regions.{Region, TheHeap}
 use Rattle.source_typing.specs.Tables.{Entry, OfTag, Tables, Tag, find, tag_in}
+use Rattle.source_meaning.specs.Shapes.{Reach, MayBeNull, NeverNull, number_of, may_be_null}
 use Rattle.source_typing.specs.Types.{Char, Fat, Handle, Int, Key, PartialType, Struct, Thin, Union, Unique, Unsigned, Void, same_bool}
 use Rattle.source_typing.specs.Verdicts.{Faulty, Of, Unjudged, Verdict, refuse, unless_faulty}
 use Rattle.cyc_tree.specs.Tree as tree
@@ -89,16 +90,19 @@ as_region (Is r) = Some r
 as_region IsUnique = None
 as_region Missing = None
 
--- A pointer. None, a type that can't be: a pointer to `void` or to a key, and a unique fat pointer.
+-- A thin pointer leads to at least one element, and a unique one to just one. None: another number.
+abbrev pub thin_to : Reach → Found → PartialType → Option PartialType
+thin_to bound IsUnique t = (if nat_eq (number_of bound) 1 then Some (Unique (may_be_null bound) t) else None)
+thin_to bound f t = (if nat_eq (number_of bound) 0 then None else Some (Thin bound (as_region f) t))
+
+-- A pointer. None, a type that can't be: a pointer to `void` or to a key, a unique fat pointer, and a thin one to so many elements.
 abbrev pub pointer_to : Sign → Found → PartialType → Option PartialType
 pointer_to s f Void = None
 pointer_to s f (Key r) = None
 pointer_to sign.Fat IsUnique t = None
 pointer_to sign.Fat f t = Some (Fat (as_region f) t)
-pointer_to sign.Nullable IsUnique t = Some (Unique true t)
-pointer_to sign.Nullable f t = Some (Thin true (as_region f) t)
-pointer_to sign.NotNull IsUnique t = Some (Unique false t)
-pointer_to sign.NotNull f t = Some (Thin false (as_region f) t)
+pointer_to (sign.Nullable count) f t = thin_to (MayBeNull count) f t
+pointer_to (sign.NotNull count) f t = thin_to (NeverNull count) f t
 
 abbrev pub pointers_to : List tree.Pointer → List Found → Option PartialType → Option PartialType
 pointers_to (p ∷ ps) (f ∷ fs) (Some t) = pointers_to ps fs (pointer_to p.sign f t)

@@ -1,11 +1,11 @@
 -- A global begins with the type that the tables have under its name, where that is one of its shape.
 use Rattle.std.proofs.Common.{◌≡◌, ℕ, zero, suc, Bool, true, false, ◌⊎◌, inl, inr, Option, Some, None, List, [], ◌∷◌, refl, sym, ◌∙◌, ap, subst}
-use Rattle.std.specs.Prelude.{bytes_eq, length}
-use Rattle.std.proofs.lemmas.Bool.{cases_Bool, false≢true}
+use Rattle.std.specs.Prelude.{bytes_eq, length, nat_eq}
+use Rattle.std.proofs.lemmas.Bool.{cases_Bool, false≢true, eqb-true, eq-eqb}
 use Rattle.std.proofs.lemmas.Slice.Eq.{bytes_eq-Decides}
 use Rattle.cyc_tree.specs.Tree as tree
 use Rattle.cyc_tree.specs.Tree.{Constant, Initial, Item}
-use Rattle.source_meaning.specs.Shapes.{Shared, Alone, Shape, IntShape, UnsignedShape, CharShape, ThinShape, FatShape, StructShape, UnionShape}
+use Rattle.source_meaning.specs.Shapes.{Reach, MayBeNull, NeverNull, may_be_null, Shared, Alone, Shape, IntShape, UnsignedShape, CharShape, ThinShape, FatShape, StructShape, UnionShape}
 use Rattle.source_meaning.specs.Steps.{World}
 use Rattle.source_typing.specs.Regions.{Region}
 use Rattle.source_typing.specs.Tables as typing
@@ -14,6 +14,7 @@ use Rattle.source_typing.specs.Tables.{parts_in, begins}
 use Rattle.source_typing.specs.Types.{StaticType, Int, Unsigned, Char, Void, Null, Thin, Fat, Unique, Handle, Key, Struct, Union, shape_of}
 use Rattle.type_proof.specs.Entries.{IsObjectType, PlainTables}
 use Rattle.type_proof.specs.Programs.{IsNullConstant, IsNumber, IsPointerConstant, IsFirst, InitialJudged, GlobalJudged, GlobalsJudged}
+use Rattle.type_proof.proofs.invariant.Facts.{single_null}
 use Rattle.type_proof.proofs.invariant.Layouts.{same_text}
 
 -- ---- whether two types have one shape
@@ -21,16 +22,30 @@ use Rattle.type_proof.proofs.invariant.Layouts.{same_text}
 abbrev SameShape : StaticType → StaticType → Type 0
 SameShape t u = (shape_of t ≡ shape_of u) ⊎ (shape_of t ≡ shape_of u → ⊥)
 
-thins_shaped : (n m : Bool) (r q : Region) (t u : StaticType) → SameShape t u → SameShape (Thin n r t) (Thin m q u)
-thins_shaped true true r q t u (inl e) = inl (ap (ThinShape true Shared) e)
-thins_shaped false false r q t u (inl e) = inl (ap (ThinShape false Shared) e)
-thins_shaped true false r q t u h = inr (λ z. cc)
-thins_shaped false true r q t u h = inr (λ z. cc)
+-- whether two bounds are the same
+bounds_differ : (n m : Reach) → (n ≡ m) ⊎ (n ≡ m → ⊥)
+bounds_differ (MayBeNull j) (MayBeNull k) = elim (cases_Bool (nat_eq j k)) [
+  | inl z ↦ inl (ap MayBeNull (eqb-true j k z))
+  | inr z ↦ inr (λ e. let same : j ≡ k = cc in false≢true (sym z ∙ eq-eqb j k same))
+]
+bounds_differ (NeverNull j) (NeverNull k) = elim (cases_Bool (nat_eq j k)) [
+  | inl z ↦ inl (ap NeverNull (eqb-true j k z))
+  | inr z ↦ inr (λ e. let same : j ≡ k = cc in false≢true (sym z ∙ eq-eqb j k same))
+]
+bounds_differ (MayBeNull j) (NeverNull k) = inr (λ e. cc)
+bounds_differ (NeverNull j) (MayBeNull k) = inr (λ e. cc)
+
+thins_shaped : (n m : Reach) (r q : Region) (t u : StaticType) → SameShape t u → SameShape (Thin n r t) (Thin m q u)
+thins_shaped n m r q t u (inl e) = by (bounds_differ n m)
+  where
+    by : (n ≡ m) ⊎ (n ≡ m → ⊥) → SameShape (Thin n r t) (Thin m q u)
+    by (inl same) = inl (ap (λ b. ThinShape b Shared (shape_of t)) same ∙ ap (ThinShape m Shared) e)
+    by (inr differ) = inr (λ z. differ (let y : n ≡ m = cc in y))
 thins_shaped n m r q t u (inr k) = inr (λ z. k (let y : shape_of t ≡ shape_of u = cc in y))
 
 uniques_shaped : (n m : Bool) (t u : StaticType) → SameShape t u → SameShape (Unique n t) (Unique m u)
-uniques_shaped true true t u (inl e) = inl (ap (ThinShape true Alone) e)
-uniques_shaped false false t u (inl e) = inl (ap (ThinShape false Alone) e)
+uniques_shaped true true t u (inl e) = inl (ap (ThinShape (MayBeNull 1) Alone) e)
+uniques_shaped false false t u (inl e) = inl (ap (ThinShape (NeverNull 1) Alone) e)
 uniques_shaped true false t u h = inr (λ z. cc)
 uniques_shaped false true t u h = inr (λ z. cc)
 uniques_shaped n m t u (inr k) = inr (λ z. k (let y : shape_of t ≡ shape_of u = cc in y))
@@ -77,7 +92,7 @@ abbrev begins_by : ℕ → typing.Tables → Shape → Bool
 begins_by n g IntShape = true
 begins_by n g UnsignedShape = true
 begins_by n g CharShape = true
-begins_by n g (ThinShape b owner to) = b
+begins_by n g (ThinShape b owner to) = may_be_null b
 begins_by n g (FatShape to) = true
 begins_by zero g (StructShape tag) = true
 begins_by (suc n) g (StructShape tag) = each_part (begins n g) (parts_in g tag)
@@ -91,7 +106,7 @@ begins_shaped n g Void e = absurd e
 begins_shaped n g Null e = absurd e
 begins_shaped n g (Thin b r t) e = refl
 begins_shaped n g (Fat r t) e = refl
-begins_shaped n g (Unique b t) e = refl
+begins_shaped n g (Unique b t) e = sym (single_null b)
 begins_shaped n g (Handle r) e = refl
 begins_shaped n g (Key r) e = refl
 begins_shaped zero g (Struct tag rs) e = refl

@@ -1,10 +1,11 @@
 -- A block with a dynamic region that is in order:
 -- `{ let NewDynamicRegion{<r> k} = new_ukey(); { region<r> h = open(k); int *r p = rnew(h) 1; *p = 2; } free_ukey(k); return 0; }`.
-use Rattle.std.proofs.Common.{◌≡◌, true, false, Some, [], ◌∷◌, refl, arith}
+use Rattle.std.proofs.Common.{◌≡◌, true, Some, [], ◌∷◌, refl, arith}
 use Rattle.cyc_tree.specs.declared.expression.Prefix.TheVariants.{Dereference}
 use Rattle.cyc_tree.specs.declared.name.Sign.TheVariants as sign
 use Rattle.cyc_tree.specs.Tree as tree
 use Rattle.cyc_tree.specs.Tree.{Expression, Initializer, Statement, BlockItems, NoItems, Declare, Execute, One}
+use Rattle.source_meaning.specs.Shapes.{MayBeNull, NeverNull}
 use Rattle.source_typing.specs.Converts.{Integers, Thins}
 use Rattle.source_typing.specs.Left.{left_by_items}
 use Rattle.source_typing.specs.Regions.{Level}
@@ -16,7 +17,7 @@ use Rattle.type_proof.proofs.ArraySample.{name_at, variable_at, number, inside}
 -- while the key is lent, its region is live, and a value is made in it
 abbrev opened : BlockItems
 opened = Declare (tree.Open 47 (tree.Named (name_at 54 "r")) (name_at 58 "h") (name_at 67 "k"))
-    (Declare (tree.Local (record { at = 71; base = tree.Int; pointers = record { sign = sign.Nullable; region = Some (tree.Named (name_at 76 "r")) } ∷ [] })
+    (Declare (tree.Local (record { at = 71; base = tree.Int; pointers = record { sign = sign.Nullable 1; region = Some (tree.Named (name_at 76 "r")) } ∷ [] })
     (name_at 79 "p") (Initializer.Value (Expression.NewIn 83 (variable_at 88 "h") (One (number 91 1)))))
     (Execute (Statement.Run (Expression.Assign (Expression.Prefixed 94 Dereference (variable_at 95 "p")) (number 99 2))) NoItems))
 
@@ -41,17 +42,17 @@ block_judged = (
       },
       (
         record {
-          type = Thin true (Level 1) Int;
+          type = Thin (MayBeNull 1) (Level 1) Int;
           object = tt;
           below = (omega arith, tt);
           fitting = record {
             accepted = record {
-              value = record { at = 83; type = Thin false (Level 1) Int; seat = Nowhere };
+              value = record { at = 83; type = Thin (NeverNull 1) (Level 1) Int; seat = Nowhere };
               judged = refl;
               operands = (tt, tt);
               members = (tt, tt);
             };
-            converts = Thins refl;
+            converts = Thins refl refl;
           };
           shape = refl;
           scope = refl;

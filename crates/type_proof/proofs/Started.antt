@@ -1,8 +1,9 @@
 -- The globals have their first values before `main` is entered.
-use Rattle.std.proofs.Common.{◌≡◌, ℕ, suc, ◌<◌, Bool, true, false, inl, inr, Option, Some, None, List, [], ◌∷◌, refl, sym, ◌∙◌, ap, subst, arith}
-use Rattle.std.specs.Prelude.{◌%◌, map, slice_get, is_some}
+use Rattle.std.proofs.Common.{◌≡◌, ℕ, suc, ◌<◌, Bool, true, false, inl, Option, Some, None, List, [], ◌∷◌, refl, sym, ◌∙◌, ap, subst, arith}
+use Rattle.std.specs.Prelude.{◌+◌, ◌%◌, length, map, slice_get, is_some, option_map}
 use Rattle.cyc_tree.specs.Tree as tree
 use Rattle.cyc_tree.specs.Tree.{Constant, Initial, Item}
+use Rattle.source_meaning.specs.Shapes.{Reach, MayBeNull, NeverNull, may_be_null}
 use Rattle.source_meaning.specs.Shapes.{Shape, CharShape, FatShape, written, settled}
 use Rattle.source_meaning.specs.Memory as memory
 use Rattle.source_meaning.specs.Memory.{
@@ -26,7 +27,7 @@ use Rattle.source_meaning.specs.Sizes.{repeated}
 use Rattle.source_meaning.specs.Steps.{Variable, Binding, World, Act, give, ◌>>=◌, ◌>>◌, need}
 use Rattle.source_meaning.specs.Conversions.{cells_of, converted}
 use Rattle.source_meaning.specs.Values.{write_cell, write_cells}
-use Rattle.source_meaning.specs.Places.{string_at}
+use Rattle.source_meaning.specs.Places.{literal_string, own_string, string_at}
 use Rattle.source_meaning.specs.Strings.{constant_strings, initial_strings, items_strings, program_strings}
 use Rattle.source_meaning.specs.Programs.{heap_spot, globals_from, global_shape, constant_value, constant_shape, global_object, global_stored, globals_stored}
 use Rattle.source_typing.specs.Types.{StaticType, Int, Unsigned, Char, Void, Null, Thin, Fat, Unique, Handle, Key, Struct, Union, integer_type, shape_of}
@@ -40,7 +41,7 @@ use Rattle.type_proof.proofs.invariant.Invariant.{RunType, heap, Flying, Kept, R
 use Rattle.type_proof.proofs.invariant.Values.{laid_kept, all_laid_kept}
 use Rattle.type_proof.proofs.invariant.Layouts.{Structs, agrees, all_begin, cells_begin}
 use Rattle.type_proof.proofs.invariant.Rows.{laid_all, array_row}
-use Rattle.type_proof.proofs.Strings.{AreFound, StringsLaid, found_parts, strings_kept, string_spans}
+use Rattle.type_proof.proofs.Strings.{AreFound, StringsLaid, found_parts, strings_kept, own_string_typed}
 use Rattle.type_proof.proofs.expressions.Converting.{fat_thin_goes, fat_goes}
 use Rattle.type_proof.proofs.invariant.Runs.{Runs}
 use Rattle.type_proof.proofs.invariant.Cells.{cell, typed_is, seen, runs_write}
@@ -251,52 +252,52 @@ module _ {B : Type 0} (d : Tables) (n : ℕ) (world : World) (tables : typing.Ta
       word_goes u e there go (v ∷ a ∷ us) x = absurd x.1
       word_goes u e there go (v ∷ []) x = record { by = λ next q. (store u v e x.0 there go).by next q }
 
-      text : (s : Shape) (at : ℕ) → AreFound world.strings ((at, []) ∷ [])
+      text : (s : Shape) (at : ℕ) (bytes : List ℕ) → AreFound world.strings ((at, []) ∷ [])
           → ((v : Scalar) → HasType d w (Flying 0 0) v (Fat heap Char)
           → Runs n (converted world s (FatShape CharShape) (v ∷ []) >>= λ vs. write_cells (heap_spot k) vs >> rest) m Q)
-          → Runs n ((need (string_at world.strings at) >>= λ v. converted world s (FatShape CharShape) (v ∷ []) >>= λ vs. write_cells (heap_spot k) vs) >> rest)
+          → Runs n ((need (literal_string world.strings at bytes) >>= λ v. converted world s (FatShape CharShape) (v ∷ []) >>= λ vs. write_cells (heap_spot k) vs) >> rest)
           m Q
-      text s at h go = by_value (string_at world.strings at) refl h.0
+      text s at bytes h go = by_value (string_at world.strings at) refl h.0
         where
           by_value : (o : Option Scalar) → string_at world.strings at ≡ o → is_some o ≡ true
-              → Runs n ((need o >>= λ v. converted world s (FatShape CharShape) (v ∷ []) >>= λ vs. write_cells (heap_spot k) vs) >> rest) m Q
+              → Runs n ((need (option_map (own_string (length bytes + 1)) o) >>= λ v. converted world s (FatShape CharShape) (v ∷ []) >>= λ vs. write_cells (heap_spot k) vs) >> rest) m Q
           by_value None z y = absurd cc
-          by_value (Some v) z y = record { by = λ next q. (go v (inr (string_spans d w m v i (strings at v z)))).by next q }
+          by_value (Some v) z y = record { by = λ next q. (go (own_string (length bytes + 1) v) (own_string_typed d w m (Flying 0 0) (length bytes + 1) v i (strings at v z))).by next q }
 
-      text_thin : (r : NameOf) (t : StaticType) (at : ℕ) → t ≡ Char → AreFound world.strings ((at, []) ∷ [])
-          → m.cells (heap_spot k) ≡ global_object world (Initial.Given c) (shape_of (Thin true r t)) 0 → Going (Thin true r t)
-          → Runs n ((need (string_at world.strings at) >>= λ v. converted world (shape_of (Thin true r t)) (FatShape CharShape) (v ∷ []) >>= λ vs.
+      text_thin : (b : ℕ) (r : NameOf) (t : StaticType) (at : ℕ) (bytes : List ℕ) → t ≡ Char → AreFound world.strings ((at, []) ∷ [])
+          → m.cells (heap_spot k) ≡ global_object world (Initial.Given c) (shape_of (Thin (MayBeNull b) r t)) 0 → Going (Thin (MayBeNull b) r t)
+          → Runs n ((need (literal_string world.strings at bytes) >>= λ v. converted world (shape_of (Thin (MayBeNull b) r t)) (FatShape CharShape) (v ∷ []) >>= λ vs.
           write_cells (heap_spot k) vs) >> rest) m Q
-      text_thin r t at is h = subst (λ (u : StaticType). m.cells (heap_spot k) ≡ global_object world (Initial.Given c) (shape_of (Thin true r u)) 0
-          → Going (Thin true r u)
-          → Runs n ((need (string_at world.strings at) >>= λ v. converted world (shape_of (Thin true r u)) (FatShape CharShape) (v ∷ []) >>= λ vs.
+      text_thin b r t at bytes is h = subst (λ (u : StaticType). m.cells (heap_spot k) ≡ global_object world (Initial.Given c) (shape_of (Thin (MayBeNull b) r u)) 0
+          → Going (Thin (MayBeNull b) r u)
+          → Runs n ((need (literal_string world.strings at bytes) >>= λ v. converted world (shape_of (Thin (MayBeNull b) r u)) (FatShape CharShape) (v ∷ []) >>= λ vs.
           write_cells (heap_spot k) vs) >> rest) m Q) (sym is)
-          (λ there go. text (shape_of (Thin true r Char)) at h (λ v typed.
-          fat_thin_goes n d world (λ a. heap) w m (λ j. Flying 0 0) i Q (λ vs. write_cells (heap_spot k) vs >> rest) true r r Char (v ∷ []) tt
-          (agrees d world tables structs) (λ a z. z) (typed, tt) (word_goes (Thin true r Char) tt there go)))
+          (λ there go. text (shape_of (Thin (MayBeNull b) r Char)) at bytes h (λ v typed.
+          fat_thin_goes n d world (λ a. heap) w m (λ j. Flying 0 0) i Q (λ vs. write_cells (heap_spot k) vs >> rest) (MayBeNull b) r r Char (v ∷ []) tt
+          (agrees d world tables structs) (λ a z. z) (typed, tt) (word_goes (Thin (MayBeNull b) r Char) tt there go)))
 
-      text_fat : (r : NameOf) (t : StaticType) (at : ℕ) → t ≡ Char → AreFound world.strings ((at, []) ∷ [])
+      text_fat : (r : NameOf) (t : StaticType) (at : ℕ) (bytes : List ℕ) → t ≡ Char → AreFound world.strings ((at, []) ∷ [])
           → m.cells (heap_spot k) ≡ global_object world (Initial.Given c) (shape_of (Fat r t)) 0 → Going (Fat r t)
-          → Runs n ((need (string_at world.strings at) >>= λ v. converted world (shape_of (Fat r t)) (FatShape CharShape) (v ∷ []) >>= λ vs.
+          → Runs n ((need (literal_string world.strings at bytes) >>= λ v. converted world (shape_of (Fat r t)) (FatShape CharShape) (v ∷ []) >>= λ vs.
           write_cells (heap_spot k) vs) >> rest) m Q
-      text_fat r t at is h = subst (λ (u : StaticType). m.cells (heap_spot k) ≡ global_object world (Initial.Given c) (shape_of (Fat r u)) 0
+      text_fat r t at bytes is h = subst (λ (u : StaticType). m.cells (heap_spot k) ≡ global_object world (Initial.Given c) (shape_of (Fat r u)) 0
           → Going (Fat r u)
-          → Runs n ((need (string_at world.strings at) >>= λ v. converted world (shape_of (Fat r u)) (FatShape CharShape) (v ∷ []) >>= λ vs.
+          → Runs n ((need (literal_string world.strings at bytes) >>= λ v. converted world (shape_of (Fat r u)) (FatShape CharShape) (v ∷ []) >>= λ vs.
           write_cells (heap_spot k) vs) >> rest) m Q) (sym is)
-          (λ there go. text (shape_of (Fat r Char)) at h (λ v typed.
+          (λ there go. text (shape_of (Fat r Char)) at bytes h (λ v typed.
           fat_goes n d world (λ a. heap) w m (λ j. Flying 0 0) i Q (λ vs. write_cells (heap_spot k) vs >> rest) r r Char (v ∷ []) tt
           (λ a z. z) (typed, tt) (word_goes (Fat r Char) tt there go)))
 
-      null : (r : NameOf) (t : StaticType) → IsObjectType t → (y : Constant) → IsPointerConstant (shape_of t) y → AreFound world.strings (constant_strings y)
-          → m.cells (heap_spot k) ≡ global_object world (Initial.Given c) (shape_of (Thin true r t)) 0 → Going (Thin true r t)
-          → Runs n ((constant_value world.strings y >>= λ v. converted world (shape_of (Thin true r t)) (constant_shape y) (v ∷ []) >>= λ vs.
+      null : (b : ℕ) (r : NameOf) (t : StaticType) → IsObjectType t → (y : Constant) → IsPointerConstant (shape_of t) y → AreFound world.strings (constant_strings y)
+          → m.cells (heap_spot k) ≡ global_object world (Initial.Given c) (shape_of (Thin (MayBeNull b) r t)) 0 → Going (Thin (MayBeNull b) r t)
+          → Runs n ((constant_value world.strings y >>= λ v. converted world (shape_of (Thin (MayBeNull b) r t)) (constant_shape y) (v ∷ []) >>= λ vs.
           write_cells (heap_spot k) vs) >> rest) m Q
-      null r t e (Constant.Null at) x h there go =
-          record { by = λ next q. (store (Thin true r t) (memory.Thin None) e (inl (record { allowed = refl; is = refl })) there go).by next q }
-      null r t e (Constant.Number at y suffix) x h there go = absurd x
-      null r t e (Constant.Negative at y suffix) x h there go = absurd x
-      null r t e (Constant.Character at byte) x h there go = absurd x
-      null r t e (Constant.Text at bytes) x h there go = text_thin r t at (char_shaped t e x) (h.0, tt) there go
+      null b r t e (Constant.Null at) x h there go =
+          record { by = λ next q. (store (Thin (MayBeNull b) r t) (memory.Thin None) e (inl (record { allowed = refl; is = refl })) there go).by next q }
+      null b r t e (Constant.Number at y suffix) x h there go = absurd x
+      null b r t e (Constant.Negative at y suffix) x h there go = absurd x
+      null b r t e (Constant.Character at byte) x h there go = absurd x
+      null b r t e (Constant.Text at bytes) x h there go = text_thin b r t at bytes (char_shaped t e x) (h.0, tt) there go
 
       alone : (z : Bool) (t : StaticType) → IsObjectType t → z ≡ true → (y : Constant) → IsNullConstant y
           → m.cells (heap_spot k) ≡ global_object world (Initial.Given c) (shape_of {R = NameOf} (Unique z t)) 0 → Going (Unique z t)
@@ -318,13 +319,13 @@ module _ {B : Type 0} (d : Tables) (n : ℕ) (world : World) (tables : typing.Ta
       fat r t e (Constant.Number at y suffix) x h there go = absurd x
       fat r t e (Constant.Negative at y suffix) x h there go = absurd x
       fat r t e (Constant.Character at byte) x h there go = absurd x
-      fat r t e (Constant.Text at bytes) x h there go = text_fat r t at (char_shaped t e x) (h.0, tt) there go
+      fat r t e (Constant.Text at bytes) x h there go = text_fat r t at bytes (char_shaped t e x) (h.0, tt) there go
 
-      pointer : (z : Bool) (r : NameOf) (t : StaticType) → IsObjectType t → z ≡ true → IsPointerConstant (shape_of t) c
+      pointer : (z : Reach) (r : NameOf) (t : StaticType) → IsObjectType t → may_be_null z ≡ true → IsPointerConstant (shape_of t) c
           → m.cells (heap_spot k) ≡ global_object world (Initial.Given c) (shape_of (Thin z r t)) 0 → Going (Thin z r t)
           → Runs n (storing (shape_of (Thin z r t)) (constant_value world.strings c)) m Q
-      pointer true r t e z x there go = null r t e c x f there go
-      pointer false r t e z x there go = absurd cc
+      pointer (MayBeNull b) r t e z x there go = null b r t e c x f there go
+      pointer (NeverNull b) r t e z x there go = absurd cc
 
       by : (u : StaticType) → IsObjectType u → IsFirst u c → m.cells (heap_spot k) ≡ global_object world (Initial.Given c) (shape_of u) 0 → Going u
           → has_beginning tables u ≡ true → Runs n (storing (shape_of u) (constant_value world.strings c)) m Q

@@ -5,6 +5,7 @@ use Rattle.cyc_tree.specs.declared.expression.Operator.TheVariants.{Add}
 use Rattle.cyc_tree.specs.declared.name.Sign.TheVariants as sign
 use Rattle.cyc_tree.specs.Tree as tree
 use Rattle.cyc_tree.specs.Tree.{Constant, Expression, Initializer, Statement, BlockItems, NoItems, Declare, Execute, NoLinks, MoreLinks, NoSuffixes, Index}
+use Rattle.source_meaning.specs.Shapes.{MayBeNull}
 use Rattle.source_typing.specs.Converts.{Integers, Same}
 use Rattle.source_typing.specs.Regions.{TheHeap}
 use Rattle.source_typing.specs.Scope.{Nowhere}
@@ -64,7 +65,7 @@ block_judged = (
 )
 
 -- a global pointer to chars may begin with a string, and no other one
-pub chars_begin : IsFirst (Fat TheHeap Char) (Constant.Text 10 (codes "ab")) × IsFirst (Thin true TheHeap Char) (Constant.Text 10 [])
+pub chars_begin : IsFirst (Fat TheHeap Char) (Constant.Text 10 (codes "ab")) × IsFirst (Thin (MayBeNull 1) TheHeap Char) (Constant.Text 10 [])
 chars_begin = (refl, refl)
 
 pub ints_do_not : IsFirst (Fat TheHeap Int) (Constant.Text 10 (codes "ab")) → ⊥

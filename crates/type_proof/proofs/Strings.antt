@@ -1,5 +1,5 @@
 -- The strings of a program: each literal is found by its place, and its bytes are chars of the heap.
-use Rattle.std.proofs.Common.{◌≡◌, ℕ, suc, ◌+◌, Bool, true, false, Some, List, [], ◌∷◌, ◌++◌, refl, ◌∙◌, ap, subst}
+use Rattle.std.proofs.Common.{◌≡◌, ℕ, suc, ◌+◌, Bool, true, false, inl, inr, Some, None, List, [], ◌∷◌, ◌++◌, refl, sym, ◌∙◌, ap, subst}
 use Rattle.std.specs.Prelude.{length, nat_eq, is_some, bytes_eq, if◌then◌else◌}
 use Rattle.std.proofs.lemmas.Bool.{eq-eqb}
 use Rattle.std.proofs.lemmas.Option.{same_Some}
@@ -7,14 +7,14 @@ use Rattle.cyc_tree.specs.Tree as tree
 use Rattle.cyc_tree.specs.Tree.{Item}
 use Rattle.source_meaning.specs.Memory.{Region, Spot, Span, Scalar, Wide, Memory}
 use Rattle.source_meaning.specs.Steps.{Routine}
-use Rattle.source_meaning.specs.Places.{span_at, string_at}
+use Rattle.source_meaning.specs.Places.{own_string, span_at, string_at}
 use Rattle.source_meaning.specs.Calls.{function_of}
 use Rattle.source_meaning.specs.Strings.{Literal, initial_strings, items_strings, program_strings}
 use Rattle.source_meaning.specs.Programs.{heap_spot, functions_of, routine_of, strings_from}
-use Rattle.source_typing.specs.Types.{Char}
+use Rattle.source_typing.specs.Types.{Char, Fat}
 use Rattle.type_proof.specs.Flat.{Tables}
 use Rattle.type_proof.proofs.invariant.Births.{known_live}
-use Rattle.type_proof.proofs.invariant.Invariant.{RunType, heap, Reached, Ghost, AllLaid, Spans, Inv}
+use Rattle.type_proof.proofs.invariant.Invariant.{RunType, heap, Owner, Reached, Ghost, AllLaid, HasType, Spans, Inv}
 use Rattle.type_proof.proofs.invariant.Values.{all_laid_kept}
 
 -- ---- places
@@ -91,3 +91,13 @@ string_spans d w m v i l = record {
     above = ap (λ (r : Region). w.above r heap) l.in_heap ∙ i.itself heap (known_live d w m heap i i.heap_lives);
   };
 }
+
+-- where another string is at a literal's place, NULL is, unless it has as many elements
+pub own_string_typed : (d : Tables) (w : Ghost) (m : Memory) (by : Owner) (count : ℕ) (v : Scalar) → Inv d w m → StringLaid w v
+    → HasType d w by (own_string count v) (Fat heap Char)
+own_string_typed d w m by count v i l =
+    subst (λ (u : Scalar). HasType d w by (own_string count u) (Fat heap Char)) (sym l.is) (typed (nat_eq l.span.count count))
+  where
+    typed : (same : Bool) → HasType d w by (Wide (if same then Some l.span else None)) (Fat heap Char)
+    typed true = inr (string_spans d w m (Wide (Some l.span)) i (record { span = l.span; is = refl; in_heap = l.in_heap; laid = l.laid }))
+    typed false = inl refl

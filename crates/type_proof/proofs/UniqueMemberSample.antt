@@ -37,7 +37,7 @@ block = Declare (tree.Local (record {
   at = 2;
   base = tree.Struct (name_at 9 "s") [];
   pointers =
-      record { sign = sign.Nullable; region = Some (tree.Unique 12) } ∷ [];
+      record { sign = sign.Nullable 1; region = Some (tree.Unique 12) } ∷ [];
 })
     (name_at 26 "x") (Initializer.Value (Expression.NewIn 30 (Expression.UniqueRegion 35)
     (One (Expression.Call (name_at 50 "s") (MoreExpressions (Expression.Null 52) (MoreExpressions (number 58 1) NoExpressions)))))))

@@ -14,12 +14,12 @@ use Rattle.type_proof.specs.Judged.{ItemsJudged}
 use Rattle.type_proof.proofs.ArraySample.{name_at, variable_at, number, inside}
 
 abbrev pub unique_type : tree.TypeName
-unique_type = record { at = 2; base = tree.Int; pointers = record { sign = sign.Nullable; region = Some (tree.Unique 7) } ∷ [] }
+unique_type = record { at = 2; base = tree.Int; pointers = record { sign = sign.Nullable 1; region = Some (tree.Unique 7) } ∷ [] }
 
 -- the alias leads to the block, and what is stored through it is there when the loan ends
 abbrev lent : BlockItems
 lent = Declare (tree.Alias 84 (tree.Named (name_at 94 "r"))
-    (record { at = 97; base = tree.Int; pointers = record { sign = sign.Nullable; region = Some (tree.Named (name_at 102 "r")) } ∷ [] }) (name_at 104 "a")
+    (record { at = 97; base = tree.Int; pointers = record { sign = sign.Nullable 1; region = Some (tree.Named (name_at 102 "r")) } ∷ [] }) (name_at 104 "a")
     (name_at 108 "x"))
     (Execute (Statement.Run (Expression.Assign (Expression.Prefixed 111 Dereference (variable_at 112 "a")) (number 116 2))) NoItems)
 

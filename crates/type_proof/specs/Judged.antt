@@ -14,6 +14,7 @@ use Rattle.source_typing.specs.Places.{variable}
 use Rattle.source_typing.specs.Scope.{Env, Value, block_entered, meant, next_region}
 use Rattle.source_typing.specs.Statements.{Chosen, chosen, clauses_fit, clause_scope, in_a_loop, in_a_switch}
 use Rattle.source_typing.specs.Tables.{What, Stored, Arrayed, Part, argument, has_beginning, part_in, parts_in}
+use Rattle.source_meaning.specs.Shapes.{single}
 use Rattle.source_typing.specs.Types.{StaticType, Void, Handle, Key, Thin, Union, Unique, is_testable, renamed, shape_of}
 use Rattle.source_typing.specs.Ways.{ways_of, ways_of_items}
 use Rattle.source_typing.specs.Verdicts.{Of}
@@ -92,8 +93,8 @@ pub record UniqueOperand (g : Env) (x : tree.Name) : Type 0 where
 -- a unique pointer's alias: its type is the pointer's, with the new region for the unique one
 pub record AliasOpened (g : Env) (at : ℕ) (r : tree.RegionName) (of : TypeName) (x p : tree.Name) : Type 0 where
   pub operand : UniqueOperand g p
-  pub shape : settled_by (written of) (shape_of (Unique operand.nullable operand.to)) ≡ shape_of (Thin operand.nullable (next_region g) operand.to)
-  pub scope : (declare g (tree.Alias at r of x p)).scope ≡ extended (with_region r (with_name true) g) x (Thin operand.nullable (next_region g) operand.to)
+  pub shape : settled_by (written of) (shape_of (Unique operand.nullable operand.to)) ≡ shape_of (Thin (single operand.nullable) (next_region g) operand.to)
+  pub scope : (declare g (tree.Alias at r of x p)).scope ≡ extended (with_region r (with_name true) g) x (Thin (single operand.nullable) (next_region g) operand.to)
 
 -- a name that is of a key
 pub record KeyOperand (g : Env) (x : tree.Name) : Type 0 where

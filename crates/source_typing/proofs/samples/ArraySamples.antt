@@ -6,7 +6,7 @@ use Rattle.cyc_tree.specs.declared.name.Sign.TheVariants as sign
 use Rattle.cyc_tree.specs.Tree as tree
 use Rattle.cyc_tree.specs.Tree.{Expression, NoLinks, MoreLinks, NoSuffixes, Index, Array, Initializer, Statement, NoItems, Declare, Execute, Constant, Initial}
 use Rattle.source_meaning.proofs.Trees.{pointer}
-use Rattle.source_typing.specs.Faults.{fault, name_rule, type_rule}
+use Rattle.source_typing.specs.Faults.{fault, name_rule}
 use Rattle.source_typing.specs.Answers.{first_fault}
 use Rattle.source_typing.proofs.samples.SampleTrees.{name_at, type_at, int_at, number, variable_at, returns, global, main_at}
 

@@ -63,14 +63,14 @@ form_7 = refl
 
 -- int main() { void *x; return 0; }
 form_8 : first_fault
-    ((main_at 0 (Declare (tree.Local (type_at 13 tree.Void ((pointer sign.Nullable None) ∷ [])) (name_at 19 "x") Initializer.Unset) (Execute (returns 22
+    ((main_at 0 (Declare (tree.Local (type_at 13 tree.Void ((pointer (sign.Nullable 1) None) ∷ [])) (name_at 19 "x") Initializer.Unset) (Execute (returns 22
     (number 29 0)) NoItems)) 32) ∷ [])
     ≡ Some (fault type_rule 13)
 form_8 = refl
 
 -- void f(uregion_key_t<`r> *k) { } int main() { return 0; }
 form_9 : first_fault
-    ((tree.FunctionItem (routine (type_at 0 tree.Void []) (name_at 5 "f") ((member (type_at 7 (tree.Key (region_at 21 "r")) ((pointer sign.Nullable None) ∷
+    ((tree.FunctionItem (routine (type_at 0 tree.Void []) (name_at 5 "f") ((member (type_at 7 (tree.Key (region_at 21 "r")) ((pointer (sign.Nullable 1) None) ∷
     [])) (name_at 26 "k")) ∷ []) None [] NoItems 31)) ∷ (main_returns 33) ∷ [])
     ≡ Some (fault type_rule 7)
 form_9 = refl
@@ -89,7 +89,7 @@ form_11 = refl
 
 -- @tagged union U { int *`U p; }; int main() { return 0; }
 form_12 : first_fault
-    ((tree.UnionItem (structure 0 (name_at 14 "U") [] ((member (type_at 18 tree.Int ((pointer sign.Nullable (Some (tree.Unique 23))) ∷ [])) (name_at 26 "p")) ∷
+    ((tree.UnionItem (structure 0 (name_at 14 "U") [] ((member (type_at 18 tree.Int ((pointer (sign.Nullable 1) (Some (tree.Unique 23))) ∷ [])) (name_at 26 "p")) ∷
     []))) ∷ (main_returns 32) ∷ [])
     ≡ Some (fault type_rule 18)
 form_12 = refl
@@ -134,7 +134,7 @@ form_17 = refl
 
 -- int f(int *`U p) { let alias<`r> int ?x = p; return 0; } int main() { return 0; }
 form_18 : first_fault
-    ((tree.FunctionItem (routine (int_at 0) (name_at 4 "f") ((member (type_at 6 tree.Int ((pointer sign.Nullable (Some (tree.Unique 11))) ∷ [])) (name_at 14
+    ((tree.FunctionItem (routine (int_at 0) (name_at 4 "f") ((member (type_at 6 tree.Int ((pointer (sign.Nullable 1) (Some (tree.Unique 11))) ∷ [])) (name_at 14
     "p")) ∷ []) None [] (Declare (tree.Alias 19 (region_at 29 "r") (type_at 33 tree.Int ((pointer sign.Fat None) ∷ [])) (name_at 38 "x") (name_at 42 "p"))
     (Execute (returns 45 (number 52 0)) NoItems)) 55)) ∷ (main_returns 57) ∷ [])
     ≡ Some (fault type_rule 33)
@@ -142,7 +142,7 @@ form_18 = refl
 
 -- int f(int *`U p) { let alias<`r> int x = p; return 0; } int main() { return 0; }
 form_19 : first_fault
-    ((tree.FunctionItem (routine (int_at 0) (name_at 4 "f") ((member (type_at 6 tree.Int ((pointer sign.Nullable (Some (tree.Unique 11))) ∷ [])) (name_at 14
+    ((tree.FunctionItem (routine (int_at 0) (name_at 4 "f") ((member (type_at 6 tree.Int ((pointer (sign.Nullable 1) (Some (tree.Unique 11))) ∷ [])) (name_at 14
     "p")) ∷ []) None [] (Declare (tree.Alias 19 (region_at 29 "r") (int_at 33) (name_at 37 "x") (name_at 41 "p")) (Execute (returns 44 (number 51 0))
     NoItems)) 54)) ∷ (main_returns 56) ∷ [])
     ≡ Some (fault region_rule 33)
@@ -150,8 +150,8 @@ form_19 = refl
 
 -- int f(int *`U p) { let alias<`r> int @`r x = p; return 0; } int main() { return 0; }
 form_20 : first_fault
-    ((tree.FunctionItem (routine (int_at 0) (name_at 4 "f") ((member (type_at 6 tree.Int ((pointer sign.Nullable (Some (tree.Unique 11))) ∷ [])) (name_at 14
-    "p")) ∷ []) None [] (Declare (tree.Alias 19 (region_at 29 "r") (type_at 33 tree.Int ((pointer sign.NotNull (Some (region_at 38 "r"))) ∷ [])) (name_at 41
+    ((tree.FunctionItem (routine (int_at 0) (name_at 4 "f") ((member (type_at 6 tree.Int ((pointer (sign.Nullable 1) (Some (tree.Unique 11))) ∷ [])) (name_at 14
+    "p")) ∷ []) None [] (Declare (tree.Alias 19 (region_at 29 "r") (type_at 33 tree.Int ((pointer (sign.NotNull 1) (Some (region_at 38 "r"))) ∷ [])) (name_at 41
     "x") (name_at 45 "p")) (Execute (returns 48 (number 55 0)) NoItems)) 58)) ∷ (main_returns 60) ∷ [])
     ≡ Some (fault region_rule 33)
 form_20 = refl
@@ -159,16 +159,16 @@ form_20 = refl
 -- the missing region is the unique one
 -- int f(int *`U p) { let alias<`r> int *x = p; return 0; } int main() { return 0; }
 form_21 : first_fault
-    ((tree.FunctionItem (routine (int_at 0) (name_at 4 "f") ((member (type_at 6 tree.Int ((pointer sign.Nullable (Some (tree.Unique 11))) ∷ [])) (name_at 14
-    "p")) ∷ []) None [] (Declare (tree.Alias 19 (region_at 29 "r") (type_at 33 tree.Int ((pointer sign.Nullable None) ∷ [])) (name_at 38 "x") (name_at 42
+    ((tree.FunctionItem (routine (int_at 0) (name_at 4 "f") ((member (type_at 6 tree.Int ((pointer (sign.Nullable 1) (Some (tree.Unique 11))) ∷ [])) (name_at 14
+    "p")) ∷ []) None [] (Declare (tree.Alias 19 (region_at 29 "r") (type_at 33 tree.Int ((pointer (sign.Nullable 1) None) ∷ [])) (name_at 38 "x") (name_at 42
     "p")) (Execute (returns 45 (number 52 0)) NoItems)) 55)) ∷ (main_returns 57) ∷ [])
     ≡ Some (fault region_rule 33)
 form_21 = refl
 
 -- int f(int *`U p) { let alias<`H> int *`H x = p; return 0; } int main() { return 0; }
 form_22 : first_fault
-    ((tree.FunctionItem (routine (int_at 0) (name_at 4 "f") ((member (type_at 6 tree.Int ((pointer sign.Nullable (Some (tree.Unique 11))) ∷ [])) (name_at 14
-    "p")) ∷ []) None [] (Declare (tree.Alias 19 (tree.Heap 29) (type_at 33 tree.Int ((pointer sign.Nullable (Some (tree.Heap 38))) ∷ [])) (name_at 41 "x")
+    ((tree.FunctionItem (routine (int_at 0) (name_at 4 "f") ((member (type_at 6 tree.Int ((pointer (sign.Nullable 1) (Some (tree.Unique 11))) ∷ [])) (name_at 14
+    "p")) ∷ []) None [] (Declare (tree.Alias 19 (tree.Heap 29) (type_at 33 tree.Int ((pointer (sign.Nullable 1) (Some (tree.Heap 38))) ∷ [])) (name_at 41 "x")
     (name_at 45 "p")) (Execute (returns 48 (number 55 0)) NoItems)) 58)) ∷ (main_returns 60) ∷ [])
     ≡ Some (fault region_rule 29)
 form_22 = refl
@@ -231,7 +231,7 @@ form_30 = refl
 -- int main() { int p; let alias<`r> int *`r x = p; return 0; }
 form_31 : first_fault
     ((main_at 0 (Declare (tree.Local (int_at 13) (name_at 17 "p") Initializer.Unset) (Declare (tree.Alias 20 (region_at 30 "r") (type_at 34 tree.Int ((pointer
-    sign.Nullable (Some (region_at 39 "r"))) ∷ [])) (name_at 42 "x") (name_at 46 "p")) (Execute (returns 49 (number 56 0)) NoItems))) 59) ∷ [])
+    (sign.Nullable 1) (Some (region_at 39 "r"))) ∷ [])) (name_at 42 "x") (name_at 46 "p")) (Execute (returns 49 (number 56 0)) NoItems))) 59) ∷ [])
     ≡ Some (fault type_rule 46)
 form_31 = refl
 
@@ -243,28 +243,28 @@ form_32 = refl
 
 -- int main() { int @x = NULL; return 0; }
 form_33 : first_fault
-    ((main_at 0 (Declare (tree.Local (type_at 13 tree.Int ((pointer sign.NotNull None) ∷ [])) (name_at 18 "x") (Initializer.Value (Expression.Null 22)))
+    ((main_at 0 (Declare (tree.Local (type_at 13 tree.Int ((pointer (sign.NotNull 1) None) ∷ [])) (name_at 18 "x") (Initializer.Value (Expression.Null 22)))
     (Execute (returns 28 (number 35 0)) NoItems)) 38) ∷ [])
     ≡ Some (fault type_rule 22)
 form_33 = refl
 
 -- int main() { int @x; return 0; }
 form_34 : first_fault
-    ((main_at 0 (Declare (tree.Local (type_at 13 tree.Int ((pointer sign.NotNull None) ∷ [])) (name_at 18 "x") Initializer.Unset) (Execute (returns 21 (number
+    ((main_at 0 (Declare (tree.Local (type_at 13 tree.Int ((pointer (sign.NotNull 1) None) ∷ [])) (name_at 18 "x") Initializer.Unset) (Execute (returns 21 (number
     28 0)) NoItems)) 31) ∷ [])
     ≡ Some (fault type_rule 13)
 form_34 = refl
 
 -- int main() { int @`U x; return 0; }
 form_35 : first_fault
-    ((main_at 0 (Declare (tree.Local (type_at 13 tree.Int ((pointer sign.NotNull (Some (tree.Unique 18))) ∷ [])) (name_at 21 "x") Initializer.Unset) (Execute
+    ((main_at 0 (Declare (tree.Local (type_at 13 tree.Int ((pointer (sign.NotNull 1) (Some (tree.Unique 18))) ∷ [])) (name_at 21 "x") Initializer.Unset) (Execute
     (returns 24 (number 31 0)) NoItems)) 34) ∷ [])
     ≡ Some (fault type_rule 13)
 form_35 = refl
 
 -- struct S { int @p; }; int main() { struct S s; return 0; }
 form_36 : first_fault
-    ((tree.StructItem (structure 0 (name_at 7 "S") [] ((member (type_at 11 tree.Int ((pointer sign.NotNull None) ∷ [])) (name_at 16 "p")) ∷ []))) ∷ (main_at 22
+    ((tree.StructItem (structure 0 (name_at 7 "S") [] ((member (type_at 11 tree.Int ((pointer (sign.NotNull 1) None) ∷ [])) (name_at 16 "p")) ∷ []))) ∷ (main_at 22
     (Declare (tree.Local (type_at 35 (tree.Struct (name_at 42 "S") []) []) (name_at 44 "s") Initializer.Unset) (Execute (returns 47 (number 54 0)) NoItems))
     57) ∷ [])
     ≡ Some (fault type_rule 35)

@@ -14,7 +14,7 @@ use Rattle.source_typing.proofs.samples.SampleTrees.{name_at, region_at, type_at
 
 -- struct S { int @p; }; int main() { struct S a[2]; return 0; }
 form_37 : first_fault
-    ((tree.StructItem (structure 0 (name_at 7 "S") [] ((member (type_at 11 tree.Int ((pointer sign.NotNull None) ∷ [])) (name_at 16 "p")) ∷ []))) ∷ (main_at 22
+    ((tree.StructItem (structure 0 (name_at 7 "S") [] ((member (type_at 11 tree.Int ((pointer (sign.NotNull 1) None) ∷ [])) (name_at 16 "p")) ∷ []))) ∷ (main_at 22
     (Declare (tree.Local (type_at 35 (tree.Struct (name_at 42 "S") []) []) (name_at 44 "a") (Initializer.Elements 2)) (Execute (returns 50 (number 57 0))
     NoItems)) 60) ∷ [])
     ≡ Some (fault type_rule 35)
@@ -37,23 +37,23 @@ form_39 = refl
 
 -- int @x; int main() {  return 0; }
 form_40 : first_fault
-    ((tree.GlobalItem (global (type_at 0 tree.Int ((pointer sign.NotNull None) ∷ [])) (name_at 5 "x") Initial.Unset)) ∷ (main_at 8 (Execute (returns 22 (number
+    ((tree.GlobalItem (global (type_at 0 tree.Int ((pointer (sign.NotNull 1) None) ∷ [])) (name_at 5 "x") Initial.Unset)) ∷ (main_at 8 (Execute (returns 22 (number
     29 0)) NoItems) 32) ∷ [])
     ≡ Some (fault type_rule 0)
 form_40 = refl
 
 -- int *`r x; int main() {  return 0; }
 form_41 : first_fault
-    ((tree.GlobalItem (global (type_at 0 tree.Int ((pointer sign.Nullable (Some (region_at 5 "r"))) ∷ [])) (name_at 8 "x") Initial.Unset)) ∷ (main_at 11
+    ((tree.GlobalItem (global (type_at 0 tree.Int ((pointer (sign.Nullable 1) (Some (region_at 5 "r"))) ∷ [])) (name_at 8 "x") Initial.Unset)) ∷ (main_at 11
     (Execute (returns 25 (number 32 0)) NoItems) 35) ∷ [])
     ≡ Some (fault type_rule 0)
 form_41 = refl
 
 -- int *`H x; int *`U y; int *z; int main() {  return 0; }
 form_42 : first_fault
-    ((tree.GlobalItem (global (type_at 0 tree.Int ((pointer sign.Nullable (Some (tree.Heap 5))) ∷ [])) (name_at 8 "x") Initial.Unset)) ∷ (tree.GlobalItem
-    (global (type_at 11 tree.Int ((pointer sign.Nullable (Some (tree.Unique 16))) ∷ [])) (name_at 19 "y") Initial.Unset)) ∷ (tree.GlobalItem (global (type_at
-    22 tree.Int ((pointer sign.Nullable None) ∷ [])) (name_at 27 "z") Initial.Unset)) ∷ (main_at 30 (Execute (returns 44 (number 51 0)) NoItems) 54) ∷ [])
+    ((tree.GlobalItem (global (type_at 0 tree.Int ((pointer (sign.Nullable 1) (Some (tree.Heap 5))) ∷ [])) (name_at 8 "x") Initial.Unset)) ∷ (tree.GlobalItem
+    (global (type_at 11 tree.Int ((pointer (sign.Nullable 1) (Some (tree.Unique 16))) ∷ [])) (name_at 19 "y") Initial.Unset)) ∷ (tree.GlobalItem (global (type_at
+    22 tree.Int ((pointer (sign.Nullable 1) None) ∷ [])) (name_at 27 "z") Initial.Unset)) ∷ (main_at 30 (Execute (returns 44 (number 51 0)) NoItems) 54) ∷ [])
     ≡ None
 form_42 = refl
 
@@ -66,7 +66,7 @@ form_43 = refl
 
 -- int *x = 1; int main() {  return 0; }
 form_44 : first_fault
-    ((tree.GlobalItem (global (type_at 0 tree.Int ((pointer sign.Nullable None) ∷ [])) (name_at 5 "x") (Initial.Given (Constant.Number 9 1 false)))) ∷ (main_at
+    ((tree.GlobalItem (global (type_at 0 tree.Int ((pointer (sign.Nullable 1) None) ∷ [])) (name_at 5 "x") (Initial.Given (Constant.Number 9 1 false)))) ∷ (main_at
     12 (Execute (returns 26 (number 33 0)) NoItems) 36) ∷ [])
     ≡ Some (fault type_rule 9)
 form_44 = refl
@@ -75,7 +75,7 @@ form_44 = refl
 form_45 : first_fault
     ((tree.GlobalItem (global (type_at 0 tree.Char []) (name_at 5 "x") (Initial.Given (Constant.Character 9 97)))) ∷ (tree.GlobalItem (global (type_at 14
     tree.Char ((pointer sign.Fat None) ∷ [])) (name_at 20 "y") (Initial.Given (Constant.Text 24 (codes "b"))))) ∷ (tree.GlobalItem (global (type_at 29
-    tree.Int ((pointer sign.Nullable None) ∷ [])) (name_at 34 "z") (Initial.Given (Constant.Null 38)))) ∷ (tree.GlobalItem (global (type_at 44 tree.Unsigned
+    tree.Int ((pointer (sign.Nullable 1) None) ∷ [])) (name_at 34 "z") (Initial.Given (Constant.Null 38)))) ∷ (tree.GlobalItem (global (type_at 44 tree.Unsigned
     []) (name_at 53 "w") (Initial.Given (Constant.Negative 57 1 false)))) ∷ (main_at 61 (Execute (returns 75 (number 82 0)) NoItems) 85) ∷ [])
     ≡ None
 form_45 = refl
@@ -89,7 +89,7 @@ form_46 = refl
 
 -- int @`U x = NULL; int main() {  return 0; }
 form_47 : first_fault
-    ((tree.GlobalItem (global (type_at 0 tree.Int ((pointer sign.NotNull (Some (tree.Unique 5))) ∷ [])) (name_at 8 "x") (Initial.Given (Constant.Null 12)))) ∷
+    ((tree.GlobalItem (global (type_at 0 tree.Int ((pointer (sign.NotNull 1) (Some (tree.Unique 5))) ∷ [])) (name_at 8 "x") (Initial.Given (Constant.Null 12)))) ∷
     (main_at 18 (Execute (returns 32 (number 39 0)) NoItems) 42) ∷ [])
     ≡ Some (fault type_rule 0)
 form_47 = refl
@@ -118,10 +118,10 @@ form_50 = refl
 
 -- int main() { int x; int *p = &x; int y = p[0]; return 0; }
 form_51 : first_fault
-    ((main_at 0 (Declare (tree.Local (int_at 13) (name_at 17 "x") Initializer.Unset) (Declare (tree.Local (type_at 20 tree.Int ((pointer sign.Nullable None) ∷
+    ((main_at 0 (Declare (tree.Local (int_at 13) (name_at 17 "x") Initializer.Unset) (Declare (tree.Local (type_at 20 tree.Int ((pointer (sign.Nullable 1) None) ∷
     [])) (name_at 25 "p") (Initializer.Value (Expression.Prefixed 29 AddressOf (variable_at 30 "x")))) (Declare (tree.Local (int_at 33) (name_at 37 "y")
     (Initializer.Value (Expression.Suffixed (variable_at 41 "p") (Index (number 43 0) NoSuffixes)))) (Execute (returns 47 (number 54 0)) NoItems)))) 57) ∷ [])
-    ≡ Some (fault type_rule 41)
+    ≡ None
 form_51 = refl
 
 -- int main() { int ?p = NULL; int y = p[NULL]; return 0; }
@@ -179,7 +179,7 @@ form_58 = refl
 
 -- int main() { int *p = NULL; int x = p + 1; return 0; }
 form_59 : first_fault
-    ((main_at 0 (Declare (tree.Local (type_at 13 tree.Int ((pointer sign.Nullable None) ∷ [])) (name_at 18 "p") (Initializer.Value (Expression.Null 22)))
+    ((main_at 0 (Declare (tree.Local (type_at 13 tree.Int ((pointer (sign.Nullable 1) None) ∷ [])) (name_at 18 "p") (Initializer.Value (Expression.Null 22)))
     (Declare (tree.Local (int_at 28) (name_at 32 "x") (Initializer.Value (Expression.Chain (variable_at 36 "p") (MoreLinks Add (number 40 1) NoLinks))))
     (Execute (returns 43 (number 50 0)) NoItems))) 53) ∷ [])
     ≡ Some (fault type_rule 36)
@@ -221,8 +221,8 @@ form_63 = refl
 
 -- int main() { int *p = NULL; char *q = NULL; int x = p == q; return 0; }
 form_64 : first_fault
-    ((main_at 0 (Declare (tree.Local (type_at 13 tree.Int ((pointer sign.Nullable None) ∷ [])) (name_at 18 "p") (Initializer.Value (Expression.Null 22)))
-    (Declare (tree.Local (type_at 28 tree.Char ((pointer sign.Nullable None) ∷ [])) (name_at 34 "q") (Initializer.Value (Expression.Null 38))) (Declare
+    ((main_at 0 (Declare (tree.Local (type_at 13 tree.Int ((pointer (sign.Nullable 1) None) ∷ [])) (name_at 18 "p") (Initializer.Value (Expression.Null 22)))
+    (Declare (tree.Local (type_at 28 tree.Char ((pointer (sign.Nullable 1) None) ∷ [])) (name_at 34 "q") (Initializer.Value (Expression.Null 38))) (Declare
     (tree.Local (int_at 44) (name_at 48 "x") (Initializer.Value (Expression.Chain (variable_at 52 "p") (MoreLinks Equal (variable_at 57 "q") NoLinks))))
     (Execute (returns 60 (number 67 0)) NoItems)))) 70) ∷ [])
     ≡ Some (fault type_rule 52)
@@ -230,8 +230,8 @@ form_64 = refl
 
 -- int main() { int *`U p = NULL; int *q = NULL; int x = p == q; return 0; }
 form_65 : first_fault
-    ((main_at 0 (Declare (tree.Local (type_at 13 tree.Int ((pointer sign.Nullable (Some (tree.Unique 18))) ∷ [])) (name_at 21 "p") (Initializer.Value
-    (Expression.Null 25))) (Declare (tree.Local (type_at 31 tree.Int ((pointer sign.Nullable None) ∷ [])) (name_at 36 "q") (Initializer.Value (Expression.Null
+    ((main_at 0 (Declare (tree.Local (type_at 13 tree.Int ((pointer (sign.Nullable 1) (Some (tree.Unique 18))) ∷ [])) (name_at 21 "p") (Initializer.Value
+    (Expression.Null 25))) (Declare (tree.Local (type_at 31 tree.Int ((pointer (sign.Nullable 1) None) ∷ [])) (name_at 36 "q") (Initializer.Value (Expression.Null
     40))) (Declare (tree.Local (int_at 46) (name_at 50 "x") (Initializer.Value (Expression.Chain (variable_at 54 "p") (MoreLinks Equal (variable_at 59 "q")
     NoLinks)))) (Execute (returns 62 (number 69 0)) NoItems)))) 72) ∷ [])
     ≡ Some (fault type_rule 54)
@@ -239,8 +239,8 @@ form_65 = refl
 
 -- int main() { int *p = NULL; int *q = NULL; int x = p < q; return 0; }
 form_66 : first_fault
-    ((main_at 0 (Declare (tree.Local (type_at 13 tree.Int ((pointer sign.Nullable None) ∷ [])) (name_at 18 "p") (Initializer.Value (Expression.Null 22)))
-    (Declare (tree.Local (type_at 28 tree.Int ((pointer sign.Nullable None) ∷ [])) (name_at 33 "q") (Initializer.Value (Expression.Null 37))) (Declare
+    ((main_at 0 (Declare (tree.Local (type_at 13 tree.Int ((pointer (sign.Nullable 1) None) ∷ [])) (name_at 18 "p") (Initializer.Value (Expression.Null 22)))
+    (Declare (tree.Local (type_at 28 tree.Int ((pointer (sign.Nullable 1) None) ∷ [])) (name_at 33 "q") (Initializer.Value (Expression.Null 37))) (Declare
     (tree.Local (int_at 43) (name_at 47 "x") (Initializer.Value (Expression.Chain (variable_at 51 "p") (MoreLinks Less (variable_at 55 "q") NoLinks))))
     (Execute (returns 58 (number 65 0)) NoItems)))) 68) ∷ [])
     ≡ Some (fault type_rule 51)
@@ -262,7 +262,7 @@ form_68 = refl
 
 -- int main() { int *p = NULL; int x = -p; return 0; }
 form_69 : first_fault
-    ((main_at 0 (Declare (tree.Local (type_at 13 tree.Int ((pointer sign.Nullable None) ∷ [])) (name_at 18 "p") (Initializer.Value (Expression.Null 22)))
+    ((main_at 0 (Declare (tree.Local (type_at 13 tree.Int ((pointer (sign.Nullable 1) None) ∷ [])) (name_at 18 "p") (Initializer.Value (Expression.Null 22)))
     (Declare (tree.Local (int_at 28) (name_at 32 "x") (Initializer.Value (Expression.Prefixed 36 Negate (variable_at 37 "p")))) (Execute (returns 40 (number
     47 0)) NoItems))) 50) ∷ [])
     ≡ Some (fault type_rule 36)

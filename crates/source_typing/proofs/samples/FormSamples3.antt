@@ -23,15 +23,15 @@ form_73 = refl
 -- int main() { int *p = NULL; int x = 1; int *q = &x; { int y; int *r = &y; if (q == p) ; if (q == r) ; } let NewDynamicRegion{<`r> k} = new_ukey(); int *`r s
 -- = NULL; let NewDynamicRegion{<`t> l} = new_ukey(); int *`t t = NULL; region<`r> h = open(k); region<`t> i = open(l); if (s == t) ; return 0; }
 form_74 : first_fault
-    ((main_at 0 (Declare (tree.Local (type_at 13 tree.Int ((pointer sign.Nullable None) ∷ [])) (name_at 18 "p") (Initializer.Value (Expression.Null 22)))
-    (Declare (tree.Local (int_at 28) (name_at 32 "x") (Initializer.Value (number 36 1))) (Declare (tree.Local (type_at 39 tree.Int ((pointer sign.Nullable
+    ((main_at 0 (Declare (tree.Local (type_at 13 tree.Int ((pointer (sign.Nullable 1) None) ∷ [])) (name_at 18 "p") (Initializer.Value (Expression.Null 22)))
+    (Declare (tree.Local (int_at 28) (name_at 32 "x") (Initializer.Value (number 36 1))) (Declare (tree.Local (type_at 39 tree.Int ((pointer (sign.Nullable 1)
     None) ∷ [])) (name_at 44 "q") (Initializer.Value (Expression.Prefixed 48 AddressOf (variable_at 49 "x")))) (Execute (Statement.Block 52 (Declare
-    (tree.Local (int_at 54) (name_at 58 "y") Initializer.Unset) (Declare (tree.Local (type_at 61 tree.Int ((pointer sign.Nullable None) ∷ [])) (name_at 66
+    (tree.Local (int_at 54) (name_at 58 "y") Initializer.Unset) (Declare (tree.Local (type_at 61 tree.Int ((pointer (sign.Nullable 1) None) ∷ [])) (name_at 66
     "r") (Initializer.Value (Expression.Prefixed 70 AddressOf (variable_at 71 "y")))) (Execute (Statement.If 74 (Expression.Chain (variable_at 78 "q")
     (MoreLinks Equal (variable_at 83 "p") NoLinks)) (Statement.Empty 86)) (Execute (Statement.If 88 (Expression.Chain (variable_at 92 "q") (MoreLinks Equal
     (variable_at 97 "r") NoLinks)) (Statement.Empty 100)) NoItems))))) (Declare (tree.NewKey 104 (region_at 126 "r") (name_at 130 "k")) (Declare (tree.Local
-    (type_at 147 tree.Int ((pointer sign.Nullable (Some (region_at 152 "r"))) ∷ [])) (name_at 155 "s") (Initializer.Value (Expression.Null 159))) (Declare
-    (tree.NewKey 165 (region_at 187 "t") (name_at 191 "l")) (Declare (tree.Local (type_at 208 tree.Int ((pointer sign.Nullable (Some (region_at 213 "t"))) ∷
+    (type_at 147 tree.Int ((pointer (sign.Nullable 1) (Some (region_at 152 "r"))) ∷ [])) (name_at 155 "s") (Initializer.Value (Expression.Null 159))) (Declare
+    (tree.NewKey 165 (region_at 187 "t") (name_at 191 "l")) (Declare (tree.Local (type_at 208 tree.Int ((pointer (sign.Nullable 1) (Some (region_at 213 "t"))) ∷
     [])) (name_at 216 "t") (Initializer.Value (Expression.Null 220))) (Declare (tree.Open 226 (region_at 233 "r") (name_at 237 "h") (name_at 246 "k"))
     (Declare (tree.Open 250 (region_at 257 "t") (name_at 261 "i") (name_at 270 "l")) (Execute (Statement.If 274 (Expression.Chain (variable_at 278 "s")
     (MoreLinks Equal (variable_at 283 "t") NoLinks)) (Statement.Empty 286)) (Execute (returns 288 (number 295 0)) NoItems)))))))))))) 298) ∷ [])
@@ -88,7 +88,7 @@ form_80 = refl
 
 -- int main() { int *p = NULL; int x; *new 1 :=: x; return 0; }
 form_81 : first_fault
-    ((main_at 0 (Declare (tree.Local (type_at 13 tree.Int ((pointer sign.Nullable None) ∷ [])) (name_at 18 "p") (Initializer.Value (Expression.Null 22)))
+    ((main_at 0 (Declare (tree.Local (type_at 13 tree.Int ((pointer (sign.Nullable 1) None) ∷ [])) (name_at 18 "p") (Initializer.Value (Expression.Null 22)))
     (Declare (tree.Local (int_at 28) (name_at 32 "x") Initializer.Unset) (Execute (Statement.Exchange (Expression.Prefixed 35 Dereference (Expression.New 36
     (One (number 40 1)))) (variable_at 46 "x")) (Execute (returns 49 (number 56 0)) NoItems)))) 59) ∷ [])
     ≡ Some (fault type_rule 36)
@@ -129,7 +129,7 @@ form_86 = refl
 
 -- int *f() { return 1; } int main() { return 0; }
 form_87 : first_fault
-    ((tree.FunctionItem (routine (type_at 0 tree.Int ((pointer sign.Nullable None) ∷ [])) (name_at 5 "f") [] None [] (Execute (returns 11 (number 18 1))
+    ((tree.FunctionItem (routine (type_at 0 tree.Int ((pointer (sign.Nullable 1) None) ∷ [])) (name_at 5 "f") [] None [] (Execute (returns 11 (number 18 1))
     NoItems) 21)) ∷ (main_returns 23) ∷ [])
     ≡ Some (fault type_rule 18)
 form_87 = refl
@@ -295,7 +295,7 @@ form_106 = refl
 
 -- struct S<`r, `r> { int *`r p; }; int main() { return 0; }
 form_107 : first_fault
-    ((tree.StructItem (structure 0 (name_at 7 "S") ((region_at 9 "r") ∷ (region_at 13 "r") ∷ []) ((member (type_at 19 tree.Int ((pointer sign.Nullable (Some
+    ((tree.StructItem (structure 0 (name_at 7 "S") ((region_at 9 "r") ∷ (region_at 13 "r") ∷ []) ((member (type_at 19 tree.Int ((pointer (sign.Nullable 1) (Some
     (region_at 24 "r"))) ∷ [])) (name_at 27 "p")) ∷ []))) ∷ (main_returns 33) ∷ [])
     ≡ Some (fault region_rule 13)
 form_107 = refl

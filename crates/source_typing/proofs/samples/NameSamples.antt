@@ -91,7 +91,7 @@ name_10 = refl
 -- struct A { struct B<`H,`H> *p; }; struct B<`r> { int x; int x; }; int main() { return 0; }
 name_11 : typing_fault false
     ((tree.StructItem (structure 0 (name_at 7 "A") [] ((member (type_at 11 (tree.Struct (name_at 18 "B") ((tree.Heap 20) ∷ (tree.Heap 23) ∷ [])) ((pointer
-    sign.Nullable None) ∷ [])) (name_at 28 "p")) ∷ []))) ∷ (tree.StructItem (structure 34 (name_at 41 "B") ((region_at 43 "r") ∷ []) ((member (int_at 49)
+    (sign.Nullable 1) None) ∷ [])) (name_at 28 "p")) ∷ []))) ∷ (tree.StructItem (structure 34 (name_at 41 "B") ((region_at 43 "r") ∷ []) ((member (int_at 49)
     (name_at 53 "x")) ∷ (member (int_at 56) (name_at 60 "x")) ∷ []))) ∷ (main_returns 66) ∷ [])
     ≡ Some (fault name_rule 60)
 name_11 = refl
@@ -105,8 +105,8 @@ name_12 = refl
 
 -- int main() { struct f *x; return 0; } int f(struct nope *p) { return 0; }
 name_13 : typing_fault false
-    ((main_at 0 (Declare (tree.Local (type_at 13 (tree.Struct (name_at 20 "f") []) ((pointer sign.Nullable None) ∷ [])) (name_at 23 "x") Initializer.Unset)
+    ((main_at 0 (Declare (tree.Local (type_at 13 (tree.Struct (name_at 20 "f") []) ((pointer (sign.Nullable 1) None) ∷ [])) (name_at 23 "x") Initializer.Unset)
     (Execute (returns 26 (number 33 0)) NoItems)) 36) ∷ (tree.FunctionItem (routine (int_at 38) (name_at 42 "f") ((member (type_at 44 (tree.Struct (name_at 51
-    "nope") []) ((pointer sign.Nullable None) ∷ [])) (name_at 57 "p")) ∷ []) None [] (Execute (returns 62 (number 69 0)) NoItems) 72)) ∷ [])
+    "nope") []) ((pointer (sign.Nullable 1) None) ∷ [])) (name_at 57 "p")) ∷ []) None [] (Execute (returns 62 (number 69 0)) NoItems) 72)) ∷ [])
     ≡ Some (fault name_rule 51)
 name_13 = refl

@@ -1,16 +1,14 @@
 -- Functions, effects that are written, and region parameters of structs.
 use Rattle.std.proofs.Common.{◌≡◌, refl, true, false, Some, None, [], ◌∷◌}
-use Rattle.std.specs.Prelude.{codes, replicate}
 use Rattle.cyc_tree.specs.declared.expression.Operator.TheVariants.{Less, Add, Subtract}
-use Rattle.cyc_tree.specs.declared.expression.Prefix.TheVariants.{Negate, AddressOf}
 use Rattle.cyc_tree.specs.declared.name.Sign.TheVariants as sign
 use Rattle.cyc_tree.specs.Tree as tree
 use Rattle.cyc_tree.specs.Tree.{Expression, NoExpressions, MoreExpressions, NoLinks, MoreLinks, NoSuffixes, Index, Arrow, One, Initializer, Default}
 use Rattle.cyc_tree.specs.Tree.{Statement, NoItems, Declare, Execute, NoClauses, MoreClauses, Constant, Initial}
 use Rattle.source_meaning.proofs.Trees.{pointer}
-use Rattle.source_typing.specs.Faults.{fault, name_rule, type_rule, region_rule}
+use Rattle.source_typing.specs.Faults.{fault, name_rule, region_rule}
 use Rattle.source_typing.specs.Answers.{first_fault}
-use Rattle.source_typing.proofs.samples.SampleTrees.{name_at, region_at, type_at, int_at, number, variable_at, returns, member, structure, global, bound}
+use Rattle.source_typing.proofs.samples.SampleTrees.{name_at, region_at, type_at, int_at, number, variable_at, returns, member, structure, global}
 use Rattle.source_typing.proofs.samples.SampleTrees.{routine, main_at, main_returns}
 
 -- unsigned f(unsigned n, char c) { if (n < 2) return n; return f(n - 1, c) + f(n - 2, 'a'); } void g(int x) { putchar(x); } int i = -3; char c = 'x'; unsigned
@@ -67,7 +65,7 @@ parameters_2 = refl
 
 -- struct S<`r> { int *`r p; }; int main() { struct S<`H> x; return 0; }
 parameters_3 : first_fault
-    ((tree.StructItem (structure 0 (name_at 7 "S") (region_at 9 "r" ∷ []) ((member (type_at 15 tree.Int ((pointer sign.Nullable (Some (region_at 20 "r"))) ∷
+    ((tree.StructItem (structure 0 (name_at 7 "S") (region_at 9 "r" ∷ []) ((member (type_at 15 tree.Int ((pointer (sign.Nullable 1) (Some (region_at 20 "r"))) ∷
     [])) (name_at 23 "p")) ∷ []))) ∷ (main_at 29 (Declare (tree.Local (type_at 42 (tree.Struct (name_at 49 "S") (tree.Heap 51 ∷ [])) []) (name_at 55 "x")
     Initializer.Unset) (Execute (returns 58 (number 65 0)) NoItems)) 68) ∷ [])
     ≡ None

@@ -31,9 +31,9 @@ program_36 = refl
 -- the leftmost region first
 -- int f(int *`r *`r p) { return 0; } int main() { int x; int *p = &x; return f(new p); }
 program_37 : first_fault
-    ((tree.FunctionItem (routine (int_at 0) (name_at 4 "f") ((member (type_at 6 tree.Int ((pointer sign.Nullable (Some (region_at 11 "r"))) ∷ (pointer
-    sign.Nullable (Some (region_at 15 "r"))) ∷ [])) (name_at 18 "p")) ∷ []) None [] (Execute (returns 23 (number 30 0)) NoItems) 33)) ∷ (main_at 35 (Declare
-    (tree.Local (int_at 48) (name_at 52 "x") Initializer.Unset) (Declare (tree.Local (type_at 55 tree.Int ((pointer sign.Nullable None) ∷ [])) (name_at 60
+    ((tree.FunctionItem (routine (int_at 0) (name_at 4 "f") ((member (type_at 6 tree.Int ((pointer (sign.Nullable 1) (Some (region_at 11 "r"))) ∷ (pointer
+    (sign.Nullable 1) (Some (region_at 15 "r"))) ∷ [])) (name_at 18 "p")) ∷ []) None [] (Execute (returns 23 (number 30 0)) NoItems) 33)) ∷ (main_at 35 (Declare
+    (tree.Local (int_at 48) (name_at 52 "x") Initializer.Unset) (Declare (tree.Local (type_at 55 tree.Int ((pointer (sign.Nullable 1) None) ∷ [])) (name_at 60
     "p") (Initializer.Value (Expression.Prefixed 64 AddressOf (variable_at 65 "x")))) (Execute (Statement.Return 68 (Some (Expression.Call (name_at 75 "f")
     (MoreExpressions (Expression.New 77 (One (variable_at 81 "p"))) NoExpressions)))) NoItems))) 85) ∷ [])
     ≡ None
@@ -42,8 +42,8 @@ program_37 = refl
 -- `NULL` fixes no region
 -- int f(int *`r p, int *`r q) { return 0; } int main() { int x; *f(NULL, &x); return 0; }
 program_38 : first_fault
-    ((tree.FunctionItem (routine (int_at 0) (name_at 4 "f") ((member (type_at 6 tree.Int ((pointer sign.Nullable (Some (region_at 11 "r"))) ∷ [])) (name_at 14
-    "p")) ∷ (member (type_at 17 tree.Int ((pointer sign.Nullable (Some (region_at 22 "r"))) ∷ [])) (name_at 25 "q")) ∷ []) None [] (Execute (returns 30
+    ((tree.FunctionItem (routine (int_at 0) (name_at 4 "f") ((member (type_at 6 tree.Int ((pointer (sign.Nullable 1) (Some (region_at 11 "r"))) ∷ [])) (name_at 14
+    "p")) ∷ (member (type_at 17 tree.Int ((pointer (sign.Nullable 1) (Some (region_at 22 "r"))) ∷ [])) (name_at 25 "q")) ∷ []) None [] (Execute (returns 30
     (number 37 0)) NoItems) 40)) ∷ (main_at 42 (Declare (tree.Local (int_at 55) (name_at 59 "x") Initializer.Unset) (Execute (Statement.Run
     (Expression.Prefixed 62 Dereference (Expression.Call (name_at 63 "f") (MoreExpressions (Expression.Null 65) (MoreExpressions (Expression.Prefixed 71
     AddressOf (variable_at 72 "x")) NoExpressions))))) (Execute (returns 76 (number 83 0)) NoItems))) 86) ∷ [])
@@ -53,9 +53,9 @@ program_38 = refl
 -- the effect of the call has a closed dynamic region
 -- int g(int *`a p) { return 0; } int main() { let NewDynamicRegion{<`r> k} = new_ukey(); int *`r p = NULL; return g(p); }
 program_39 : first_fault
-    ((tree.FunctionItem (routine (int_at 0) (name_at 4 "g") ((member (type_at 6 tree.Int ((pointer sign.Nullable (Some (region_at 11 "a"))) ∷ [])) (name_at 14
+    ((tree.FunctionItem (routine (int_at 0) (name_at 4 "g") ((member (type_at 6 tree.Int ((pointer (sign.Nullable 1) (Some (region_at 11 "a"))) ∷ [])) (name_at 14
     "p")) ∷ []) None [] (Execute (returns 19 (number 26 0)) NoItems) 29)) ∷ (main_at 31 (Declare (tree.NewKey 44 (region_at 66 "r") (name_at 70 "k")) (Declare
-    (tree.Local (type_at 87 tree.Int ((pointer sign.Nullable (Some (region_at 92 "r"))) ∷ [])) (name_at 95 "p") (Initializer.Value (Expression.Null 99)))
+    (tree.Local (type_at 87 tree.Int ((pointer (sign.Nullable 1) (Some (region_at 92 "r"))) ∷ [])) (name_at 95 "p") (Initializer.Value (Expression.Null 99)))
     (Execute (Statement.Return 105 (Some (Expression.Call (name_at 112 "g") (MoreExpressions (variable_at 114 "p") NoExpressions)))) NoItems))) 118) ∷ [])
     ≡ Some (fault effect_rule 112)
 program_39 = refl
@@ -63,9 +63,9 @@ program_39 = refl
 -- int g(int *`a p) { return 0; } int main() { let NewDynamicRegion{<`r> k} = new_ukey(); int *`r p = NULL; { region<`r> h = open(k); g(p); } free_ukey(k);
 -- return 0; }
 program_40 : first_fault
-    ((tree.FunctionItem (routine (int_at 0) (name_at 4 "g") ((member (type_at 6 tree.Int ((pointer sign.Nullable (Some (region_at 11 "a"))) ∷ [])) (name_at 14
+    ((tree.FunctionItem (routine (int_at 0) (name_at 4 "g") ((member (type_at 6 tree.Int ((pointer (sign.Nullable 1) (Some (region_at 11 "a"))) ∷ [])) (name_at 14
     "p")) ∷ []) None [] (Execute (returns 19 (number 26 0)) NoItems) 29)) ∷ (main_at 31 (Declare (tree.NewKey 44 (region_at 66 "r") (name_at 70 "k")) (Declare
-    (tree.Local (type_at 87 tree.Int ((pointer sign.Nullable (Some (region_at 92 "r"))) ∷ [])) (name_at 95 "p") (Initializer.Value (Expression.Null 99)))
+    (tree.Local (type_at 87 tree.Int ((pointer (sign.Nullable 1) (Some (region_at 92 "r"))) ∷ [])) (name_at 95 "p") (Initializer.Value (Expression.Null 99)))
     (Execute (Statement.Block 105 (Declare (tree.Open 107 (region_at 114 "r") (name_at 118 "h") (name_at 127 "k")) (Execute (Statement.Run (Expression.Call
     (name_at 131 "g") (MoreExpressions (variable_at 133 "p") NoExpressions))) NoItems))) (Execute (Statement.FreeKey 139 (name_at 149 "k")) (Execute (returns
     153 (number 160 0)) NoItems))))) 163) ∷ [])
@@ -77,9 +77,9 @@ program_40 = refl
 -- }
 program_41 : first_fault
     ((tree.FunctionItem (routine (int_at 0) (name_at 4 "g") ((member (type_at 6 (tree.Key (region_at 20 "a")) []) (name_at 24 "k")) ∷ (member (type_at 27
-    tree.Int ((pointer sign.Nullable (Some (region_at 32 "a"))) ∷ [])) (name_at 35 "p")) ∷ []) None [] (Execute (Statement.FreeKey 40 (name_at 50 "k"))
+    tree.Int ((pointer (sign.Nullable 1) (Some (region_at 32 "a"))) ∷ [])) (name_at 35 "p")) ∷ []) None [] (Execute (Statement.FreeKey 40 (name_at 50 "k"))
     (Execute (returns 54 (number 61 0)) NoItems)) 64)) ∷ (main_at 66 (Declare (tree.NewKey 79 (region_at 101 "r") (name_at 105 "k")) (Declare (tree.Local
-    (type_at 122 tree.Int ((pointer sign.Nullable (Some (region_at 127 "r"))) ∷ [])) (name_at 130 "p") (Initializer.Value (Expression.Null 134))) (Execute
+    (type_at 122 tree.Int ((pointer (sign.Nullable 1) (Some (region_at 127 "r"))) ∷ [])) (name_at 130 "p") (Initializer.Value (Expression.Null 134))) (Execute
     (Statement.Return 140 (Some (Expression.Call (name_at 147 "g") (MoreExpressions (variable_at 149 "k") (MoreExpressions (variable_at 152 "p")
     NoExpressions))))) NoItems))) 156) ∷ [])
     ≡ None
@@ -88,7 +88,7 @@ program_41 = refl
 -- int g(uregion_key_t<`a> k, int *`a p) { free_ukey(k); return *p; } int main() { return 0; }
 program_42 : first_fault
     ((tree.FunctionItem (routine (int_at 0) (name_at 4 "g") ((member (type_at 6 (tree.Key (region_at 20 "a")) []) (name_at 24 "k")) ∷ (member (type_at 27
-    tree.Int ((pointer sign.Nullable (Some (region_at 32 "a"))) ∷ [])) (name_at 35 "p")) ∷ []) None [] (Execute (Statement.FreeKey 40 (name_at 50 "k"))
+    tree.Int ((pointer (sign.Nullable 1) (Some (region_at 32 "a"))) ∷ [])) (name_at 35 "p")) ∷ []) None [] (Execute (Statement.FreeKey 40 (name_at 50 "k"))
     (Execute (returns 54 (Expression.Prefixed 61 Dereference (variable_at 62 "p"))) NoItems)) 65)) ∷ (main_returns 67) ∷ [])
     ≡ Some (fault region_rule 61)
 program_42 = refl

@@ -95,9 +95,9 @@ size_4 : first_fault
     (name_at 248 "e")) ∷ (member (type_at 251 (tree.Struct (name_at 258 "B") []) []) (name_at 260 "f")) ∷ (member (type_at 263 (tree.Struct (name_at 270 "B")
     []) []) (name_at 272 "g")) ∷ (member (type_at 275 (tree.Struct (name_at 282 "B") []) []) (name_at 284 "h")) ∷ []))) ∷ (tree.StructItem (structure 290
     (name_at 297 "D") [] ((member (type_at 301 (tree.Struct (name_at 308 "C") []) []) (name_at 310 "a")) ∷ (member (type_at 313 (tree.Struct (name_at 320 "C")
-    []) []) (name_at 322 "b")) ∷ (member (type_at 325 tree.Int ((pointer sign.Nullable None) ∷ [])) (name_at 330 "p")) ∷ []))) ∷ (tree.StructItem (structure
+    []) []) (name_at 322 "b")) ∷ (member (type_at 325 tree.Int ((pointer (sign.Nullable 1) None) ∷ [])) (name_at 330 "p")) ∷ []))) ∷ (tree.StructItem (structure
     336 (name_at 343 "E") [] ((member (type_at 347 (tree.Struct (name_at 354 "D") []) []) (name_at 356 "d")) ∷ (member (type_at 359 tree.Int ((pointer
-    sign.NotNull None) ∷ [])) (name_at 364 "q")) ∷ []))) ∷ (main_at 370 (Declare (tree.Local (type_at 383 (tree.Struct (name_at 390 "E") []) []) (name_at 392
+    (sign.NotNull 1) None) ∷ [])) (name_at 364 "q")) ∷ []))) ∷ (main_at 370 (Declare (tree.Local (type_at 383 (tree.Struct (name_at 390 "E") []) []) (name_at 392
     "e") Initializer.Unset) (Execute (returns 395 (number 402 0)) NoItems)) 405) ∷ [])
     ≡ Some (fault size_rule 297)
 size_4 = refl
@@ -135,7 +135,7 @@ size_8 = refl
 -- @tagged union U { char a; char *b; }; union U *a[1025]; int main() { return 0; }
 size_9 : first_fault
     ((tree.UnionItem (structure 0 (name_at 14 "U") [] ((member (type_at 18 tree.Char []) (name_at 23 "a")) ∷ (member (type_at 26 tree.Char ((pointer
-    sign.Nullable None) ∷ [])) (name_at 32 "b")) ∷ []))) ∷ (tree.GlobalItem (global (type_at 38 (tree.Union (name_at 44 "U") []) ((pointer sign.Nullable None)
+    (sign.Nullable 1) None) ∷ [])) (name_at 32 "b")) ∷ []))) ∷ (tree.GlobalItem (global (type_at 38 (tree.Union (name_at 44 "U") []) ((pointer (sign.Nullable 1) None)
     ∷ [])) (name_at 47 "a") (Initial.Elements 1025))) ∷ (main_returns 56) ∷ [])
     ≡ Some (fault size_rule 38)
 size_9 = refl
@@ -144,7 +144,7 @@ size_9 = refl
 -- @tagged union U { char a; char *b; }; struct S { char c; int i; }; int main() { struct S a[512]; return 0; }
 size_10 : first_fault
     ((tree.UnionItem (structure 0 (name_at 14 "U") [] ((member (type_at 18 tree.Char []) (name_at 23 "a")) ∷ (member (type_at 26 tree.Char ((pointer
-    sign.Nullable None) ∷ [])) (name_at 32 "b")) ∷ []))) ∷ (tree.StructItem (structure 38 (name_at 45 "S") [] ((member (type_at 49 tree.Char []) (name_at 54
+    (sign.Nullable 1) None) ∷ [])) (name_at 32 "b")) ∷ []))) ∷ (tree.StructItem (structure 38 (name_at 45 "S") [] ((member (type_at 49 tree.Char []) (name_at 54
     "c")) ∷ (member (int_at 57) (name_at 61 "i")) ∷ []))) ∷ (main_at 67 (Declare (tree.Local (type_at 80 (tree.Struct (name_at 87 "S") []) []) (name_at 89
     "a") (Initializer.Elements 512)) (Execute (returns 97 (number 104 0)) NoItems)) 107) ∷ [])
     ≡ None

@@ -11,7 +11,7 @@ use Rattle.source_typing.proofs.samples.SampleTrees.{name_at, type_at, int_at, n
 -- a global whose type names itself
 -- struct x *x; int main() { x(); return 0; }
 tag_1 : first_fault
-    ((tree.GlobalItem (global (type_at 0 (tree.Struct (name_at 7 "x") []) (pointer sign.Nullable None ∷ [])) (name_at 10 "x") Initial.Unset)) ∷ (main_at 13
+    ((tree.GlobalItem (global (type_at 0 (tree.Struct (name_at 7 "x") []) (pointer (sign.Nullable 1) None ∷ [])) (name_at 10 "x") Initial.Unset)) ∷ (main_at 13
     (Execute (Statement.Run (Expression.Call (name_at 26 "x") NoExpressions)) (Execute (returns 31 (number 38 0)) NoItems)) 41) ∷ [])
     ≡ Some (fault type_rule 7)
 tag_1 = refl
@@ -19,7 +19,7 @@ tag_1 = refl
 -- a function whose parameter names it
 -- int f(struct f *p) { return 0; } int main() { f(); return 0; }
 tag_2 : first_fault
-    ((tree.FunctionItem (routine (int_at 0) (name_at 4 "f") ((member (type_at 6 (tree.Struct (name_at 13 "f") []) (pointer sign.Nullable None ∷ [])) (name_at
+    ((tree.FunctionItem (routine (int_at 0) (name_at 4 "f") ((member (type_at 6 (tree.Struct (name_at 13 "f") []) (pointer (sign.Nullable 1) None ∷ [])) (name_at
     16 "p")) ∷ []) None [] (Execute (returns 21 (number 28 0)) NoItems) 31)) ∷ (main_at 33 (Execute (Statement.Run (Expression.Call (name_at 46 "f")
     NoExpressions)) (Execute (returns 51 (number 58 0)) NoItems)) 61) ∷ [])
     ≡ Some (fault type_rule 13)
@@ -28,9 +28,9 @@ tag_2 = refl
 -- two functions whose parameters name each other
 -- int f(struct g *p) { return 0; } int g(struct f *p) { return 0; } int main() { return 0; }
 tag_3 : first_fault
-    ((tree.FunctionItem (routine (int_at 0) (name_at 4 "f") ((member (type_at 6 (tree.Struct (name_at 13 "g") []) (pointer sign.Nullable None ∷ [])) (name_at
+    ((tree.FunctionItem (routine (int_at 0) (name_at 4 "f") ((member (type_at 6 (tree.Struct (name_at 13 "g") []) (pointer (sign.Nullable 1) None ∷ [])) (name_at
     16 "p")) ∷ []) None [] (Execute (returns 21 (number 28 0)) NoItems) 31)) ∷ (tree.FunctionItem (routine (int_at 33) (name_at 37 "g") ((member (type_at 39
-    (tree.Struct (name_at 46 "f") []) (pointer sign.Nullable None ∷ [])) (name_at 49 "p")) ∷ []) None [] (Execute (returns 54 (number 61 0)) NoItems) 64)) ∷
+    (tree.Struct (name_at 46 "f") []) (pointer (sign.Nullable 1) None ∷ [])) (name_at 49 "p")) ∷ []) None [] (Execute (returns 54 (number 61 0)) NoItems) 64)) ∷
     (main_returns 66) ∷ [])
     ≡ Some (fault type_rule 13)
 tag_3 = refl
@@ -38,8 +38,8 @@ tag_3 = refl
 -- a global that names one at fault further on
 -- struct y *x; struct z *y; int main() { return 0; }
 tag_4 : first_fault
-    ((tree.GlobalItem (global (type_at 0 (tree.Struct (name_at 7 "y") []) (pointer sign.Nullable None ∷ [])) (name_at 10 "x") Initial.Unset)) ∷
-    (tree.GlobalItem (global (type_at 13 (tree.Struct (name_at 20 "z") []) (pointer sign.Nullable None ∷ [])) (name_at 23 "y") Initial.Unset)) ∷
+    ((tree.GlobalItem (global (type_at 0 (tree.Struct (name_at 7 "y") []) (pointer (sign.Nullable 1) None ∷ [])) (name_at 10 "x") Initial.Unset)) ∷
+    (tree.GlobalItem (global (type_at 13 (tree.Struct (name_at 20 "z") []) (pointer (sign.Nullable 1) None ∷ [])) (name_at 23 "y") Initial.Unset)) ∷
     (main_returns 26) ∷ [])
     ≡ Some (fault type_rule 7)
 tag_4 = refl
@@ -95,7 +95,7 @@ tag_6 = refl
 -- of a global and a struct of a name the global is meant, so that no type is of the struct
 -- struct T { struct S *p; }; int S; struct S { int a; }; int main() { return 0; }
 tag_7 : first_fault
-    ((tree.StructItem (structure 0 (name_at 7 "T") [] ((member (type_at 11 (tree.Struct (name_at 18 "S") []) (pointer sign.Nullable None ∷ [])) (name_at
+    ((tree.StructItem (structure 0 (name_at 7 "T") [] ((member (type_at 11 (tree.Struct (name_at 18 "S") []) (pointer (sign.Nullable 1) None ∷ [])) (name_at
     21 "p")) ∷ []))) ∷ (tree.GlobalItem (global (int_at 27) (name_at 31 "S") Initial.Unset)) ∷ (tree.StructItem (structure 34 (name_at 41 "S") [] ((member
     (int_at 45) (name_at 49 "a")) ∷ []))) ∷ (main_returns 55) ∷ [])
     ≡ Some (fault type_rule 18)
@@ -104,7 +104,7 @@ tag_7 = refl
 -- and of a union and a struct the union
 -- struct T { struct S *p; }; union S { int a; }; struct S { int a; }; int main() { return 0; }
 tag_8 : first_fault
-    ((tree.StructItem (structure 0 (name_at 7 "T") [] ((member (type_at 11 (tree.Struct (name_at 18 "S") []) (pointer sign.Nullable None ∷ [])) (name_at
+    ((tree.StructItem (structure 0 (name_at 7 "T") [] ((member (type_at 11 (tree.Struct (name_at 18 "S") []) (pointer (sign.Nullable 1) None ∷ [])) (name_at
     21 "p")) ∷ []))) ∷ (tree.UnionItem (structure 27 (name_at 33 "S") [] ((member (int_at 37) (name_at 41 "a")) ∷ []))) ∷ (tree.StructItem (structure 47
     (name_at 54 "S") [] ((member (int_at 58) (name_at 62 "a")) ∷ []))) ∷ (main_returns 68) ∷ [])
     ≡ Some (fault type_rule 18)
@@ -113,7 +113,7 @@ tag_8 = refl
 -- a struct that names itself as a union
 -- struct S { union S *p; }; int main() { return 0; }
 tag_9 : first_fault
-    ((tree.StructItem (structure 0 (name_at 7 "S") [] ((member (type_at 11 (tree.Union (name_at 17 "S") []) (pointer sign.Nullable None ∷ [])) (name_at
+    ((tree.StructItem (structure 0 (name_at 7 "S") [] ((member (type_at 11 (tree.Union (name_at 17 "S") []) (pointer (sign.Nullable 1) None ∷ [])) (name_at
     20 "p")) ∷ []))) ∷ (main_returns 26) ∷ [])
     ≡ Some (fault type_rule 17)
 tag_9 = refl
@@ -121,7 +121,7 @@ tag_9 = refl
 -- a union that names itself as a struct
 -- union U { struct U *p; }; int main() { return 0; }
 tag_10 : first_fault
-    ((tree.UnionItem (structure 0 (name_at 6 "U") [] ((member (type_at 10 (tree.Struct (name_at 17 "U") []) (pointer sign.Nullable None ∷ [])) (name_at
+    ((tree.UnionItem (structure 0 (name_at 6 "U") [] ((member (type_at 10 (tree.Struct (name_at 17 "U") []) (pointer (sign.Nullable 1) None ∷ [])) (name_at
     20 "p")) ∷ []))) ∷ (main_returns 26) ∷ [])
     ≡ Some (fault type_rule 17)
 tag_10 = refl

@@ -46,21 +46,21 @@ type_5 = refl
 
 -- int main() { int @p = NULL; return 0; }
 type_6 : typing_fault false
-    ((main_at 0 (Declare (tree.Local (type_at 13 tree.Int ((pointer sign.NotNull None) ∷ [])) (name_at 18 "p") (Initializer.Value (Expression.Null 22)))
+    ((main_at 0 (Declare (tree.Local (type_at 13 tree.Int ((pointer (sign.NotNull 1) None) ∷ [])) (name_at 18 "p") (Initializer.Value (Expression.Null 22)))
     (Execute (returns 28 (number 35 0)) NoItems)) 38) ∷ [])
     ≡ Some (fault type_rule 22)
 type_6 = refl
 
 -- int main() { int @p; return 0; }
 type_7 : typing_fault false
-    ((main_at 0 (Declare (tree.Local (type_at 13 tree.Int ((pointer sign.NotNull None) ∷ [])) (name_at 18 "p") Initializer.Unset) (Execute (returns 21 (number
+    ((main_at 0 (Declare (tree.Local (type_at 13 tree.Int ((pointer (sign.NotNull 1) None) ∷ [])) (name_at 18 "p") Initializer.Unset) (Execute (returns 21 (number
     28 0)) NoItems)) 31) ∷ [])
     ≡ Some (fault type_rule 13)
 type_7 = refl
 
 -- int main() { int *p = 3; return 0; }
 type_8 : typing_fault false
-    ((main_at 0 (Declare (tree.Local (type_at 13 tree.Int ((pointer sign.Nullable None) ∷ [])) (name_at 18 "p") (Initializer.Value (number 22 3))) (Execute
+    ((main_at 0 (Declare (tree.Local (type_at 13 tree.Int ((pointer (sign.Nullable 1) None) ∷ [])) (name_at 18 "p") (Initializer.Value (number 22 3))) (Execute
     (returns 25 (number 32 0)) NoItems)) 35) ∷ [])
     ≡ Some (fault type_rule 22)
 type_8 = refl
@@ -139,8 +139,8 @@ type_19 = refl
 
 -- int *`r f(int *`r p) { return p; } int main() { int g; rnew(g) f(NULL); return 0; }
 type_20 : typing_fault false
-    ((tree.FunctionItem (routine (type_at 0 tree.Int ((pointer sign.Nullable (Some (region_at 5 "r"))) ∷ [])) (name_at 8 "f") ((member (type_at 10 tree.Int
-    ((pointer sign.Nullable (Some (region_at 15 "r"))) ∷ [])) (name_at 18 "p")) ∷ []) None [] (Execute (returns 23 (variable_at 30 "p")) NoItems) 33)) ∷
+    ((tree.FunctionItem (routine (type_at 0 tree.Int ((pointer (sign.Nullable 1) (Some (region_at 5 "r"))) ∷ [])) (name_at 8 "f") ((member (type_at 10 tree.Int
+    ((pointer (sign.Nullable 1) (Some (region_at 15 "r"))) ∷ [])) (name_at 18 "p")) ∷ []) None [] (Execute (returns 23 (variable_at 30 "p")) NoItems) 33)) ∷
     (main_at 35 (Declare (tree.Local (int_at 48) (name_at 52 "g") Initializer.Unset) (Execute (Statement.Run (Expression.NewIn 55 (variable_at 60 "g") (One
     (Expression.Call (name_at 63 "f") (MoreExpressions (Expression.Null 65) NoExpressions))))) (Execute (returns 72 (number 79 0)) NoItems))) 82) ∷ [])
     ≡ Some (fault type_rule 55)
@@ -157,7 +157,7 @@ type_21 = refl
 
 -- struct S<`r> { int *`r p; }; int f(struct S s) { return 0; } int main() { return 0; }
 type_22 : typing_fault false
-    ((tree.StructItem (structure 0 (name_at 7 "S") ((region_at 9 "r") ∷ []) ((member (type_at 15 tree.Int ((pointer sign.Nullable (Some (region_at 20 "r"))) ∷
+    ((tree.StructItem (structure 0 (name_at 7 "S") ((region_at 9 "r") ∷ []) ((member (type_at 15 tree.Int ((pointer (sign.Nullable 1) (Some (region_at 20 "r"))) ∷
     [])) (name_at 23 "p")) ∷ []))) ∷ (tree.FunctionItem (routine (int_at 29) (name_at 33 "f") ((member (type_at 35 (tree.Struct (name_at 42 "S") []) [])
     (name_at 44 "s")) ∷ []) None [] (Execute (returns 49 (number 56 0)) NoItems) 59)) ∷ (main_returns 61) ∷ [])
     ≡ Some (fault type_rule 35)
@@ -213,7 +213,7 @@ type_28 = refl
 
 -- @tagged union U { int *`U a; }; int main() { return 0; }
 type_29 : typing_fault false
-    ((tree.UnionItem (structure 0 (name_at 14 "U") [] ((member (type_at 18 tree.Int ((pointer sign.Nullable (Some (tree.Unique 23))) ∷ [])) (name_at 26 "a")) ∷
+    ((tree.UnionItem (structure 0 (name_at 14 "U") [] ((member (type_at 18 tree.Int ((pointer (sign.Nullable 1) (Some (tree.Unique 23))) ∷ [])) (name_at 26 "a")) ∷
     []))) ∷ (main_returns 32) ∷ [])
     ≡ Some (fault type_rule 18)
 type_29 = refl

@@ -52,7 +52,7 @@ type_36 = refl
 
 -- int @p = NULL; int main() { return 0; }
 type_37 : typing_fault false
-    ((tree.GlobalItem (global (type_at 0 tree.Int ((pointer sign.NotNull None) ∷ [])) (name_at 5 "p") (Initial.Given (Constant.Null 9)))) ∷ (main_returns 15) ∷
+    ((tree.GlobalItem (global (type_at 0 tree.Int ((pointer (sign.NotNull 1) None) ∷ [])) (name_at 5 "p") (Initial.Given (Constant.Null 9)))) ∷ (main_returns 15) ∷
     [])
     ≡ Some (fault type_rule 0)
 type_37 = refl
@@ -66,7 +66,7 @@ type_38 = refl
 
 -- int *`r p = NULL; int main() { return 0; }
 type_39 : typing_fault false
-    ((tree.GlobalItem (global (type_at 0 tree.Int ((pointer sign.Nullable (Some (region_at 5 "r"))) ∷ [])) (name_at 8 "p") (Initial.Given (Constant.Null 12))))
+    ((tree.GlobalItem (global (type_at 0 tree.Int ((pointer (sign.Nullable 1) (Some (region_at 5 "r"))) ∷ [])) (name_at 8 "p") (Initial.Given (Constant.Null 12))))
     ∷ (main_returns 18) ∷ [])
     ≡ Some (fault type_rule 0)
 type_39 = refl
@@ -138,7 +138,7 @@ type_48 = refl
 
 -- int f(int *p) { return 0; } int main() { int y = f(1); y = NULL; return 0; }
 type_49 : typing_fault false
-    ((tree.FunctionItem (routine (int_at 0) (name_at 4 "f") ((member (type_at 6 tree.Int ((pointer sign.Nullable None) ∷ [])) (name_at 11 "p")) ∷ []) None []
+    ((tree.FunctionItem (routine (int_at 0) (name_at 4 "f") ((member (type_at 6 tree.Int ((pointer (sign.Nullable 1) None) ∷ [])) (name_at 11 "p")) ∷ []) None []
     (Execute (returns 16 (number 23 0)) NoItems) 26)) ∷ (main_at 28 (Declare (tree.Local (int_at 41) (name_at 45 "y") (Initializer.Value (Expression.Call
     (name_at 49 "f") (MoreExpressions (number 51 1) NoExpressions)))) (Execute (Statement.Run (Expression.Assign (variable_at 55 "y") (Expression.Null 59)))
     (Execute (returns 65 (number 72 0)) NoItems))) 75) ∷ [])
@@ -165,7 +165,7 @@ type_51 = refl
 
 -- int main() { struct g *x; return 0; } void g;
 type_52 : typing_fault false
-    ((main_at 0 (Declare (tree.Local (type_at 13 (tree.Struct (name_at 20 "g") []) ((pointer sign.Nullable None) ∷ [])) (name_at 23 "x") Initializer.Unset)
+    ((main_at 0 (Declare (tree.Local (type_at 13 (tree.Struct (name_at 20 "g") []) ((pointer (sign.Nullable 1) None) ∷ [])) (name_at 23 "x") Initializer.Unset)
     (Execute (returns 26 (number 33 0)) NoItems)) 36) ∷ (tree.GlobalItem (global (type_at 38 tree.Void []) (name_at 43 "g") Initial.Unset)) ∷ [])
     ≡ Some (fault type_rule 38)
 type_52 = refl
@@ -174,20 +174,20 @@ type_52 = refl
 -- int main() { void v; struct v *x; return 0; }
 type_53 : typing_faults false
     ((main_at 0 (Declare (tree.Local (type_at 13 tree.Void []) (name_at 18 "v") Initializer.Unset) (Declare (tree.Local (type_at 21 (tree.Struct (name_at 28
-    "v") []) ((pointer sign.Nullable None) ∷ [])) (name_at 31 "x") Initializer.Unset) (Execute (returns 34 (number 41 0)) NoItems))) 44) ∷ [])
+    "v") []) ((pointer (sign.Nullable 1) None) ∷ [])) (name_at 31 "x") Initializer.Unset) (Execute (returns 34 (number 41 0)) NoItems))) 44) ∷ [])
     ≡ fault type_rule 13 ∷ []
 type_53 = refl
 
 -- int g; int main() { struct g *x; return 0; }
 type_54 : typing_fault false
     ((tree.GlobalItem (global (int_at 0) (name_at 4 "g") Initial.Unset)) ∷ (main_at 7 (Declare (tree.Local (type_at 20 (tree.Struct (name_at 27 "g") [])
-    ((pointer sign.Nullable None) ∷ [])) (name_at 30 "x") Initializer.Unset) (Execute (returns 33 (number 40 0)) NoItems)) 43) ∷ [])
+    ((pointer (sign.Nullable 1) None) ∷ [])) (name_at 30 "x") Initializer.Unset) (Execute (returns 33 (number 40 0)) NoItems)) 43) ∷ [])
     ≡ Some (fault type_rule 27)
 type_54 = refl
 
 -- int main() { int v; struct v *x; return 0; }
 type_55 : typing_fault false
     ((main_at 0 (Declare (tree.Local (int_at 13) (name_at 17 "v") Initializer.Unset) (Declare (tree.Local (type_at 20 (tree.Struct (name_at 27 "v") [])
-    ((pointer sign.Nullable None) ∷ [])) (name_at 30 "x") Initializer.Unset) (Execute (returns 33 (number 40 0)) NoItems))) 43) ∷ [])
+    ((pointer (sign.Nullable 1) None) ∷ [])) (name_at 30 "x") Initializer.Unset) (Execute (returns 33 (number 40 0)) NoItems))) 43) ∷ [])
     ≡ Some (fault type_rule 27)
 type_55 = refl

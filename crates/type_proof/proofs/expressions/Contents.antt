@@ -1,6 +1,7 @@
 -- What `*` and `&` denote, from what their parts do.
 use Rattle.std.proofs.Common.{◌≡◌, ℕ, Bool, true, false, ◌⊎◌, inl, inr, Some, [], ◌∷◌, refl, sym, ◌∙◌, ap, subst}
 use Rattle.std.specs.Prelude.{◌||◌, length}
+use Rattle.source_meaning.specs.Shapes.{NeverNull}
 use Rattle.source_meaning.specs.Shapes.{Shared, Shape, ThinShape, pointee}
 use Rattle.source_meaning.specs.Memory as memory
 use Rattle.source_meaning.specs.Memory.{Region, Memory}
@@ -46,6 +47,12 @@ use Rattle.type_proof.proofs.expressions.Fixed.{within}
 use Rattle.type_proof.proofs.Entries.{strictly}
 use Rattle.type_proof.proofs.expressions.Forms.{Denotes, Refuses, denotes_refused, denotes_value, refuses_place}
 
+-- where regions are looked at strictly, a place in a live one is known to be there
+pub seat_known : (g : Env) (i : Enclosing) → g.lenient ≡ false → (s : Seat) → SeatBelow g.regions.count s → SeatLives (within i g) s → SeatKnown g.regions s
+seat_known g i strict Nowhere l y = tt
+seat_known g i strict (In r) l y = (l, strictly g r strict y)
+seat_known g i strict InBlock l y = tt
+
 module _ (n : ℕ) (d : Tables) (g : Env) (scope : Scope) (f : NameOf → Region) (b : ℕ) (low : ℕ) where
   -- a place by what a pointer that is looked at leads to; what isn't in order with its use is at fault
   pub denotes_contents : (i : Enclosing) → g.lenient ≡ false → Structs d scope.world g.tables
@@ -86,7 +93,7 @@ module _ (n : ℕ) (d : Tables) (g : Env) (scope : Scope) (f : NameOf → Region
       pointed z copies = record {
         simple = object_simple z.to word;
         below = below.1;
-        seated = known z.seat below.0 z.live;
+        seated = seat_known g i strict z.seat below.0 z.live;
         place = λ q. word;
         own = false;
         sound = by h.sound;
@@ -97,11 +104,6 @@ module _ (n : ℕ) (d : Tables) (g : Env) (scope : Scope) (f : NameOf → Region
 
           word : IsObjectType z.to
           word = pointer_object a.type z.to z.seat z.is h.simple
-
-          known : (s : Seat) → SeatBelow g.regions.count s → SeatLives (within i g) s → SeatKnown g.regions s
-          known Nowhere l y = tt
-          known (In r) l y = (l, strictly g r strict y)
-          known InBlock l y = tt
 
           by : Sound n d g scope f b low a u h.own e ⊎ Refuses n d g scope f b low u
               → Sound n d g scope f b low (record { at = at; type = z.to; seat = z.seat }) (place_use place moves false act) false (contents scope.world e)
@@ -156,18 +158,18 @@ module _ (n : ℕ) (d : Tables) (g : Env) (scope : Scope) (f : NameOf → Region
           pointed : Sound n d g scope f b low a u h.own e ⊎ Refuses n d g scope f b low u
               → Denotes n d g scope f b low v (value_use (λ s. then_passed (u.place s) (copy_if (u.own || inside) place))) (address_of e)
           pointed (inr y) =
-              denotes_refused n d g scope f b low v (λ s. then_passed (u.place s) (copy_if (u.own || inside) place)) (Thin false r a.type)
+              denotes_refused n d g scope f b low v (λ s. then_passed (u.place s) (copy_if (u.own || inside) place)) (Thin (NeverNull 1) r a.type)
               (address_of e) word below
-              (value_of at (Thin false r a.type) v k)
+              (value_of at (Thin (NeverNull 1) r a.type) v k)
               (λ s q. y.place s (passed_first u.place (copy_if (u.own || inside) place) s q))
           pointed (inl y) =
-              denotes_value n d g scope f b low v (λ s. then_passed (u.place s) (copy_if (u.own || inside) place)) (Thin false r a.type)
-              (ThinShape false Shared e.shape) _ word below
-              (value_of at (Thin false r a.type) v k)
-              (ap (ThinShape false Shared) (y.shape (object_some a.type word)))
+              denotes_value n d g scope f b low v (λ s. then_passed (u.place s) (copy_if (u.own || inside) place)) (Thin (NeverNull 1) r a.type)
+              (ThinShape (NeverNull 1) Shared e.shape) _ word below
+              (value_of at (Thin (NeverNull 1) r a.type) v k)
+              (ap (ThinShape (NeverNull 1) Shared) (y.shape (object_some a.type word)))
               (λ s q.
               let c : (u.own ≡ false) × ((copy_if (u.own || inside) place (u.place s).states).states ≡ (u.place s).states) =
               not_either u.own inside place (u.place s).states (passed_second u.place (copy_if (u.own || inside) place) s q) in
-              subst (λ (s2 : States). Gives n d g scope f b low s s2 (Thin false r a.type) (e.place >>= λ s. give (memory.Thin (Some s) ∷ []))) (sym c.1)
+              subst (λ (s2 : States). Gives n d g scope f b low s s2 (Thin (NeverNull 1) r a.type) (e.place >>= λ s. give (memory.Thin (Some s) ∷ []))) (sym c.1)
               (gives_address n d g scope f b low s (u.place s).states r a.type e.place
               (y.pointed c.0 r z s (passed_first u.place (copy_if (u.own || inside) place) s q))))

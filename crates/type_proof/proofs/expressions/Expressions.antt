@@ -1,5 +1,5 @@
 -- Each expression that is in order runs safely and gives a value of its type.
-use Rattle.std.proofs.Common.{◌≡◌, ℕ, Bool, true, false, ◌⊎◌, inl, List, [], ◌∷◌, refl, sym, ap, subst, ◌≤◌}
+use Rattle.std.proofs.Common.{◌≡◌, ℕ, Bool, true, false, ◌⊎◌, inl, List, [], ◌∷◌, refl, sym, ◌∙◌, ap, subst, ◌≤◌}
 use Rattle.std.specs.Prelude.{◌&&◌, not, length, nat_lt}
 use Rattle.cyc_tree.specs.Operands.{ExpressionHasOperands, AllHaveOperands, LinksHaveOperands, SuffixesHaveOperands, MadeHasOperands}
 use Rattle.cyc_tree.specs.Tree.{Expression, Expressions, NoExpressions, MoreExpressions, Links, NoLinks, MoreLinks, Suffixes, NoSuffixes, Index}
@@ -26,7 +26,7 @@ use Rattle.source_typing.specs.Calls as rules_of_calls
 use Rattle.source_typing.specs.Scope.{Env, Enclosing, InUnique, Value, meant, find_local}
 use Rattle.source_typing.specs.Tables.{Part, Tag}
 use Rattle.source_typing.specs.Types.{Int, Char, Null, Handle, is_testable, is_unique}
-use Rattle.source_typing.proofs.Inversion.{of_is, after_is, both_is, goal_is, call_is, assign_is, prefix_is, links_first, suffixes_first, tests_first}
+use Rattle.source_typing.proofs.Inversion.{of_is, after_is, both_is, goal_is, array_is, call_is, assign_is, prefix_is, links_first, suffixes_first, tests_first}
 use Rattle.source_typing.proofs.OperatorsFit.{tested_both_is}
 use Rattle.source_typing.specs.Flow.{use_of, use_links, use_suffixes, use_made}
 use Rattle.source_typing.specs.Moves.{Use, nothing, value_use, applied_use, indexed_use, member_use, arrow_use, is_moved, is_unique_value}
@@ -215,16 +215,18 @@ module _ (n : ℕ) (d : Tables) (f : NameOf → Region) (b : ℕ) (low : ℕ) wh
         let y : (u : Value) × (q : Value) × (Of a ≡ Of u) × (judge (within i g) x ≡ Of q) × (places.indexed (within i g) u q ≡ Of c.0) =
         both_is (Of a) (judge (within i g) x) (places.indexed (within i g)) c.0 c.1 in
         subst (λ (q : Verdict Value). Denotes n d g scope f b low v
-        (use_suffixes (within i g) q (indexed_use a.at (is_moved (within i g) (both (Of a) (judge (within i g) x) (places.indexed (within i g)))) u
+        (use_suffixes (within i g) q (indexed_use a.at (is_moved (within i g) (both (Of a) (judge (within i g) x) (places.indexed (within i g)))) (Of a) u
         (use_of (within i g) x)) es) (suffixed es scope (indexed scope.world e (sense x scope)))) (sym c.1)
         (suffixes_sound g scope setting es i c.0 v (indexed_use a.at (is_moved (within i g) (both (Of a) (judge (within i g) x) (places.indexed (within i g))))
-        u (use_of (within i g) x)) (indexed scope.world e (sense x scope))
+        (Of a) u (use_of (within i g) x)) (indexed scope.world e (sense x scope))
         (still_second (acts x) (suffix_acts es) still) l o.1
         (subst (λ (q : Verdict Value). SuffixesHaveStructMembers (within i g) q es) c.1 ms.1)
         (found_parts scope.world.strings (expression_strings x) (suffixes_strings es) fs).1
         (denotes_indexed n d g scope f b low i setting.strict setting.structs a.at
-        (is_moved (within i g) (both (Of a) (judge (within i g) x) (places.indexed (within i g)))) y.0 y.1 c.0 u (use_of (within i g) x) e (sense x scope)
+        (is_moved (within i g) (both (Of a) (judge (within i g) x) (places.indexed (within i g)))) (is_unique_value (Of a) && not u.whole)
+        (u.own && not (is_unique_value (Of a))) y.0 y.1 c.0 u (use_of (within i g) x) e (sense x scope)
         (uncopied_type (within i g) (both (Of a) (judge (within i g) x) (places.indexed (within i g))) c.0 c.1)
+        (λ q c t z. whole_is (is_unique_value (Of a)) u.whole (ap (λ (b : Value). is_unique b.type) (of_is a y.0 y.2) ∙ ap is_unique z) q)
         (subst (λ (q : Value). Denotes n d g scope f b low q u e) (of_is a y.0 y.2) h)
         (expression_sound g scope setting x i y.1 (still_first (acts x) (suffix_acts es) still) l o.0 ms.0
         (found_parts scope.world.strings (expression_strings x) (suffixes_strings es) fs).0 y.3) y.4)
@@ -313,10 +315,10 @@ module _ (n : ℕ) (d : Tables) (f : NameOf → Region) (b : ℕ) (low : ℕ) wh
         → Denotes n d g scope f b low v (use_made (inside (goal_of c (within i g) hv) (within i g)) new uh.look) (new_in_sense new scope c handle)
     new_in_sound g scope setting (Array y c x) i at true hv v uh handle loudly l o ms fs e h j =
         let g1 : Env = within InUnique g in
-        let filled : Verdict Value = both (judge g1 c) (judge (with_counter y g1) x) (rules_of_making.elements at) in
-        let a : (q : Goal) × (r : Value) × (Of ToUnique ≡ Of q) × (filled ≡ Of r) × (rules_of_making.array_made at q r ≡ Of v) =
-        goal_is at (Of ToUnique) filled (rules_of_making.array_made at) v j in
-        absurd (no_array_alone at a.0 a.1 v a.2 a.4)
+        let a : (z : Goal) × (p : Value) × (q : Value) × (Of ToUnique ≡ Of z) × (judge g1 c ≡ Of p) × (judge (with_counter y g1) x ≡ Of q)
+        × (rules_of_making.array_made at z (p, q) ≡ Of v) =
+        array_is at (Of ToUnique) (judge g1 c) (judge (with_counter y g1) x) v j in
+        absurd (no_array_alone at a.0 a.1 a.2 v a.3 a.6)
     new_in_sound g scope setting (Array y c x) i at false hv v uh handle loudly l o ms fs e h j =
         let goes_to : Enclosing = enclosed (after hv (handled (within i g))) in
         let strings : AreFound scope.world.strings (expression_strings c) × AreFound scope.world.strings (expression_strings x) =

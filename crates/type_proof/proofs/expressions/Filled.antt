@@ -1,5 +1,5 @@
 -- Arrays that `new` and `rnew` make: their elements are evaluated and stored one after another, and each takes a unit.
-use Rattle.std.proofs.Common.{◌≡◌, ℕ, zero, suc, ◌+◌, ◌<◌, ◌≤◌, true, ◌⊎◌, inl, inr, Option, Some, List, [], ◌∷◌, ◌++◌, refl, sym, ◌∙◌, ap, subst, arith}
+use Rattle.std.proofs.Common.{◌≡◌, ℕ, zero, suc, ◌+◌, ◌<◌, ◌≤◌, Bool, true, false, ◌⊎◌, inl, inr, Option, Some, List, [], ◌∷◌, ◌++◌, refl, sym, ◌∙◌, ap, subst, arith}
 use Rattle.std.specs.Prelude.{◌*◌, ◌&&◌, length, map}
 use Rattle.std.proofs.lemmas.Bool.{and_parts}
 use Rattle.std.proofs.lemmas.List.{length-map}
@@ -23,9 +23,8 @@ use Rattle.source_typing.specs.Moves.{Use, value_use, elements_passed, without_f
 use Rattle.source_typing.specs.Scope.{Env, Value}
 use Rattle.source_typing.specs.States.{Plain, States, Passed, then_passed, loop_head}
 use Rattle.source_typing.specs.Types.{StaticType, Fat, is_integer, is_makeable, renamed, shape_of}
-use Rattle.source_typing.specs.Verdicts.{Of}
+use Rattle.source_typing.specs.Verdicts.{Of, after, if_fits}
 use Rattle.source_typing.specs.Named.{Below}
-use Rattle.source_typing.proofs.Inversion.{fits_is, of_is}
 use Rattle.flow_summaries.specs.Effects.{Effects, effects_below}
 use Rattle.flow_summaries.specs.Laws.{DoesAs, way_after}
 use Rattle.flow_summaries.specs.Passages.{Passage}
@@ -60,6 +59,12 @@ laid_then : (w : Ghost) (s : Spot) (xs ys : List RunType) → Laid w s xs → La
 laid_then w s [] ys h j = subst (λ (x : Spot). Laid w x ys) (not_further s) j
 laid_then w s (x ∷ xs) ys h j =
     (h.0, laid_then w (beyond s 1) xs ys h.1 (subst (λ (z : Spot). Laid w z ys) (sym (further s 1 (length xs) (length (x ∷ xs)) (omega arith))) j))
+
+-- an array that is made in the region of a name
+pub array_there : (c : Bool) (at : ℕ) (r : NameOf) (t : StaticType) (v : Value) → after (if_fits c at t) (rules.array_to at (To r)) ≡ Of v → (c ≡ true)
+    × Valued v (Fat r t)
+array_there true at r t v e = (refl, value_of at (Fat r t) v e)
+array_there false at r t v e = absurd cc
 
 module _ (n : ℕ) (d : Tables) (g : Env) (scope : Scope) (f : NameOf → Region) (b : ℕ) (low : ℕ) where
   -- ---- the elements, one after another
@@ -212,16 +217,16 @@ module _ (n : ℕ) (d : Tables) (g : Env) (scope : Scope) (f : NameOf → Region
               }))
 
   -- the elements are a loop: each is given from the head of its states, and leaves what implies the head
-  pub denotes_filled : b ≤ low → (at : ℕ) (r : NameOf) (to : Act Maker) (p : States → Passed) (x : tree.Name) (c a e v : Value) (uc ue : Use) (does : Passage)
+  pub denotes_filled : b ≤ low → (at : ℕ) (r : NameOf) (to : Act Maker) (p : States → Passed) (x : tree.Name) (c a v : Value) (uc ue : Use) (does : Passage)
       (count : Sense)
       (element : ℕ → Sense) → Agrees scope.world d → Lives n d g scope f b low r → Below g.regions.count r
       → ((s : States) → (p s).faults ≡ [] → Aims n d g scope f b low s (p s).states r to) → Denotes n d g scope f b low c uc count
       → DoesAs (suc (length g.locals)) ue.value does
       → ((i : ℕ) → Denotes n d (with_counter x g) (counted_scope g scope f x i) f b low a ue (element i))
-      → rules.elements at c a ≡ Of e → rules.array_made at (To r) e ≡ Of v
+      → rules.array_made at (To r) (c, a) ≡ Of v
       → Denotes n d g scope f b low v (value_use (λ s. then_passed (then_passed (p s) uc.look) (elements_passed ue.value)))
       (array_made scope.world to count element)
-  denotes_filled is at r to p x c a e v uc ue does count element agrees live below aims hc told h j l = by hc.sound (h 0).sound
+  denotes_filled is at r to p x c a v uc ue does count element agrees live below aims hc told h j = by hc.sound (h 0).sound
     where
       turn : States → Option States
       turn s = Some (without_first (ue.value (Plain ∷ s)).states)
@@ -236,8 +241,11 @@ module _ (n : ℕ) (d : Tables) (g : Env) (scope : Scope) (f : NameOf → Region
       returns s = ap (λ (u : States). Some (without_first u)) (told.states (Plain ∷ s))
           ∙ ap (λ (u : States). Some u) (without_more (length g.locals) does.effects s)
 
+      made : (is_integer c.type && is_makeable a.type ≡ true) × Valued v (Fat r a.type)
+      made = array_there (is_integer c.type && is_makeable a.type) at r a.type v j
+
       fits : (is_integer c.type ≡ true) × (is_makeable a.type ≡ true)
-      fits = and_parts (is_integer c.type) (is_makeable a.type) (fits_is (is_integer c.type && is_makeable a.type) at a e j).0
+      fits = and_parts (is_integer c.type) (is_makeable a.type) made.0
 
       it : IsObjectType a.type
       it = makeable_object a.type (h 0).simple fits.1
@@ -245,12 +253,8 @@ module _ (n : ℕ) (d : Tables) (g : Env) (scope : Scope) (f : NameOf → Region
       act : States → Passed
       act s = then_passed (then_passed (p s) uc.look) (elements_passed ue.value)
 
-      valued : Valued v (Fat r a.type)
-      valued = value_of at (Fat r a.type) v (subst (λ (y : Value). rules.array_made at (To r) y ≡ Of v)
-          (sym (of_is a e (fits_is (is_integer c.type && is_makeable a.type) at a e j).1)) l)
-
       refused : ((s : States) → (act s).faults ≡ [] → ⊥) → Denotes n d g scope f b low v (value_use act) (array_made scope.world to count element)
-      refused never = denotes_refused n d g scope f b low v act (Fat r a.type) (array_made scope.world to count element) it (below, (h 0).below) valued never
+      refused never = denotes_refused n d g scope f b low v act (Fat r a.type) (array_made scope.world to count element) it (below, (h 0).below) made.1 never
 
       gives_element : (s : States) → (ue.value (Plain ∷ head s)).faults ≡ [] → (i : ℕ) → Gives n d g scope f b low (head s) (head s) a.type (element i).value
       gives_element s none i = λ k w m inv q. record {
@@ -292,7 +296,7 @@ module _ (n : ℕ) (d : Tables) (g : Env) (scope : Scope) (f : NameOf → Region
       by (inl y) (inl z) =
           let shape : (element 0).shape ≡ shape_of a.type = z.shape (object_some a.type it) in
           denotes_value n d g scope f b low v act (Fat r a.type) (FatShape (element 0).shape) (array_made scope.world to count element).value it
-          (below, (h 0).below) valued (ap FatShape shape)
+          (below, (h 0).below) made.1 (ap FatShape shape)
           (λ s q.
           let counted : (then_passed (p s) uc.look).faults ≡ [] = passed_first (λ y. then_passed (p y) uc.look) (elements_passed ue.value) s q in
           let s1 : States = (p s).states in

@@ -1,7 +1,7 @@
 -- What an expression denotes: literals, names and parentheses, from what their parts do.
 use Rattle.std.proofs.Common.{◌≡◌, ℕ, Bool, true, false, ◌⊎◌, inl, inr, Option, Some, None, List, [], ◌∷◌, refl, sym, ◌∙◌, ap, subst}
 use Rattle.std.specs.Prelude.{◌%◌, ◌^◌, ◌&&◌, not, bytes_eq, if◌then◌else◌}
-use Rattle.source_meaning.specs.Shapes.{Shared, Shape, IntShape, UnsignedShape, VoidShape, ThinShape, FatShape, ArrayShape}
+use Rattle.source_meaning.specs.Shapes.{MayBeNull, Shared, Shape, IntShape, UnsignedShape, VoidShape, ThinShape, FatShape, ArrayShape}
 use Rattle.source_meaning.specs.Memory as memory
 use Rattle.source_meaning.specs.Memory.{Region, Scalar, Integer, IntegerType, AsInt, AsUnsigned, AsChar}
 use Rattle.source_meaning.specs.Steps.{Entity, Scope, Act, give}
@@ -153,7 +153,7 @@ module _ (n : ℕ) (d : Tables) (g : Env) (scope : Scope) (f : NameOf → Region
   denotes_number x v h = denotes_value v nothing Unsigned UnsignedShape (give (Integer AsUnsigned x ∷ [])) tt tt h refl
       (gives_at_once n d g scope f b low Unsigned (Integer AsUnsigned x ∷ []) (λ k w. integer_typed d f w (flying k 0) AsUnsigned x))
 
-  pub denotes_null : (v : Value) → Valued v Null → Denotes v (value_use nothing) (value_sense (ThinShape true Shared VoidShape) (give (memory.Thin None ∷ [])))
+  pub denotes_null : (v : Value) → Valued v Null → Denotes v (value_use nothing) (value_sense (ThinShape (MayBeNull 1) Shared VoidShape) (give (memory.Thin None ∷ [])))
   denotes_null v h = denotes_value v nothing Null _ (give (memory.Thin None ∷ [])) tt tt h refl
       (gives_at_once n d g scope f b low Null (memory.Thin None ∷ []) (λ k w. (refl, tt)))
 

@@ -9,7 +9,7 @@ use Rattle.source_meaning.specs.Places.{Sense}
 use Rattle.source_meaning.specs.Calls.{truth, tested, handle_maker}
 use Rattle.source_meaning.specs.Expressions.{sense, senses, new_sense, new_in_sense}
 use Rattle.source_meaning.specs.Making.{heap_maker}
-use Rattle.source_typing.specs.Verdicts.{Verdict, Of, both, after}
+use Rattle.source_typing.specs.Verdicts.{Verdict, Of, after}
 use Rattle.source_typing.specs.Regions.{TheHeap}
 use Rattle.source_typing.specs.Expressions.{judge, judge_made, judge_made_in}
 use Rattle.source_typing.specs.Faults.{Fault}
@@ -17,7 +17,7 @@ use Rattle.source_typing.specs.Making as rules_of_making
 use Rattle.source_typing.specs.Making.{Goal, To, goal_of, handled, enclosed, with_counter, inside}
 use Rattle.source_typing.specs.Scope.{Env, Enclosing, Value}
 use Rattle.source_typing.specs.Types.{StaticType, Int, is_testable}
-use Rattle.source_typing.proofs.Inversion.{of_is, after_is, both_is, goal_is}
+use Rattle.source_typing.proofs.Inversion.{of_is, after_is, goal_is, array_is}
 use Rattle.source_typing.specs.Flow.{use_of, use_tests, use_made}
 use Rattle.source_typing.specs.Moves.{Use, nothing, maybe}
 use Rattle.flow_summaries.specs.Expressions.{uses_of}
@@ -88,18 +88,15 @@ module _ (n : ℕ) (d : Tables) (g : Env) (scope : Scope) (f : NameOf → Region
       → judge_made (within i g) at (Of (To TheHeap)) (Array y c x) ≡ Of v
       → Denotes n d g scope f b low v (use_made (within i g) (Array y c x) nothing) (new_sense (Array y c x) scope)
   filled_heap loudly y c x i at v count element j =
-      let filled : Verdict Value = both (judge (within i g) c) (judge (with_counter y (within i g)) x) (rules_of_making.elements at) in
-      let a : (q : Goal) × (e : Value) × (Of (To TheHeap) ≡ Of q) × (filled ≡ Of e) × (rules_of_making.array_made at q e ≡ Of v) =
-      goal_is at (Of (To TheHeap)) filled (rules_of_making.array_made at) v j in
-      let e : (p : Value) × (q : Value) × (judge (within i g) c ≡ Of p) × (judge (with_counter y (within i g)) x ≡ Of q)
-      × (rules_of_making.elements at p q ≡ Of a.1) =
-      both_is (judge (within i g) c) (judge (with_counter y (within i g)) x) (rules_of_making.elements at) a.1 a.3 in
-      denotes_filled n d g scope f b low loudly at TheHeap heap_maker nothing y e.0 e.1 a.1 v (use_of (within i g) c) (use_of (with_counter y (within i g)) x)
+      let a : (z : Goal) × (p : Value) × (q : Value) × (Of (To TheHeap) ≡ Of z) × (judge (within i g) c ≡ Of p)
+      × (judge (with_counter y (within i g)) x ≡ Of q) × (rules_of_making.array_made at z (p, q) ≡ Of v) =
+      array_is at (Of (To TheHeap)) (judge (within i g) c) (judge (with_counter y (within i g)) x) v j in
+      denotes_filled n d g scope f b low loudly at TheHeap heap_maker nothing y a.1 a.2 v (use_of (within i g) c) (use_of (with_counter y (within i g)) x)
       (uses_of (with_counter y (within i g)) x).value (sense c scope) (λ m. sense x (counted_scope g scope f y m))
       (agrees d scope.world g.tables setting.structs)
-      (heap_lives n d g scope f b low) tt (λ st z. aims_at_heap n d g scope f b low st) (count e.0 e.2)
-      (uses_told x (with_counter y (within i g))).value (λ m. element e.1 m e.3) e.4
-      (subst (λ (q : Goal). rules_of_making.array_made at q a.1 ≡ Of v) (sym (of_is (To TheHeap) a.0 a.2)) a.4)
+      (heap_lives n d g scope f b low) tt (λ st z. aims_at_heap n d g scope f b low st) (count a.1 a.4)
+      (uses_told x (with_counter y (within i g))).value (λ m. element a.2 m a.5)
+      (subst (λ (q : Goal). rules_of_making.array_made at q (a.1, a.2) ≡ Of v) (sym (of_is (To TheHeap) a.0 a.3)) a.6)
 
   -- one value in the region of a handle, inside of which its operand is judged
   pub made_in : b ≤ low → (x : Expression) (i : Enclosing) (at : ℕ) (hv : Verdict Value) (v : Value) (uh : Use) (handle : Sense)
@@ -134,20 +131,18 @@ module _ (n : ℕ) (d : Tables) (g : Env) (scope : Scope) (f : NameOf → Region
   filled_in loudly y c x i at hv v uh handle count element h j =
       let goal : Verdict Goal = after hv (handled (within i g)) in
       let g1 : Env = within (enclosed goal) g in
-      let filled : Verdict Value = both (judge g1 c) (judge (with_counter y g1) x) (rules_of_making.elements at) in
-      let a : (q : Goal) × (r : Value) × (goal ≡ Of q) × (filled ≡ Of r) × (rules_of_making.array_made at q r ≡ Of v) =
-      goal_is at goal filled (rules_of_making.array_made at) v j in
-      let z : (p : Value) × (q : Value) × (judge g1 c ≡ Of p) × (judge (with_counter y g1) x ≡ Of q) × (rules_of_making.elements at p q ≡ Of a.1) =
-      both_is (judge g1 c) (judge (with_counter y g1) x) (rules_of_making.elements at) a.1 a.3 in
-      let p : (q : Value) × (hv ≡ Of q) × (handled (within i g) q ≡ Of a.0) = after_is hv (handled (within i g)) a.0 a.2 in
-      let q : Handled (within i g) p.0.type a.0 = array_handled (within i g) p.0.at at p.0.type a.0 a.1 v p.2 a.4 in
+      let a : (z : Goal) × (p : Value) × (q : Value) × (goal ≡ Of z) × (judge g1 c ≡ Of p) × (judge (with_counter y g1) x ≡ Of q)
+      × (rules_of_making.array_made at z (p, q) ≡ Of v) =
+      array_is at goal (judge g1 c) (judge (with_counter y g1) x) v j in
+      let p : (q : Value) × (hv ≡ Of q) × (handled (within i g) q ≡ Of a.0) = after_is hv (handled (within i g)) a.0 a.3 in
+      let q : Handled (within i g) p.0.type a.0 = array_handled (within i g) p.0.at at p.0.type a.0 a.1 a.2 v p.2 a.6 in
       let dh : Denotes n d g scope f b low p.0 uh handle = h p.0 p.1 in
       let below : Below g.regions.count q.region = subst (λ (y : StaticType). TypeBelow g.regions.count y) q.is dh.below in
       let under : EnclosingBelow g.regions.count (enclosed goal) =
-      subst (λ (y : Verdict Goal). EnclosingBelow g.regions.count (enclosed y)) (sym (a.2 ∙ ap (λ (y : Goal). Of y) q.goal)) below in
-      denotes_filled n d g scope f b low loudly at q.region (handle_maker handle) uh.look y z.0 z.1 a.1 v (use_of g1 c) (use_of (with_counter y g1) x)
+      subst (λ (y : Verdict Goal). EnclosingBelow g.regions.count (enclosed y)) (sym (a.3 ∙ ap (λ (y : Goal). Of y) q.goal)) below in
+      denotes_filled n d g scope f b low loudly at q.region (handle_maker handle) uh.look y a.1 a.2 v (use_of g1 c) (use_of (with_counter y g1) x)
       (uses_of (with_counter y g1) x).value (sense c scope) (λ m. sense x (counted_scope g scope f y m)) (agrees d scope.world g.tables setting.structs)
       (λ st k2 w m i2 x2. x2.names.live q.region (strictly g q.region setting.strict q.live)) below
-      (λ st z. denotes_aims n d g scope f b low p.0 uh handle q.region dh q.is st z) (count under z.0 z.2) (uses_told x (with_counter y g1)).value
-      (λ m. element under z.1 m z.3) z.4
-      (subst (λ (y : Goal). rules_of_making.array_made at y a.1 ≡ Of v) q.goal a.4)
+      (λ st z. denotes_aims n d g scope f b low p.0 uh handle q.region dh q.is st z) (count under a.1 a.4) (uses_told x (with_counter y g1)).value
+      (λ m. element under a.2 m a.5)
+      (subst (λ (y : Goal). rules_of_making.array_made at y (a.1, a.2) ≡ Of v) q.goal a.6)

@@ -1,7 +1,8 @@
 -- Values are made in the heap and in the regions of handles.
 use Rattle.std.proofs.Common.{◌≡◌, ℕ, Bool, true, false, Some, List, [], ◌∷◌, inl, ◌⊎◌, inr, refl, sym, ◌∙◌, ap, subst, ◌≤◌}
-use Rattle.std.specs.Prelude.{map}
+use Rattle.std.specs.Prelude.{◌&&◌, map}
 use Rattle.cyc_words.specs.Events.{RegionAlloc}
+use Rattle.source_meaning.specs.Shapes.{NeverNull}
 use Rattle.source_meaning.specs.Shapes.{Shared, Shape, ThinShape, HandleShape}
 use Rattle.source_meaning.specs.Memory as memory
 use Rattle.source_meaning.specs.Memory.{Region, Born, Spot, Scalar, Live, Memory, HandleOf, blank_object, state_is_live}
@@ -15,7 +16,7 @@ use Rattle.source_typing.specs.Making as rules
 use Rattle.source_typing.specs.Making.{Goal, To, NoHandle, made_to, live_goal, handled_of}
 use Rattle.source_typing.specs.Regions.{TheHeap}
 use Rattle.source_typing.specs.Scope.{Env, Value, is_live}
-use Rattle.source_typing.specs.Types.{StaticType, Int, Unsigned, Char, Void, Null, Thin, Fat, Unique, Handle, Key, Struct, Union, is_makeable, renamed}
+use Rattle.source_typing.specs.Types.{StaticType, Int, Unsigned, Char, Void, Null, Thin, Fat, Unique, Handle, Key, Struct, Union, is_integer, is_makeable, renamed}
 use Rattle.source_typing.specs.Types.{shape_of}
 use Rattle.source_typing.specs.Verdicts.{Of, after, if_fits}
 use Rattle.source_typing.proofs.Inversion.{of_is}
@@ -23,7 +24,8 @@ use Rattle.source_typing.specs.Moves.{Use, nothing, value_use}
 use Rattle.source_typing.specs.States.{States, Passed, then_passed}
 use Rattle.type_proof.specs.Flat.{Tables}
 use Rattle.source_typing.specs.Named.{Below}
-use Rattle.type_proof.proofs.invariant.Invariant.{Reached, Ghost, Opens, HaveTypes, Inv, Grows}
+use Rattle.type_proof.proofs.invariant.Values.{only_one}
+use Rattle.type_proof.proofs.invariant.Invariant.{Reaches, Reached, Ghost, Opens, HaveTypes, Inv, Grows}
 use Rattle.type_proof.proofs.invariant.Growth.{grows_refl, grows_trans}
 use Rattle.type_proof.proofs.invariant.Runs.{Safe, Runs, runs_check}
 use Rattle.type_proof.proofs.invariant.After.{After, flying, grows_base, runs_show}
@@ -56,8 +58,8 @@ makeable_object (Union tag rs) p e = p
 
 -- a making in the region of a name
 pub made_there : (c : Bool) (at : ℕ) (r : NameOf) (t : StaticType) (v : Value) → after (if_fits c at t) (made_to at (To r)) ≡ Of v → (c ≡ true)
-    × Valued v (Thin false r t)
-made_there true at r t v e = (refl, value_of at (Thin false r t) v e)
+    × Valued v (Thin (NeverNull 1) r t)
+made_there true at r t v e = (refl, value_of at (Thin (NeverNull 1) r t) v e)
 made_there false at r t v e = absurd cc
 
 no_goal : (c : Bool) (at : ℕ) (t : StaticType) (v : Value) → after (if_fits c at t) (made_to at NoHandle) ≡ Of v → ⊥
@@ -96,27 +98,29 @@ handled_is g at place (Struct tag rs) x a v e z = none_made place x a v (Handled
 handled_is g at place (Union tag rs) x a v e z = none_made place x a v (Handled g (Union tag rs) x) e z
 
 -- and so of an array
-no_array : (at : ℕ) (x : Goal) (a v : Value) (A : Type 0) → Of NoHandle ≡ Of x → rules.array_made at x a ≡ Of v → A
-no_array at x a v A e z = absurd (by (subst (λ (y : Goal). rules.array_made at y a ≡ Of v) (sym (of_is NoHandle x e)) z))
+no_array : (at : ℕ) (x : Goal) (c a v : Value) (A : Type 0) → Of NoHandle ≡ Of x → rules.array_made at x (c, a) ≡ Of v → A
+no_array at x c a v A e z =
+    absurd (by (is_integer c.type && is_makeable a.type) (subst (λ (y : Goal). rules.array_made at y (c, a) ≡ Of v) (sym (of_is NoHandle x e)) z))
   where
-    by : rules.array_made at NoHandle a ≡ Of v → ⊥
-    by q = cc
+    by : (fits : Bool) → after (if_fits fits at a.type) (rules.array_to at NoHandle) ≡ Of v → ⊥
+    by true q = cc
+    by false q = cc
 
-pub array_handled : (g : Env) (at place : ℕ) (t : StaticType) (x : Goal) (a v : Value) → handled_of g at t ≡ Of x → rules.array_made place x a ≡ Of v
-    → Handled g t x
-array_handled g at place (Handle r) x a v e z =
+pub array_handled : (g : Env) (at place : ℕ) (t : StaticType) (x : Goal) (c a v : Value) → handled_of g at t ≡ Of x
+    → rules.array_made place x (c, a) ≡ Of v → Handled g t x
+array_handled g at place (Handle r) x c a v e z =
     let y : (is_live g r ≡ true) × (x ≡ To r) = live_goal_is (is_live g r) at r x e in record { region = r; is = refl; live = y.0; goal = y.1 }
-array_handled g at place Int x a v e z = no_array place x a v (Handled g Int x) e z
-array_handled g at place Unsigned x a v e z = no_array place x a v (Handled g Unsigned x) e z
-array_handled g at place Char x a v e z = no_array place x a v (Handled g Char x) e z
-array_handled g at place Void x a v e z = no_array place x a v (Handled g Void x) e z
-array_handled g at place Null x a v e z = no_array place x a v (Handled g Null x) e z
-array_handled g at place (Thin n r t) x a v e z = no_array place x a v (Handled g (Thin n r t) x) e z
-array_handled g at place (Fat r t) x a v e z = no_array place x a v (Handled g (Fat r t) x) e z
-array_handled g at place (Unique n t) x a v e z = no_array place x a v (Handled g (Unique n t) x) e z
-array_handled g at place (Key r) x a v e z = no_array place x a v (Handled g (Key r) x) e z
-array_handled g at place (Struct tag rs) x a v e z = no_array place x a v (Handled g (Struct tag rs) x) e z
-array_handled g at place (Union tag rs) x a v e z = no_array place x a v (Handled g (Union tag rs) x) e z
+array_handled g at place Int x c a v e z = no_array place x c a v (Handled g Int x) e z
+array_handled g at place Unsigned x c a v e z = no_array place x c a v (Handled g Unsigned x) e z
+array_handled g at place Char x c a v e z = no_array place x c a v (Handled g Char x) e z
+array_handled g at place Void x c a v e z = no_array place x c a v (Handled g Void x) e z
+array_handled g at place Null x c a v e z = no_array place x c a v (Handled g Null x) e z
+array_handled g at place (Thin n r t) x c a v e z = no_array place x c a v (Handled g (Thin n r t) x) e z
+array_handled g at place (Fat r t) x c a v e z = no_array place x c a v (Handled g (Fat r t) x) e z
+array_handled g at place (Unique n t) x c a v e z = no_array place x c a v (Handled g (Unique n t) x) e z
+array_handled g at place (Key r) x c a v e z = no_array place x c a v (Handled g (Key r) x) e z
+array_handled g at place (Struct tag rs) x c a v e z = no_array place x c a v (Handled g (Struct tag rs) x) e z
+array_handled g at place (Union tag rs) x c a v e z = no_array place x c a v (Handled g (Union tag rs) x) e z
 
 module _ (n : ℕ) (d : Tables) (g : Env) (scope : Scope) (f : NameOf → Region) (b : ℕ) (low : ℕ) where
   -- ---- where a value is made
@@ -167,7 +171,7 @@ module _ (n : ℕ) (d : Tables) (g : Env) (scope : Scope) (f : NameOf → Region
   pub gives_new : (s0 s1 s2 : States) (t : StaticType) (r : NameOf) (to : Act Maker) (e : Sense) → Agrees scope.world d → Lives r → Below g.regions.count r
       → e.shape ≡ shape_of t → Aims s0 s1 r to
       → Gives n d g scope f b low s1 s2 t e.value
-      → Gives n d g scope f b low s0 s2 (Thin false r t)
+      → Gives n d g scope f b low s0 s2 (Thin (NeverNull 1) r t)
       (to >>= λ to. e.value >>= λ vs. ask to (size_of scope.world e.shape) (blank_object (cells_of scope.world e.shape)) >>= λ s.
       write_cells s vs >> give (memory.Thin (Some s) ∷ []))
   gives_new s0 s1 s2 t r to e agrees live below shape aims gives = λ k w m i x. record {
@@ -187,7 +191,7 @@ module _ (n : ℕ) (d : Tables) (g : Env) (scope : Scope) (f : NameOf → Region
       stored at vs = at >>= λ s. write_cells s vs >> give (memory.Thin (Some s) ∷ [])
 
       post : ℕ → Ghost → Memory → List Scalar → Memory → Type 0
-      post k w m = λ vs. After d k b w m (λ w' m'. HaveTypes d w' (flying k 0) vs (cells_type d f (Thin false r t)) × Standing d g scope f s2 w' m')
+      post k w m = λ vs. After d k b w m (λ w' m'. HaveTypes d w' (flying k 0) vs (cells_type d f (Thin (NeverNull 1) r t)) × Standing d g scope f s2 w' m')
 
       cells : cells_of scope.world e.shape ≡ map shape_of (cells_type d f t)
       cells = ap (cells_of scope.world) (shape ∙ sym (shape_renamed f t)) ∙ agrees (renamed f t)
@@ -223,18 +227,22 @@ module _ (n : ℕ) (d : Tables) (g : Env) (scope : Scope) (f : NameOf → Region
         where
           pointer : (at : Spot) (w3 : Ghost) (m3 : Memory) → Inv d w3 m3 → at.region ≡ f r → FullAt (λ u. Reached u) w3 m3 at (cells_type d f t) vs
               → Scene d g scope f b low s2 k w3 m3
-              → HaveTypes d w3 (flying k 0) (memory.Thin (Some at) ∷ []) (cells_type d f (Thin false r t))
+              → HaveTypes d w3 (flying k 0) (memory.Thin (Some at) ∷ []) (cells_type d f (Thin (NeverNull 1) r t))
           pointer at w3 m3 i3 there full x3 = (
             inr (record {
               at = at;
               is = refl;
-              reaches = record {
-                typed = full_laid w3 m3 at (cells_type d f t) vs full;
-                above = ap (λ (q : Region). w3.above q (f r)) there ∙ i3.itself (f r) (x3.names.known r below);
-              };
+              reaches = one;
+              elements = only_one d w3 at (f r) (renamed f t) one;
             }),
             tt,
           )
+            where
+              one : Reaches d w3 at (f r) (renamed f t)
+              one = record {
+                typed = full_laid w3 m3 at (cells_type d f t) vs full;
+                above = ap (λ (q : Region). w3.above q (f r)) there ∙ i3.itself (f r) (x3.names.known r below);
+              }
 
   pub denotes_made : b ≤ low → (at : ℕ) (r : NameOf) (to : Act Maker) (p : States → Passed) (a v : Value) (u : Use) (e : Sense) → Agrees scope.world d → Lives r
       → Below g.regions.count r
@@ -242,7 +250,7 @@ module _ (n : ℕ) (d : Tables) (g : Env) (scope : Scope) (f : NameOf → Region
       → Denotes n d g scope f b low v (value_use (λ s. then_passed (p s) u.value)) (made scope.world to Shared e)
   denotes_made is at r to p a v u e agrees live below aims h j = by h.sound
     where
-      z : (is_makeable a.type ≡ true) × Valued v (Thin false r a.type)
+      z : (is_makeable a.type ≡ true) × Valued v (Thin (NeverNull 1) r a.type)
       z = made_there (is_makeable a.type) at r a.type v j
 
       it : IsObjectType a.type
@@ -250,13 +258,13 @@ module _ (n : ℕ) (d : Tables) (g : Env) (scope : Scope) (f : NameOf → Region
 
       by : Sound n d g scope f b low a u h.own e ⊎ Refuses n d g scope f b low u
           → Denotes n d g scope f b low v (value_use (λ s. then_passed (p s) u.value)) (made scope.world to Shared e)
-      by (inr y) = denotes_refused n d g scope f b low v (λ s. then_passed (p s) u.value) (Thin false r a.type) (made scope.world to Shared e) it
+      by (inr y) = denotes_refused n d g scope f b low v (λ s. then_passed (p s) u.value) (Thin (NeverNull 1) r a.type) (made scope.world to Shared e) it
           (below, h.below) z.1
           (λ s q. y.value (p s).states (passed_second p u.value s q))
       by (inl y) =
           let shape : e.shape ≡ shape_of a.type = y.shape (object_some a.type it) in
-          denotes_value n d g scope f b low v (λ s. then_passed (p s) u.value) (Thin false r a.type) (ThinShape false Shared e.shape) _ it (below, h.below) z.1
-          (ap (ThinShape false Shared) shape)
+          denotes_value n d g scope f b low v (λ s. then_passed (p s) u.value) (Thin (NeverNull 1) r a.type) (ThinShape (NeverNull 1) Shared e.shape) _ it (below, h.below) z.1
+          (ap (ThinShape (NeverNull 1) Shared) shape)
           (λ s q. gives_new s (p s).states (u.value (p s).states).states a.type r to e agrees live below shape (aims s (passed_first p u.value s q))
           (y.value is (p s).states (passed_second p u.value s q)))
 

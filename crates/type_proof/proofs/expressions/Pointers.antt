@@ -4,6 +4,7 @@ use Rattle.std.specs.Prelude.{not, ◌&&◌, is_some, option_and_then, if◌then
 use Rattle.cyc_words.specs.declared.faults.Kind.TheVariants.{NullException}
 use Rattle.cyc_tree.specs.declared.expression.Operator.{Operator}
 use Rattle.cyc_tree.specs.declared.expression.Operator.TheVariants.{Equal, NotEqual}
+use Rattle.source_meaning.specs.Shapes.{Reach, NeverNull}
 use Rattle.source_meaning.specs.Shapes.{Shape, IntShape}
 use Rattle.source_meaning.specs.Memory as memory
 use Rattle.source_meaning.specs.Memory.{Region, Spot, Span, Scalar, Live, Memory, state_is_live, is_live, same_spot}
@@ -17,7 +18,7 @@ use Rattle.source_typing.specs.Scope.{Env}
 use Rattle.source_typing.specs.States.{States}
 use Rattle.type_proof.specs.Flat.{Tables}
 use Rattle.type_proof.proofs.invariant.Invariant.{RunType, Owner, Ghost, HasType, HaveTypes, Inv, Grows}
-use Rattle.type_proof.proofs.invariant.Values.{Grown, copied_kept}
+use Rattle.type_proof.proofs.invariant.Values.{only_one, Grown, copied_kept}
 use Rattle.type_proof.proofs.invariant.Growth.{grows_trans}
 use Rattle.type_proof.proofs.invariant.Runs.{Safe, Runs, safe_raised}
 use Rattle.type_proof.proofs.invariant.After.{After, flying}
@@ -162,7 +163,7 @@ none_right : (m : Memory) (p : Option Spot) → (b : Bool) × (same_thin m p Non
 none_right m None = (true, refl)
 none_right m (Some s) = (false, refl)
 
-pointer_of : (d : Tables) (w : Ghost) (by : Owner) (v : Scalar) (c : Bool) (r : Region) (t : RunType) → HasType d w by v (Thin c r t)
+pointer_of : (d : Tables) (w : Ghost) (by : Owner) (v : Scalar) (c : Reach) (r : Region) (t : RunType) → HasType d w by v (Thin c r t)
     → (p : Option Spot) × (v ≡ memory.Thin p)
 pointer_of d w by v c r t (inl h) = (None, h.is)
 pointer_of d w by v c r t (inr h) = (Some h.at, h.is)
@@ -171,7 +172,7 @@ span_of : (d : Tables) (w : Ghost) (by : Owner) (v : Scalar) (r : Region) (t : R
 span_of d w by v r t (inl h) = (None, h)
 span_of d w by v r t (inr h) = (Some h.span, h.is)
 
-live_pointer : (d : Tables) (w : Ghost) (m : Memory) (by : Owner) (v : Scalar) (c : Bool) (r : Region) (t : RunType) → Inv d w m → m.state r ≡ Live
+live_pointer : (d : Tables) (w : Ghost) (m : Memory) (by : Owner) (v : Scalar) (c : Reach) (r : Region) (t : RunType) → Inv d w m → m.state r ≡ Live
     → HasType d w by v (Thin c r t) → (p : Option Spot) × (v ≡ memory.Thin p) × LiveAt m p
 live_pointer d w m by v c r t i l (inl h) = (None, h.is, tt)
 live_pointer d w m by v c r t i l (inr h) = (Some h.at, h.is, i.closed r h.at.region l h.reaches.above)
@@ -199,20 +200,20 @@ module _ (n : ℕ) (d : Tables) (g : Env) (scope : Scope) (f : NameOf → Region
   Compares s t = (a : States) (k : ℕ) (w : Ghost) (m : Memory) (one_by two_by : Owner) (v u : Scalar) → Inv d w m → Scene d g scope f b low a k w m
       → Known d f w one_by v s → HasType d w two_by u (renamed f t) → Comparable m v u
 
-  pub compares_thins : (c e : Bool) (r q : NameOf) (t : StaticType) → g.regions.live r ≡ true → g.regions.live q ≡ true → Compares (Thin c r t) (Thin e q t)
+  pub compares_thins : (c e : Reach) (r q : NameOf) (t : StaticType) → g.regions.live r ≡ true → g.regions.live q ≡ true → Compares (Thin c r t) (Thin e q t)
   compares_thins c e r q t lr lq = λ a k w m one_by two_by v u i x hv hu.
       let p : (p : Option Spot) × (v ≡ memory.Thin p) × LiveAt m p = live_pointer d w m one_by v c (f r) (renamed f t) i (x.names.live r lr) hv in
       let s : (p : Option Spot) × (u ≡ memory.Thin p) × LiveAt m p = live_pointer d w m two_by u e (f q) (renamed f t) i (x.names.live q lq) hu in
       let z : (b : Bool) × (same_thin m p.0 s.0 ≡ Some b) = both_live m p.0 s.0 p.2 s.2 in
       thins_comparable m v u p.0 s.0 z.0 p.1 s.1 z.1
 
-  pub compares_with_null : (c : Bool) (r : NameOf) (t : StaticType) → Compares (Thin c r t) Null
+  pub compares_with_null : (c : Reach) (r : NameOf) (t : StaticType) → Compares (Thin c r t) Null
   compares_with_null c r t = λ a k w m one_by two_by v u i x hv hu.
       let p : (p : Option Spot) × (v ≡ memory.Thin p) = pointer_of d w one_by v c (f r) (renamed f t) hv in
       let z : (b : Bool) × (same_thin m p.0 None ≡ Some b) = none_right m p.0 in
       thins_comparable m v u p.0 None z.0 p.1 hu z.1
 
-  pub compares_null_with : (c : Bool) (r : NameOf) (t : StaticType) → Compares Null (Thin c r t)
+  pub compares_null_with : (c : Reach) (r : NameOf) (t : StaticType) → Compares Null (Thin c r t)
   compares_null_with c r t = λ a k w m one_by two_by v u i x hv hu.
       let p : (p : Option Spot) × (u ≡ memory.Thin p) = pointer_of d w two_by u c (f r) (renamed f t) hu in
       let z : (b : Bool) × (same_thin m None p.0 ≡ Some b) = none_left m p.0 in
@@ -274,7 +275,7 @@ module _ (n : ℕ) (d : Tables) (g : Env) (scope : Scope) (f : NameOf → Region
   -- ---- `*e` and `&e`
 
   -- NULL raises, and else the cell is there, in a region that is live
-  pub finds_contents : (s s2 : States) (c : Bool) (r : NameOf) (t : StaticType) (cells : ℕ) (act : Act (List Scalar)) → IsObjectType t → g.regions.live r ≡ true
+  pub finds_contents : (s s2 : States) (c : Reach) (r : NameOf) (t : StaticType) (cells : ℕ) (act : Act (List Scalar)) → IsObjectType t → g.regions.live r ≡ true
       → Shows n d g scope f b low s s2 (Thin c r t) act → Finds n d g scope f b low s s2 t r (act >>= one >>= λ p. accessed cells p)
   finds_contents s s2 c r t cells act e live shows = λ k w m i x. record {
     by = λ next q. (runs_value s s2 (Thin c r t) act (λ p. accessed cells p) k w m (post k w m) e shows i x
@@ -299,12 +300,12 @@ module _ (n : ℕ) (d : Tables) (g : Env) (scope : Scope) (f : NameOf → Region
 
   -- a pointer to a place is never NULL
   pub gives_address : (s s2 : States) (r : NameOf) (t : StaticType) (place : Act Spot) → Finds n d g scope f b low s s2 t r place
-      → Gives n d g scope f b low s s2 (Thin false r t) (place >>= λ s. give (memory.Thin (Some s) ∷ []))
+      → Gives n d g scope f b low s s2 (Thin (NeverNull 1) r t) (place >>= λ s. give (memory.Thin (Some s) ∷ []))
   gives_address s s2 r t place finds = λ k w m i x. record {
     by = λ next q. (finds k w m i x).by (λ a. next (memory.Thin (Some a) ∷ [])) (λ a m1 y. q (memory.Thin (Some a) ∷ []) m1 (record {
       ghost = y.ghost;
       inv = y.inv;
       grows = y.grows;
-      holds = (let z : PlaceOk d f t r a y.ghost m1 = y.holds.0 in ((inr (record { at = a; is = refl; reaches = z.0 }), tt), y.holds.1));
+      holds = (let z : PlaceOk d f t r a y.ghost m1 = y.holds.0 in ((inr (record { at = a; is = refl; reaches = z.0; elements = only_one d y.ghost a (f r) (renamed f t) z.0 }), tt), y.holds.1));
     }));
   }

@@ -1,7 +1,8 @@
 -- A unique block is made: a region of one object, whose right the pointer carries.
 use Rattle.std.proofs.Common.{◌≡◌, ℕ, suc, ◌+◌, ◌<◌, Bool, true, false, ◌⊎◌, inl, inr, List, [], ◌∷◌, Some, refl, sym, ◌∙◌, ap, subst, arith, ◌≤◌}
-use Rattle.std.specs.Prelude.{map, if◌then◌else◌}
+use Rattle.std.specs.Prelude.{map, ◌&&◌, if◌then◌else◌}
 use Rattle.cyc_words.specs.Events.{UniqueAlloc}
+use Rattle.source_meaning.specs.Shapes.{NeverNull}
 use Rattle.source_meaning.specs.Memory as memory
 use Rattle.source_meaning.specs.Memory.{Region, Born, Spot, Scalar, Object, Live, Memory, same_region, with_object, next_spot, is_live, state_is_live}
 use Rattle.source_meaning.specs.Memory.{blank_object, State}
@@ -9,7 +10,7 @@ use Rattle.source_meaning.specs.Steps.{Act, ◌>>=◌, ◌>>◌, give, Scope}
 use Rattle.source_meaning.specs.Values.{write_cells}
 use Rattle.source_meaning.specs.Making.{AsUnique, ask, make_object}
 use Rattle.source_meaning.proofs.Cases.{region_is, region_itself}
-use Rattle.source_typing.specs.Types.{StaticType, Unique, is_makeable, renamed, shape_of}
+use Rattle.source_typing.specs.Types.{StaticType, Unique, is_integer, is_makeable, renamed, shape_of}
 use Rattle.source_meaning.specs.Shapes.{Alone, Shape, ThinShape}
 use Rattle.source_meaning.specs.Conversions.{cells_of, size_of}
 use Rattle.source_meaning.specs.Places.{Sense}
@@ -196,11 +197,13 @@ made_alone true at t v e = (refl, value_of at (Unique false t) v e)
 made_alone false at t v e = absurd cc
 
 -- an array is made in no unique region
-pub no_array_alone : (at : ℕ) (x : Goal) (a v : Value) → Of ToUnique ≡ Of x → rules.array_made at x a ≡ Of v → ⊥
-no_array_alone at x a v e z = by (subst (λ (y : Goal). rules.array_made at y a ≡ Of v) (sym (of_is ToUnique x e)) z)
+pub no_array_alone : (at : ℕ) (x : Goal) (c a v : Value) → Of ToUnique ≡ Of x → rules.array_made at x (c, a) ≡ Of v → ⊥
+no_array_alone at x c a v e z =
+    by (is_integer c.type && is_makeable a.type) (subst (λ (y : Goal). rules.array_made at y (c, a) ≡ Of v) (sym (of_is ToUnique x e)) z)
   where
-    by : rules.array_made at ToUnique a ≡ Of v → ⊥
-    by q = cc
+    by : (fits : Bool) → after (if_fits fits at a.type) (rules.array_to at ToUnique) ≡ Of v → ⊥
+    by true q = cc
+    by false q = cc
 
 module _ (n : ℕ) (d : Tables) (g : Env) (scope : Scope) (f : NameOf → Region) (b : ℕ) (low : ℕ) where
   gives_unique : (s s2 : States) (t : StaticType) (e : Sense) → Agrees scope.world d → e.shape ≡ shape_of t → Gives n d g scope f b low s s2 t e.value
@@ -244,8 +247,8 @@ module _ (n : ℕ) (d : Tables) (g : Env) (scope : Scope) (f : NameOf → Region
           z.1 (λ s q. y.value (p s).states (passed_second p u.value s q))
       by (inl y) =
           let shape : e.shape ≡ shape_of a.type = y.shape (object_some a.type it) in
-          denotes_value n d g scope f b low v (λ s. then_passed (p s) u.value) (Unique false a.type) (ThinShape false Alone e.shape) _ it h.below z.1
-          (ap (ThinShape false Alone) shape)
+          denotes_value n d g scope f b low v (λ s. then_passed (p s) u.value) (Unique false a.type) (ThinShape (NeverNull 1) Alone e.shape) _ it h.below z.1
+          (ap (ThinShape (NeverNull 1) Alone) shape)
           (λ s q. subst (λ (s1 : States). Gives n d g scope f b low s1 (u.value (p s).states).states (Unique false a.type)
           (made scope.world (give AsUnique) Alone e).value) (here s)
           (gives_unique (p s).states (u.value (p s).states).states a.type e agrees shape (y.value is (p s).states (passed_second p u.value s q))))

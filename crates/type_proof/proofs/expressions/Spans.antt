@@ -5,7 +5,7 @@ use Rattle.cyc_words.specs.Words.{sum_of, difference_of}
 use Rattle.cyc_words.specs.declared.faults.Kind.TheVariants.{NullException}
 use Rattle.cyc_tree.specs.declared.expression.Operator.{Operator}
 use Rattle.cyc_tree.specs.declared.expression.Operator.TheVariants.{Add, Subtract}
-use Rattle.source_meaning.specs.Shapes.{Shape, FatShape}
+use Rattle.source_meaning.specs.Shapes.{Reach, count_of, Shape, FatShape}
 use Rattle.source_meaning.specs.Memory.{Region, Spot, Scalar, Integer, IntegerType, AsUnsigned, Wide, Memory, beyond}
 use Rattle.source_meaning.specs.Steps.{Scope, Act, give, ◌>>=◌, memory, need}
 use Rattle.source_meaning.specs.Operators.{operated, operator_shape, with_index}
@@ -15,7 +15,7 @@ use Rattle.source_meaning.specs.Calls.{elements_left}
 use Rattle.source_typing.specs.Converts.{IsInteger}
 use Rattle.source_typing.specs.Operators.{is_move}
 use Rattle.source_typing.specs.Scope.{Env}
-use Rattle.source_typing.specs.Types.{StaticType, Unsigned, Fat, renamed}
+use Rattle.source_typing.specs.Types.{StaticType, Unsigned, Fat, Thin, renamed}
 use Rattle.source_typing.specs.States.{States}
 use Rattle.type_proof.specs.Flat.{Tables}
 use Rattle.type_proof.proofs.invariant.Invariant.{RunType, Owner, Ghost, Reaches, HasType, HaveTypes, Inv, Grows}
@@ -28,7 +28,7 @@ use Rattle.type_proof.proofs.invariant.Standing.{Standing}
 use Rattle.type_proof.proofs.invariant.Scenes.{Scene}
 use Rattle.type_proof.proofs.invariant.Sound.{cells_type, PlaceOk, Gives, Shows, Finds}
 use Rattle.type_proof.proofs.expressions.Words.{IsObjectType, grows_grown}
-use Rattle.type_proof.proofs.expressions.Elements.{same_elements, runs_element}
+use Rattle.type_proof.proofs.expressions.Elements.{same_elements, these_elements, runs_element}
 use Rattle.type_proof.proofs.expressions.Pointers.{runs_value}
 use Rattle.type_proof.proofs.expressions.Operands.{runs_word}
 
@@ -151,34 +151,72 @@ module _ (n : ℕ) (d : Tables) (g : Env) (scope : Scope) (f : NameOf → Region
   }
 
   -- and so where the index is another one
-  finds_further : (s2 : States) (r : NameOf) (t : StaticType) (cells j k : ℕ) (w : Ghost) (m : Memory) (by : Owner) (v : Scalar) (w1 : Ghost) (m1 : Memory)
+  finds_further : (s2 : States) (r : NameOf) (t : StaticType) (cells all j k : ℕ) (w : Ghost) (m : Memory) (by : Owner) (v : Scalar) (w1 : Ghost) (m1 : Memory)
       → cells ≡ length (cells_type d f t) → g.regions.live r ≡ true → HasType d w1 by v (renamed f (Fat r t)) → Inv d w1 m1 → Grows k b w m w1 m1
-      → Scene d g scope f b low s2 k w1 m1 → Runs n (indexed_span j v >>= λ p. accessed cells p) m1
+      → Scene d g scope f b low s2 k w1 m1 → Runs n (indexed_span all j v >>= λ p. accessed cells p) m1
       (λ at. After d k b w m (λ w' m'. PlaceOk d f t r at w' m' × Standing d g scope f s2 w' m'))
-  finds_further s2 r t cells j k w m by v w1 m1 count live (inl h) i1 g1 x1 =
-      subst (λ (y : Scalar). Runs n (indexed_span j y >>= λ p. accessed cells p) m1
+  finds_further s2 r t cells all j k w m by v w1 m1 count live (inl h) i1 g1 x1 =
+      subst (λ (y : Scalar). Runs n (indexed_span all j y >>= λ p. accessed cells p) m1
       (λ at. After d k b w m (λ w' m'. PlaceOk d f t r at w' m' × Standing d g scope f s2 w' m'))) (sym h)
       (record { by = λ next q. safe_raised n NullException })
-  finds_further s2 r t cells j k w m by v w1 m1 count live (inr h) i1 g1 x1 =
+  finds_further s2 r t cells all j k w m by v w1 m1 count live (inr h) i1 g1 x1 =
       let index : ℕ = sum_of h.span.index j in
-      subst (λ (y : Scalar). Runs n (indexed_span j y >>= λ p. accessed cells p) m1
+      subst (λ (y : Scalar). Runs n (indexed_span all j y >>= λ p. accessed cells p) m1
       (λ at. After d k b w m (λ w' m'. PlaceOk d f t r at w' m' × Standing d g scope f s2 w' m'))) (sym h.is) (record {
         by = λ next q. (finds_spanned s2 r t cells k w m by (Wide (Some (record h.span { index = index }))) w1 m1 count live
             (inr (same_elements d w1 h.span index (f r) (renamed f t) h.reaches)) i1 g1 x1).by next q;
       })
 
   -- `a[b]`: the index goes first
-  pub finds_indexed : (s0 s1 s2 : States) (r : NameOf) (t u : StaticType) (cells : ℕ) (index act : Act (List Scalar)) → IsObjectType t → IsInteger u
+  pub finds_indexed : (s0 s1 s2 : States) (r : NameOf) (t u : StaticType) (cells all : ℕ) (index act : Act (List Scalar)) → IsObjectType t → IsInteger u
       → cells ≡ length (cells_type d f t) → g.regions.live r ≡ true → Shows n d g scope f b low s0 s1 u index → Shows n d g scope f b low s1 s2 (Fat r t) act
-      → Finds n d g scope f b low s0 s2 t r (index >>= one >>= integer >>= λ k. act >>= one >>= indexed_span k >>= λ p. accessed cells p)
-  finds_indexed s0 s1 s2 r t u cells index act it iu count live hi ha = λ k w m i x. record {
-    by = λ next q. (runs_word n d g scope f b low s0 s1 u index (λ y. integer y >>= λ j. act >>= one >>= indexed_span j >>= λ p. accessed cells p) k w m
+      → Finds n d g scope f b low s0 s2 t r (index >>= one >>= integer >>= λ k. act >>= one >>= indexed_span all k >>= λ p. accessed cells p)
+  finds_indexed s0 s1 s2 r t u cells all index act it iu count live hi ha = λ k w m i x. record {
+    by = λ next q. (runs_word n d g scope f b low s0 s1 u index (λ y. integer y >>= λ j. act >>= one >>= indexed_span all j >>= λ p. accessed cells p) k w m
         (λ at. After d k b w m (λ w' m'. PlaceOk d f t r at w' m' × Standing d g scope f s2 w' m')) iu hi i x
         (λ s j w1 m1 e1 i1 g1 x1. record {
-          by = λ next1 q1. (runs_value n d g scope f b low s1 s2 (Fat r t) act (λ p. indexed_span j p >>= λ p. accessed cells p) k w1 m1
+          by = λ next1 q1. (runs_value n d g scope f b low s1 s2 (Fat r t) act (λ p. indexed_span all j p >>= λ p. accessed cells p) k w1 m1
               (λ at. After d k b w m (λ w' m'. PlaceOk d f t r at w' m' × Standing d g scope f s2 w' m')) it ha i1 x1
               (λ by v w2 m2 hv i2 g2 x2.
               let g3 : Grows k b w m w2 m2 = grows_trans g1 g2 in
-              finds_further s2 r t cells j k w m by v w2 m2 count live hv i2 g3 x2)).by next1 q1;
+              finds_further s2 r t cells all j k w m by v w2 m2 count live hv i2 g3 x2)).by next1 q1;
+        })).by next q;
+  }
+
+  -- ---- an element of a thin pointer as a place
+
+  -- NULL raises, an index that isn't below the bound raises, and else the element is there
+  finds_bounded : (s2 : States) (c : Reach) (r : NameOf) (t : StaticType) (cells j k : ℕ) (w : Ghost) (m : Memory) (by : Owner) (v : Scalar) (w1 : Ghost)
+      (m1 : Memory)
+      → cells ≡ length (cells_type d f t) → g.regions.live r ≡ true → HasType d w1 by v (renamed f (Thin c r t)) → Inv d w1 m1 → Grows k b w m w1 m1
+      → Scene d g scope f b low s2 k w1 m1 → Runs n (indexed_span (count_of c) j v >>= λ p. accessed cells p) m1
+      (λ at. After d k b w m (λ w' m'. PlaceOk d f t r at w' m' × Standing d g scope f s2 w' m'))
+  finds_bounded s2 c r t cells j k w m by v w1 m1 count live (inl h) i1 g1 x1 =
+      subst (λ (y : Scalar). Runs n (indexed_span (count_of c) j y >>= λ p. accessed cells p) m1
+      (λ at. After d k b w m (λ w' m'. PlaceOk d f t r at w' m' × Standing d g scope f s2 w' m'))) (sym h.is)
+      (record { by = λ next q. safe_raised n NullException })
+  finds_bounded s2 c r t cells j k w m by v w1 m1 count live (inr h) i1 g1 x1 =
+      subst (λ (y : Scalar). Runs n (indexed_span (count_of c) j y >>= λ p. accessed cells p) m1
+      (λ at. After d k b w m (λ w' m'. PlaceOk d f t r at w' m' × Standing d g scope f s2 w' m'))) (sym h.is) (record {
+        by = λ next q. (finds_spanned s2 r t cells k w m by (Wide (Some (record { first = h.at; count = count_of c; index = j }))) w1 m1 count live
+            (inr (these_elements d w1 h.at (count_of c) j (f r) (renamed f t) h.elements)) i1 g1 x1).by next q;
+      })
+
+  -- `p[e]` of a thin pointer
+  pub finds_subscripted : (s0 s1 s2 : States) (c : Reach) (r : NameOf) (t u : StaticType) (cells : ℕ) (index act : Act (List Scalar)) → IsObjectType t
+      → IsInteger u
+      → cells ≡ length (cells_type d f t) → g.regions.live r ≡ true → Shows n d g scope f b low s0 s1 u index
+      → Shows n d g scope f b low s1 s2 (Thin c r t) act
+      → Finds n d g scope f b low s0 s2 t r (index >>= one >>= integer >>= λ k. act >>= one >>= indexed_span (count_of c) k >>= λ p. accessed cells p)
+  finds_subscripted s0 s1 s2 c r t u cells index act it iu count live hi ha = λ k w m i x. record {
+    by = λ next q. (runs_word n d g scope f b low s0 s1 u index
+        (λ y. integer y >>= λ j. act >>= one >>= indexed_span (count_of c) j >>= λ p. accessed cells p) k w m
+        (λ at. After d k b w m (λ w' m'. PlaceOk d f t r at w' m' × Standing d g scope f s2 w' m')) iu hi i x
+        (λ s j w1 m1 e1 i1 g1 x1. record {
+          by = λ next1 q1. (runs_value n d g scope f b low s1 s2 (Thin c r t) act (λ p. indexed_span (count_of c) j p >>= λ p. accessed cells p) k w1 m1
+              (λ at. After d k b w m (λ w' m'. PlaceOk d f t r at w' m' × Standing d g scope f s2 w' m')) it ha i1 x1
+              (λ by v w2 m2 hv i2 g2 x2.
+              let g3 : Grows k b w m w2 m2 = grows_trans g1 g2 in
+              finds_bounded s2 c r t cells j k w m by v w2 m2 count live hv i2 g3 x2)).by next1 q1;
         })).by next q;
   }

@@ -95,7 +95,7 @@ unique_to_member g x n (Key q) v h = absurd h
 unique_to_member g x n (Struct tag rs) v h = record { seat = InBlock; tag = tag; regions = rs; is = IsUnique; live = tt; part = h }
 unique_to_member g x n (Union tag rs) v h = absurd h
 
-thin_to_member : (g : Env) (x : List ℕ) (n : Bool) (r : NameOf) (t : StaticType) (v : Value) → ArrowTo g x (Thin n r t) v → ToMember g x (Thin n r t) v
+thin_to_member : (g : Env) (x : List ℕ) (n : shapes.Reach) (r : NameOf) (t : StaticType) (v : Value) → ArrowTo g x (Thin n r t) v → ToMember g x (Thin n r t) v
 thin_to_member g x n r Int v h = absurd h
 thin_to_member g x n r Unsigned v h = absurd h
 thin_to_member g x n r Char v h = absurd h

@@ -3,7 +3,7 @@ use Rattle.std.proofs.Common.{◌≡◌, ℕ, suc, Bool, true, false, refl, sym,
 use Rattle.std.specs.Prelude.{◌&&◌, ◌||◌, nat_eq}
 use Rattle.std.proofs.lemmas.Bool.{eqb-true}
 use Rattle.cyc_tree.specs.declared.expression.Operator.{Operator}
-use Rattle.source_meaning.specs.Shapes.{Shape, pointee}
+use Rattle.source_meaning.specs.Shapes.{Reach, Shape, pointee}
 use Rattle.source_typing.specs.Verdicts.{Of, after, if_fits}
 use Rattle.source_typing.specs.Operators.{on_integers, applied_to, compared_thin, compared, fat_moved, if_equality, integers_joined, is_equality, is_move}
 use Rattle.source_typing.specs.Places as places
@@ -216,7 +216,7 @@ SeatLives g InBlock = Unit {0}
 
 -- a pointer to a place of a type: a thin or a fat one into a region, or a unique one to its block
 pub data IsPointer : StaticType → Seat → StaticType → Type 0 where
-  IsThin : {n : Bool} {r : NameOf} {t : StaticType} → IsPointer (Thin n r t) (In r) t
+  IsThin : {n : Reach} {r : NameOf} {t : StaticType} → IsPointer (Thin n r t) (In r) t
   IsFat : {r : NameOf} {t : StaticType} → IsPointer (Fat r t) (In r) t
   IsUnique : {n : Bool} {t : StaticType} → IsPointer (Unique n t) InBlock t
 

@@ -1,7 +1,9 @@
 -- Words and structs of them: their types, and values that carry no right, which stay of their type whoever has them.
 use Rattle.std.proofs.Common.{◌≡◌, ℕ, suc, true, false, List, [], ◌∷◌, refl, ap, subst}
 use Rattle.std.specs.Prelude.{map}
-use Rattle.source_meaning.specs.Shapes.{same_shape}
+use Rattle.std.proofs.lemmas.Bool.{eq-eqb}
+use Rattle.std.specs.Prelude.{◌&&◌}
+use Rattle.source_meaning.specs.Shapes.{MayBeNull, NeverNull, same_shape}
 use Rattle.source_meaning.specs.Memory.{Region, Scalar, Memory}
 use Rattle.source_typing.specs.Converts.{IsInteger}
 use Rattle.source_typing.specs.Types.{StaticType, Int, Unsigned, Char, Void, Null, Thin, Fat, Unique, Handle, Key, Struct, Union, renamed, shape_of}
@@ -149,8 +151,8 @@ shape_itself Unsigned e = refl
 shape_itself Char e = refl
 shape_itself Void e = absurd e
 shape_itself Null e = absurd e
-shape_itself (Thin true r t) e = shape_itself t e
-shape_itself (Thin false r t) e = shape_itself t e
+shape_itself (Thin (MayBeNull n) r t) e = subst (λ b. b && same_shape (shape_of t) (shape_of t) ≡ true) (Rattle.std.proofs.Common.sym (eq-eqb n n refl)) (shape_itself t e)
+shape_itself (Thin (NeverNull n) r t) e = subst (λ b. b && same_shape (shape_of t) (shape_of t) ≡ true) (Rattle.std.proofs.Common.sym (eq-eqb n n refl)) (shape_itself t e)
 shape_itself (Fat r t) e = shape_itself t e
 shape_itself (Unique true t) e = shape_itself t e
 shape_itself (Unique false t) e = shape_itself t e

@@ -1,6 +1,7 @@
 -- A unique pointer is lent, and its block has another region name, while the rest of a block runs.
 use Rattle.std.proofs.Common.{◌≡◌, ℕ, suc, Bool, true, false, ◌<◌, ◌⊎◌, inl, inr, Some, refl, sym, ◌∙◌, ap, subst, arith}
 use Rattle.std.specs.Prelude.{if◌then◌else◌}
+use Rattle.source_meaning.specs.Shapes.{single}
 use Rattle.source_meaning.specs.Memory.{Region, Born, Spot, Scalar, Holds, Lent, State, Live, Memory, same_region, with_cell, with_state}
 use Rattle.source_meaning.specs.Steps.{Step, Flow, Act, give, ◌>>◌, finally}
 use Rattle.source_meaning.specs.Values.{put_content}
@@ -8,10 +9,10 @@ use Rattle.source_meaning.specs.Regions.{lending}
 use Rattle.source_typing.specs.Types as types
 use Rattle.source_typing.specs.Types.{Unique, shape_of}
 use Rattle.type_proof.specs.Flat.{Tables}
-use Rattle.type_proof.proofs.invariant.Facts.{at_region, at_spot, same_at, same_here}
-use Rattle.type_proof.proofs.invariant.Invariant.{RunType, heap, Owner, Nobody, Flying, Returned, Pinned, InCell, Kept, Reached, Private, Ghost, HasType}
-use Rattle.type_proof.proofs.invariant.Invariant.{CellOk, Steady, ByLoan, Resting, StateOk, Known, Inv, Grows}
-use Rattle.type_proof.proofs.invariant.Values.{laid_kept}
+use Rattle.type_proof.proofs.invariant.Facts.{single_null, at_region, at_spot, same_at, same_here}
+use Rattle.type_proof.proofs.invariant.Invariant.{IsNull, RunType, heap, Owner, Nobody, Flying, Returned, Pinned, InCell, Kept, Reached, Private, Ghost, HasType}
+use Rattle.type_proof.proofs.invariant.Invariant.{Reaches, CellOk, Steady, ByLoan, Resting, StateOk, Known, Inv, Grows}
+use Rattle.type_proof.proofs.invariant.Values.{laid_kept, single_one}
 use Rattle.type_proof.proofs.invariant.Moves.{out_of, into, owned_by, Turns, inv_turn, Alone}
 use Rattle.type_proof.proofs.invariant.Births.{known_live}
 use Rattle.type_proof.proofs.invariant.Growth.{grows_trans, grows_less, grows_turn, loan_alone}
@@ -80,7 +81,7 @@ pub record Names (d : Tables) (k : ℕ) (w : Ghost) (m : Memory) (v : Scalar) (n
   pub region : Region
   pub live : m.state region ≡ Live
   pub stands : (w.owner region ≡ Pinned k) ⊎ (region ≡ heap)
-  pub pointer : HasType d w (Flying (suc k) 0) v (types.Thin nullable region t)
+  pub pointer : HasType d w (Flying (suc k) 0) v (types.Thin (single nullable) region t)
 
 -- how the body of a loan begins, for a unique pointer
 pub record Aliased (d : Tables) (k b : ℕ) (w : Ghost) (m : Memory) (at : Spot) (v : Scalar) (nullable : Bool) (t : RunType) (w' : Ghost) : Type 0 where
@@ -105,7 +106,7 @@ alias_begins d k b w m at v n t i e ours (inl h) = (
     inv = ia;
     grows = ga;
     above = λ q p. refl;
-    names = record { region = heap; live = i.heap_lives; stands = inr refl; pointer = inl h };
+    names = record { region = heap; live = i.heap_lives; stands = inr refl; pointer = inl (subst (λ x. IsNull x v) (sym (single_null n)) h) };
     back = λ w2 m2 i2 g2.
         let e2 : w2.types at ≡ Some (Private (Unique n t)) = g2.types at _ e in
         record {
@@ -148,8 +149,8 @@ alias_begins d k b w m at v n t i e ours (inr h) = (
           inr (record {
             at = record { region = q; object = 0; cell = 0 };
             is = h.is;
-            reaches =
-                record { typed = laid_kept w wb _ _ (λ s u f. f) h.reaches.typed; above = h.reaches.above };
+            reaches = here;
+            elements = single_one n d wb _ q t here;
           });
     };
     back = λ w2 m2 i2 g2. ends w2 m2 i2 g2;
@@ -182,6 +183,9 @@ alias_begins d k b w m at v n t i e ours (inr h) = (
 
     wb : Ghost
     wb = owned_by wa q (Pinned k)
+
+    here : Reaches d wb (record { region = q; object = 0; cell = 0 }) q t
+    here = record { typed = laid_kept w wb _ _ (λ s u f. f) h.reaches.typed; above = h.reaches.above }
 
     same : with_state ma q Live ≡ ma
     same = same_state ma q Live live

@@ -3,7 +3,7 @@ use Rattle.std.proofs.Common.{◌≡◌, ℕ, suc, ◌+◌, ◌<◌, Bool, true,
 use Rattle.std.specs.Prelude.{nat_eq, ◌&&◌, not, map, length, if◌then◌else◌}
 use Rattle.std.proofs.lemmas.Bool.{false≢true, eq-eqb}
 use Rattle.std.proofs.lemmas.Bool.Decides.{eqb_tells}
-use Rattle.source_meaning.specs.Shapes.{Shape}
+use Rattle.source_meaning.specs.Shapes.{Shape, Reach, MayBeNull, NeverNull, may_be_null, single}
 use Rattle.source_meaning.specs.Memory.{Region, Frame, Spot, Scalar, Thin, Content, Holds, Cell, State, Live, Memory, same_spot, with_cell, cell_at}
 use Rattle.source_meaning.specs.Memory.{state_is_live, beyond, is_of, is_moved}
 use Rattle.source_meaning.specs.Steps.{Act, ◌>>=◌, ◌>>◌, need, check}
@@ -25,14 +25,19 @@ abbrev pub cell : RunType → Content → Cell
 cell t c = record { shape = shape_of t; content = c }
 
 -- a value's shape is its type's
-thin_is : (n : Bool) (v : Scalar) (owner : _) (to : Shape) → IsNull n v → is_of (Rattle.source_meaning.specs.Shapes.Shape.ThinShape n owner to) v ≡ true
-thin_is true v owner to h = ap (is_of (Rattle.source_meaning.specs.Shapes.Shape.ThinShape true owner to)) h.is
-thin_is false v owner to h = absurd (false≢true h.allowed)
+thin_is : (n : Reach) (v : Scalar) (owner : _) (to : Shape) → IsNull (may_be_null n) v → is_of (Rattle.source_meaning.specs.Shapes.Shape.ThinShape n owner to) v ≡ true
+thin_is (MayBeNull count) v owner to h = ap (is_of (Rattle.source_meaning.specs.Shapes.Shape.ThinShape (MayBeNull count) owner to)) h.is
+thin_is (NeverNull count) v owner to h = absurd (false≢true h.allowed)
 
-some_is : (n : Bool) (v : Scalar) (at : Spot) (owner : _) (to : Shape) → v ≡ Thin (Some at)
+some_is : (n : Reach) (v : Scalar) (at : Spot) (owner : _) (to : Shape) → v ≡ Thin (Some at)
     → is_of (Rattle.source_meaning.specs.Shapes.Shape.ThinShape n owner to) v ≡ true
-some_is true v at owner to h = ap (is_of (Rattle.source_meaning.specs.Shapes.Shape.ThinShape true owner to)) h
-some_is false v at owner to h = ap (is_of (Rattle.source_meaning.specs.Shapes.Shape.ThinShape false owner to)) h
+some_is (MayBeNull count) v at owner to h = ap (is_of (Rattle.source_meaning.specs.Shapes.Shape.ThinShape (MayBeNull count) owner to)) h
+some_is (NeverNull count) v at owner to h = ap (is_of (Rattle.source_meaning.specs.Shapes.Shape.ThinShape (NeverNull count) owner to)) h
+
+single_is : (n : Bool) (v : Scalar) (to : Shape) → IsNull n v
+    → is_of (Rattle.source_meaning.specs.Shapes.Shape.ThinShape (single n) Rattle.source_meaning.specs.Shapes.Alone to) v ≡ true
+single_is true v to h = thin_is (MayBeNull 1) v Rattle.source_meaning.specs.Shapes.Alone to h
+single_is false v to h = absurd (false≢true h.allowed)
 
 pub typed_is : (d : Tables) (w : Ghost) (by : Owner) (v : Scalar) (t : RunType) → HasType d w by v t → is_of (shape_of t) v ≡ true
 typed_is d w by v Int h = ap (is_of (shape_of {R = Region} Int)) h.is
@@ -44,8 +49,8 @@ typed_is d w by v (types.Thin n r t) (inl h) = thin_is n v _ _ h
 typed_is d w by v (types.Thin n r t) (inr h) = some_is n v h.at _ _ h.is
 typed_is d w by v (Fat r t) (inl h) = ap (is_of (shape_of (Fat r t))) h
 typed_is d w by v (Fat r t) (inr h) = ap (is_of (shape_of (Fat r t))) h.is
-typed_is d w by v (Unique n t) (inl h) = thin_is n v _ _ h
-typed_is d w by v (Unique n t) (inr h) = some_is n v _ _ _ h.is
+typed_is d w by v (Unique n t) (inl h) = single_is n v _ h
+typed_is d w by v (Unique n t) (inr h) = some_is (single n) v _ _ _ h.is
 typed_is d w by v (Handle r) h = ap (is_of (shape_of (Handle r))) h.is
 typed_is d w by v (Key r) h = ap (is_of (shape_of (Key r))) h.is
 typed_is d w by v (Struct tag rs) h = absurd h

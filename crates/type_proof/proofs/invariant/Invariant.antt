@@ -1,6 +1,7 @@
 -- Well-formed memories: each cell holds a value of its type, and each right is held once.
 use Rattle.std.proofs.Common.{◌≡◌, ℕ, suc, ◌<◌, ◌≤◌, Bool, true, false, ◌⊎◌, Option, Some, None, List, [], ◌∷◌}
 use Rattle.std.specs.Prelude.{slice_get, ◌*◌, length}
+use Rattle.source_meaning.specs.Shapes.{count_of, may_be_null}
 use Rattle.source_meaning.specs.Memory.{IntegerType, AsInt, AsUnsigned, AsChar, Region, Frame, Born, Spot, Span, Scalar, Integer, Thin, Wide, HandleOf, KeyOf}
 use Rattle.source_meaning.specs.Memory.{Tagged, Content, Holds, Cell, State, Live, Closed, Dead, Memory, beyond, is_moved}
 use Rattle.source_typing.specs.Types as types
@@ -64,14 +65,20 @@ pub record IsInteger (v : Scalar) (t : IntegerType) : Type 0 where
   pub word : ℕ
   pub is : v ≡ Integer t word
 
-pub record IsNull (may_be_null : Bool) (v : Scalar) : Type 0 where
-  pub allowed : may_be_null ≡ true
+pub record IsNull (allows : Bool) (v : Scalar) : Type 0 where
+  pub allowed : allows ≡ true
   pub is : v ≡ Thin None
 
-pub record PointsTo (d : Tables) (w : Ghost) (v : Scalar) (r : Region) (t : RunType) : Type 0 where
+-- from a cell on so many elements lie in its object
+abbrev pub ReachesOn : Tables → Ghost → ℕ → Spot → Region → RunType → Type 0
+ReachesOn d w count at r t = (i : ℕ) → i < count → Reaches d w (beyond at (i * length (flat heap d t))) r t
+
+-- a thin pointer leads to its object, and to so many elements from there on
+pub record PointsTo (d : Tables) (w : Ghost) (count : ℕ) (v : Scalar) (r : Region) (t : RunType) : Type 0 where
   pub at : Spot
   pub is : v ≡ Thin (Some at)
   pub reaches : Reaches d w at r t
+  pub elements : ReachesOn d w count at r t
 
 -- each element of a fat pointer
 pub record Spans (d : Tables) (w : Ghost) (v : Scalar) (r : Region) (t : RunType) : Type 0 where
@@ -106,7 +113,7 @@ HasPlain d w by v Unsigned = IsInteger v AsUnsigned
 HasPlain d w by v Char = IsInteger v AsChar
 HasPlain d w by v Void = ⊥
 HasPlain d w by v Null = v ≡ Thin None
-HasPlain d w by v (types.Thin n r t) = IsNull n v ⊎ PointsTo d w v r t
+HasPlain d w by v (types.Thin n r t) = IsNull (may_be_null n) v ⊎ PointsTo d w (count_of n) v r t
 HasPlain d w by v (Fat r t) = (v ≡ Wide None) ⊎ Spans d w v r t
 HasPlain d w by v (Unique n t) = IsNull n v ⊎ Owns d w by v t
 HasPlain d w by v (Handle r) = Opens v r

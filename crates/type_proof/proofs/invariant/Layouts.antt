@@ -213,10 +213,10 @@ pub all_begin : (n : ℕ) (xs : List RunType) → AllBegin xs → AllBegin (repe
 all_begin zero xs h = tt
 all_begin (suc n) xs h = both_begin xs (repeated n xs) h (all_begin n xs h)
 
-pointer_begins : (c : Bool) (r : Region) (t : RunType) → c ≡ true → BeginsWith (Thin c r t)
-pointer_begins true r t e =
+pointer_begins : (c : shapes.Reach) (r : Region) (t : RunType) → shapes.may_be_null c ≡ true → BeginsWith (Thin c r t)
+pointer_begins (shapes.MayBeNull count) r t e =
     record { value = memory.Thin None; first = refl; typed = λ d w by. inl (record { allowed = refl; is = refl }) }
-pointer_begins false r t e = absurd (false≢true e)
+pointer_begins (shapes.NeverNull count) r t e = absurd (false≢true e)
 
 unique_begins : (c : Bool) (t : RunType) → c ≡ true → BeginsWith (Unique c t)
 unique_begins true t e = record { value = memory.Thin None; first = refl; typed = λ d w by. inl (record { allowed = refl; is = refl }) }

@@ -1,12 +1,23 @@
 -- Values keep their types.
-use Rattle.std.proofs.Common.{◌≡◌, ℕ, suc, true, false, inl, inr, Some, List, [], ◌∷◌, ◌∙◌}
+use Rattle.std.proofs.Common.{◌≡◌, ℕ, zero, suc, Bool, sym, subst, arith, true, false, inl, inr, Some, List, [], ◌∷◌, ◌∙◌}
 use Rattle.std.specs.Prelude.{◌*◌, length}
 use Rattle.source_meaning.specs.Memory.{Region, Born, Spot, Scalar, Content, is_moved, beyond}
+use Rattle.source_meaning.specs.Shapes.{count_of, single}
+use Rattle.type_proof.proofs.invariant.Facts.{at_start}
 use Rattle.source_typing.specs.Types as types
 use Rattle.source_typing.specs.Types.{Int, Unsigned, Char, Void, Null, Fat, Unique, Handle, Key, Struct, Union, shape_of}
 use Rattle.type_proof.specs.Flat.{Tables, flat}
-use Rattle.type_proof.proofs.invariant.Invariant.{RunType, Ghost, Owner, Nobody, InCell, Kept, Reached, Private, heap, Laid, AllLaid, Reaches, Member, HasPlain}
+use Rattle.type_proof.proofs.invariant.Invariant.{ReachesOn, RunType, Ghost, Owner, Nobody, InCell, Kept, Reached, Private, heap, Laid, AllLaid, Reaches, Member, HasPlain}
 use Rattle.type_proof.proofs.invariant.Invariant.{HasType, HaveTypes, ContentOk}
+
+-- one object is one element, the first
+pub only_one : (d : Tables) (w : Ghost) (at : Spot) (r : Region) (t : RunType) → Reaches d w at r t → ReachesOn d w 1 at r t
+only_one d w at r t h zero l = subst (λ (s : Spot). Reaches d w s r t) (sym (at_start at (length (flat heap d t)))) h
+only_one d w at r t h (suc i) l = absurd (omega (arith, l))
+
+pub single_one : (b : Bool) (d : Tables) (w : Ghost) (at : Spot) (r : Region) (t : RunType) → Reaches d w at r t → ReachesOn d w (count_of (single b)) at r t
+single_one true d w at r t h = only_one d w at r t h
+single_one false d w at r t h = only_one d w at r t h
 
 -- a value that `by` has comes to `to`
 pub record Carries (w w' : Ghost) (by to : Owner) : Type 0 where
@@ -35,7 +46,12 @@ plain_kept d w w' by to v Char c h = h
 plain_kept d w w' by to v Void c h = h
 plain_kept d w w' by to v Null c h = h
 plain_kept d w w' by to v (types.Thin n r t) c (inl h) = inl h
-plain_kept d w w' by to v (types.Thin n r t) c (inr h) = inr (record { at = h.at; is = h.is; reaches = reaches_kept d w w' by to h.at r t c h.reaches })
+plain_kept d w w' by to v (types.Thin n r t) c (inr h) = inr (record {
+  at = h.at;
+  is = h.is;
+  reaches = reaches_kept d w w' by to h.at r t c h.reaches;
+  elements = λ i x. reaches_kept d w w' by to _ r t c (h.elements i x);
+})
 plain_kept d w w' by to v (Fat r t) c (inl h) = inl h
 plain_kept d w w' by to v (Fat r t) c (inr h) = inr (record { span = h.span; is = h.is; reaches = λ i x. reaches_kept d w w' by to _ r t c (h.reaches i x) })
 plain_kept d w w' by to v (Unique n t) c (inl h) = inl h
@@ -68,7 +84,12 @@ copied_plain d w w' by to v Char c n h = h
 copied_plain d w w' by to v Void c n h = h
 copied_plain d w w' by to v Null c n h = h
 copied_plain d w w' by to v (types.Thin m r t) c n (inl h) = inl h
-copied_plain d w w' by to v (types.Thin m r t) c n (inr h) = inr (record { at = h.at; is = h.is; reaches = grown_reaches d w w' h.at r t c h.reaches })
+copied_plain d w w' by to v (types.Thin m r t) c n (inr h) = inr (record {
+  at = h.at;
+  is = h.is;
+  reaches = grown_reaches d w w' h.at r t c h.reaches;
+  elements = λ i x. grown_reaches d w w' _ r t c (h.elements i x);
+})
 copied_plain d w w' by to v (Fat r t) c n (inl h) = inl h
 copied_plain d w w' by to v (Fat r t) c n (inr h) = inr (record { span = h.span; is = h.is; reaches = λ i x. grown_reaches d w w' _ r t c (h.reaches i x) })
 copied_plain d w w' by to v (Unique m t) c n h = absurd (cc)

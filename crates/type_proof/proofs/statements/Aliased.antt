@@ -2,6 +2,7 @@
 use Rattle.std.proofs.Common.{◌≡◌, ℕ, suc, Bool, true, false, inl, inr, Option, Some, None, List, [], ◌∷◌, refl, sym, ◌∙◌, ap, subst, arith}
 use Rattle.cyc_tree.specs.Tree as tree
 use Rattle.cyc_tree.specs.Tree.{TypeName}
+use Rattle.source_meaning.specs.Shapes.{count_of, single}
 use Rattle.source_meaning.specs.Shapes.{Shape, ThinShape, Shared, Alone, written, settled_by}
 use Rattle.source_meaning.specs.Memory as memory
 use Rattle.source_meaning.specs.Memory.{Region, Frame, Born, Spot, Scalar, Holds, Memory, blank_object}
@@ -51,18 +52,18 @@ use Rattle.type_proof.proofs.statements.Surroundings.{Surrounds, agrees_here, sc
 runs_shared : {B : Type 0} (n : ℕ) (d : Tables) (world : World) (f : NameOf → Region) (w : Ghost) (m : Memory) (o : Owner) (v : Scalar) (c : Bool)
     (t : StaticType) (h : Scalar → Act B) (Q : B → Memory → Type 0)
     → IsObjectType t → HasType d w o v (Unique c (renamed f t)) → Runs n (h v) m Q
-    → Runs n (converted_scalar world (ThinShape c Shared (shape_of t)) (ThinShape c Alone (shape_of t)) v >>= h) m Q
+    → Runs n (converted_scalar world (ThinShape (single c) Shared (shape_of t)) (ThinShape (single c) Alone (shape_of t)) v >>= h) m Q
 runs_shared {B = B} n d world f w m o v c t h Q it typed go = by typed
   where
     act : Scalar → Act B
-    act u = converted_scalar world (ThinShape c Shared (shape_of t)) (ThinShape c Alone (shape_of t)) u >>= h
+    act u = converted_scalar world (ThinShape (single c) Shared (shape_of t)) (ThinShape (single c) Alone (shape_of t)) u >>= h
 
     null : (a : Bool) → a ≡ true → Runs n (h (memory.Thin None)) m Q
-        → Runs n (converted_scalar world (ThinShape a Shared (shape_of t)) (ThinShape a Alone (shape_of t)) (memory.Thin None) >>= h) m Q
+        → Runs n (converted_scalar world (ThinShape (single a) Shared (shape_of t)) (ThinShape (single a) Alone (shape_of t)) (memory.Thin None) >>= h) m Q
     null true e p = record { by = λ next q. p.by next q }
     null false e p = absurd cc
 
-    leads : (a : Bool) (s : Spot) (next : B → Memory → Step) → Safe n (h (memory.Thin (Some s)) next m) → Safe n ((thin_to_thin a (Some s) >>= h) next m)
+    leads : (a : Bool) (s : Spot) (next : B → Memory → Step) → Safe n (h (memory.Thin (Some s)) next m) → Safe n ((thin_to_thin (single a) (count_of (single a)) (Some s) >>= h) next m)
     leads true s next p = p
     leads false s next p = p
 
@@ -71,7 +72,7 @@ runs_shared {B = B} n d world f w m o v c t h Q it typed go = by typed
         (null c z.allowed (subst (λ (u : Scalar). Runs n (h u) m Q) z.is go))
     by (inr z) = subst (λ (u : Scalar). Runs n (act u) m Q) (sym z.is) (record {
       by = λ next q.
-          subst (λ (a : Bool). Safe n ((check a >> thin_to_thin c (Some (record { region = Born z.block; object = 0; cell = 0 })) >>= h) next m))
+          subst (λ (a : Bool). Safe n ((check a >> thin_to_thin (single c) (count_of (single c)) (Some (record { region = Born z.block; object = 0; cell = 0 })) >>= h) next m))
           (sym (shape_itself t it))
           (leads c (record { region = Born z.block; object = 0; cell = 0 }) next ((subst (λ (u : Scalar). Runs n (h u) m Q) z.is go).by next q));
     })
@@ -81,7 +82,7 @@ module _ (n : ℕ) (d : Tables) (world : World) (tables : typing.Tables) (invoke
     (h : Surrounds d world tables g scope f gives) (at : ℕ) (o : AliasOpened g at r of x y)
   where
     abbrev pub t : StaticType
-    t = Thin o.operand.nullable (next_region g) o.operand.to
+    t = Thin (single o.operand.nullable) (next_region g) o.operand.to
 
     abbrev pub source : StaticType
     source = Unique o.operand.nullable o.operand.to
@@ -147,7 +148,7 @@ module _ (n : ℕ) (d : Tables) (world : World) (tables : typing.Tables) (invoke
         h1 = surrounds_alias d world tables g scope f gives (names_with r g) q h
 
     -- the type of the alias in this run
-    run_type : (q : Region) → TypeBelow g.regions.count o.operand.to → Thin o.operand.nullable q (renamed f o.operand.to) ≡ renamed (named_as q) t
+    run_type : (q : Region) → TypeBelow g.regions.count o.operand.to → Thin (single o.operand.nullable) q (renamed f o.operand.to) ≡ renamed (named_as q) t
     run_type q under =
         let e : naming f g.regions.count q (next_region g) ≡ q = naming_itself f g.regions.count q in
         let c : renamed (named_as q) o.operand.to ≡ renamed f o.operand.to =

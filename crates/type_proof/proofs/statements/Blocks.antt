@@ -3,6 +3,7 @@ use Rattle.std.proofs.Common.{◌≡◌, ℕ, Bool, true, false, ◌⊎◌, inl,
 use Rattle.std.specs.Prelude.{length, ◌++◌}
 use Rattle.cyc_tree.specs.Tree as tree
 use Rattle.cyc_tree.specs.Tree.{Expression, Initializer, Statement, BlockItems, NoItems, Declare, Execute, Clauses, NoClauses, MoreClauses, Case, Default}
+use Rattle.source_meaning.specs.Shapes.{single}
 use Rattle.source_meaning.specs.Shapes.{ArrayShape, HandleShape, KeyShape}
 use Rattle.source_meaning.specs.Memory.{Region, Frame, Born, Memory}
 use Rattle.source_meaning.specs.Steps.{Variable, World, Scope, Flow, Act, Falls, Breaks, Continues, Returns, give, take_turn}
@@ -219,7 +220,7 @@ module _ (n : ℕ) (d : Tables) (world : World) (tables : typing.Tables) (invoke
           (subst (λ (e : Env). ItemsJudged e true others) o.scope j.1) fs))
       items_leave (Declare (tree.Alias at r of x y) others) g scope f h j fs =
           let o : AliasOpened g at r of x y = j.0 in
-          let t : StaticType = Thin o.operand.nullable (next_region g) o.operand.to in
+          let t : StaticType = Thin (single o.operand.nullable) (next_region g) o.operand.to in
           let same = o.scope ∙ ap (λ (e : Env). extended e x t) (with_name_is r g) in
           subst (λ (e : Env). Leaves n d gives g scope f b (λ s. declares g e (tree.Alias at r of x y) (λ q. left_by_items e others q) s)
           (block_items (Declare (tree.Alias at r of x y) others) scope)) (sym same)

@@ -2,6 +2,7 @@
 use Rattle.std.proofs.Common.{◌≡◌, ℕ, suc, Bool, true, ◌⊎◌, inl, inr, Option, Some, None, List, [], ◌∷◌, ◌++◌, refl, sym, ◌∙◌, ap, subst, arith}
 use Rattle.std.specs.Prelude.{option_map}
 use Rattle.cyc_tree.specs.Tree as tree
+use Rattle.source_meaning.specs.Shapes.{single}
 use Rattle.source_meaning.specs.Memory as memory
 use Rattle.source_meaning.specs.Memory.{Holds, Region, Born, Spot, Scalar, Memory, with_cell}
 use Rattle.source_meaning.specs.Steps.{Scope, Flow, Falls, Breaks, Continues, Returns, Act}
@@ -153,7 +154,7 @@ module _ (n : ℕ) (d : Tables) (gives : RunType) (g : Env) (scope : Scope) (f :
         → (lending g at x rest s).faults ≡ []
         → ((w1 : Ghost) (m1 : Memory) (r : Region) → Inv d w1 m1 → Grows k b w m w1 m1 → NamesOk (with_name true g.regions)
         (naming f g.regions.count r) (suc k) w1 m1
-        → HasType d w1 (Flying (suc k) 0) v (types.Thin nullable r (renamed f t)) → Standing d g scope f (with_state g.locals x.text Lent s) w1 m1
+        → HasType d w1 (Flying (suc k) 0) v (types.Thin (single nullable) r (renamed f t)) → Standing d g scope f (with_state g.locals x.text Lent s) w1 m1
         → (rest (with_state g.locals x.text Lent s)).faults ≡ []
         → Runs n body m1 (λ flow. After d (suc k) b w1 m1 (λ w' m'. WaysStand d gives g scope f (rest (with_state g.locals x.text Lent s)) flow w' m')))
         → Runs n (meaning.lending own.at v body) m (λ flow. After d k b w m (λ w' m'. WaysStand d gives g scope f (lending g at x rest s) flow w' m'))

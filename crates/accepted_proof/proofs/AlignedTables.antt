@@ -8,7 +8,7 @@ use Rattle.source_typing.proofs.Parts.{each_as}
 use Rattle.source_typing.specs.Declarations.{can_be, converted_to, if_sized, stands_earlier, tag_earlier}
 use Rattle.source_typing.specs.Extents.{fits_bytes, is_named_before, layouts_of, layouts_onto, meant_first, size_by, variable_size}
 use Rattle.source_typing.specs.Functions.{head_of}
-use Rattle.source_typing.specs.Globals.{constant, count_of, fitting_global, foreign_names, global_entry, global_faults, global_type, global_type_by, has_none}
+use Rattle.source_typing.specs.Globals.{string_faults, constant, count_of, fitting_global, foreign_names, global_entry, global_faults, global_type, global_type_by, has_none}
 use Rattle.source_typing.specs.Globals.{initial_faults}
 use Rattle.source_typing.specs.Programs.{Judged, builtins, entries, entries_with, named}
 use Rattle.source_typing.specs.Scope.{Value, at_item}
@@ -225,7 +225,7 @@ module _ (g h : Tables) (k : AreAligned g h) (i : ℕ) where
   initial_same : (c : Initial) (t : Verdict StaticType) → initial_faults (at_item false g i) c t ≡ initial_faults (at_item false h i) c t
   initial_same Initial.Unset t = refl
   initial_same (Initial.Elements n) t = refl
-  initial_same (Initial.Given c) t = ap (λ fs. faults_of (constant c) ++ fs) (converted_same (constant c) t)
+  initial_same (Initial.Given c) t = ap (λ fs. (faults_of (constant c) ++ fs) ++ string_faults c t) (converted_same (constant c) t)
 
   -- a global has the same faults by both
   pub global_faults_same : (x : tree.Global) → global_faults (at_item false g i) x ≡ global_faults (at_item false h i) x

@@ -16,7 +16,7 @@ use Rattle.source_typing.specs.Written.{tag_of, with_arguments, written_on}
 use Rattle.source_typing.proofs.Inversion.{both_none, none_of_both}
 use Rattle.accepted_proof.specs.Good.{NamesBelow}
 use Rattle.accepted_proof.proofs.FoundRegions.{AreAllFound, base_arguments, spots_found}
-use Rattle.accepted_proof.proofs.good.Pointers.{HasUniqueFat, PointedIfSome, struct_pointed, union_pointed}
+use Rattle.accepted_proof.proofs.good.Pointers.{HasRefused, PointedIfSome, struct_pointed, union_pointed}
 use Rattle.accepted_proof.proofs.good.Types.{count_is, union_count_is}
 use Rattle.accepted_proof.proofs.HeadTags.{IsTagged, IsUnjudged, MeansFirst, MemberCan, after_head, asks_fit, member_can, no_bad, pointed_fits, same_fault}
 use Rattle.accepted_proof.proofs.HeadTags.{tagged_pointers, union_asks_fit}
@@ -62,8 +62,8 @@ module _ (n : ℕ) (union : Bool) (g h : Env) (tags : (x : List ℕ) → MeansFi
 
         -- what was judged of such a type
         counted : (b : tree.Base) (m : ℕ) (x : List Found × List Fault)
-            → (x.1 ≡ [] → count_fits b m ≡ true → PointedIfSome (HasUniqueFat t.pointers) true n (whole_shape b) (built b m t.pointers x.0))
-            → IsTagged (whole_shape b) → faults_of (member_after b x (Of m)) ≡ [] → MemberCan union (HasUniqueFat t.pointers) (whole_shape b)
+            → (x.1 ≡ [] → count_fits b m ≡ true → PointedIfSome (HasRefused t.pointers) true n (whole_shape b) (built b m t.pointers x.0))
+            → IsTagged (whole_shape b) → faults_of (member_after b x (Of m)) ≡ [] → MemberCan union (HasRefused t.pointers) (whole_shape b)
         counted b m x k tagged p =
             let none : x.1 ≡ [] = no_bad g union (with_base b) x.0 x.1 (Of m) p in
             by (count_fits b m) refl none
@@ -72,9 +72,9 @@ module _ (n : ℕ) (union : Bool) (g h : Env) (tags : (x : List ℕ) → MeansFi
           where
             by : (c : Bool) → count_fits b m ≡ c → x.1 ≡ []
                 → faults_of (after (after (counted_type (with_base b) x.0 m c) (settled_alone t.at)) (member_fitting g union t.at)) ≡ []
-                → MemberCan union (HasUniqueFat t.pointers) (whole_shape b)
+                → MemberCan union (HasRefused t.pointers) (whole_shape b)
             by true q none p =
-                member_can g t.at n union (HasUniqueFat t.pointers) (whole_shape b) (built b m t.pointers x.0) (k none q) tagged p
+                member_can g t.at n union (HasRefused t.pointers) (whole_shape b) (built b m t.pointers x.0) (k none q) tagged p
             by false q none p = absurd cc
 
         -- a struct's, by what its tag means at the start
@@ -83,20 +83,20 @@ module _ (n : ℕ) (union : Bool) (g h : Env) (tags : (x : List ℕ) → MeansFi
             head_after (tree.Struct x rs) (found h.tables h.names (tree.Struct x rs)) (after v (λ n. Of (length (argument_spots h.tables x rs))))
 
         pointed : (x : tree.Name) (rs : List tree.RegionName) (m : ℕ) → (found h.tables h.names (tree.Struct x rs)).1 ≡ []
-            → MemberCan union (HasUniqueFat t.pointers) (whole_shape (tree.Struct x rs)) → faults_of (tagged x rs (Of m)) ≡ []
+            → MemberCan union (HasRefused t.pointers) (whole_shape (tree.Struct x rs)) → faults_of (tagged x rs (Of m)) ≡ []
         pointed x rs m bad can =
             let c : ℕ = length (argument_spots h.tables x rs) in
             let f : List Found × List Fault = found h.tables h.names (tree.Struct x rs) in
             subst (λ b. faults_of (after (after (unless_faulty f.1 (counted_type (with_base (tree.Struct x rs)) f.0 c b)) (settled_alone t.at))
             (head_fitting union t.at)) ≡ []) (sym (asks_fit h.tables x rs))
-            (pointed_fits t.at n union (HasUniqueFat t.pointers) (whole_shape (tree.Struct x rs)) f.1
+            (pointed_fits t.at n union (HasRefused t.pointers) (whole_shape (tree.Struct x rs)) f.1
             (with_arguments c (Struct x.text) [] t.pointers f.0) can.never bad
             (struct_pointed true n c x.text [] t.pointers f.0 tt
             (spots_found n h.names (argument_spots h.tables x rs) t.pointers below (base_arguments h.tables (tree.Struct x rs)) bad)) can.can)
 
         struct_can : (x : tree.Name) (rs : List tree.RegionName) (m : ℕ) → m ≡ regions_of_tag (tag_in g.tables x.text)
             → faults_of (member_after (tree.Struct x rs) (found g.tables g.names (tree.Struct x rs)) (Of m)) ≡ []
-            → MemberCan union (HasUniqueFat t.pointers) (whole_shape (tree.Struct x rs))
+            → MemberCan union (HasRefused t.pointers) (whole_shape (tree.Struct x rs))
         struct_can x rs m same p =
             let f : List Found × List Fault = found g.tables g.names (tree.Struct x rs) in
             counted (tree.Struct x rs) m f
@@ -151,20 +151,20 @@ module _ (n : ℕ) (union : Bool) (g h : Env) (tags : (x : List ℕ) → MeansFi
             head_after (tree.Union x rs) (found h.tables h.names (tree.Union x rs)) (after v (λ n. Of (length (argument_spots h.tables x rs))))
 
         union_led : (x : tree.Name) (rs : List tree.RegionName) (m : ℕ) → (found h.tables h.names (tree.Union x rs)).1 ≡ []
-            → MemberCan union (HasUniqueFat t.pointers) (whole_shape (tree.Union x rs)) → faults_of (union_tagged x rs (Of m)) ≡ []
+            → MemberCan union (HasRefused t.pointers) (whole_shape (tree.Union x rs)) → faults_of (union_tagged x rs (Of m)) ≡ []
         union_led x rs m bad can =
             let c : ℕ = length (argument_spots h.tables x rs) in
             let f : List Found × List Fault = found h.tables h.names (tree.Union x rs) in
             subst (λ b. faults_of (after (after (unless_faulty f.1 (counted_type (with_base (tree.Union x rs)) f.0 c b)) (settled_alone t.at))
             (head_fitting union t.at)) ≡ []) (sym (union_asks_fit h.tables x rs))
-            (pointed_fits t.at n union (HasUniqueFat t.pointers) (whole_shape (tree.Union x rs)) f.1
+            (pointed_fits t.at n union (HasRefused t.pointers) (whole_shape (tree.Union x rs)) f.1
             (with_arguments c (Union x.text) [] t.pointers f.0) can.never bad
             (union_pointed true n c x.text [] t.pointers f.0 tt
             (spots_found n h.names (argument_spots h.tables x rs) t.pointers below (base_arguments h.tables (tree.Union x rs)) bad)) can.can)
 
         union_can : (x : tree.Name) (rs : List tree.RegionName) (m : ℕ) → m ≡ regions_of_tag (tag_in g.tables x.text)
             → faults_of (member_after (tree.Union x rs) (found g.tables g.names (tree.Union x rs)) (Of m)) ≡ []
-            → MemberCan union (HasUniqueFat t.pointers) (whole_shape (tree.Union x rs))
+            → MemberCan union (HasRefused t.pointers) (whole_shape (tree.Union x rs))
         union_can x rs m same p =
             let f : List Found × List Fault = found g.tables g.names (tree.Union x rs) in
             counted (tree.Union x rs) m f

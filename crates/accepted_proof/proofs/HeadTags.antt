@@ -214,12 +214,12 @@ tagged_pointers [] s h = h
 tagged_pointers (p ∷ ps) s h = tagged_pointers ps (shapes.signed_shape p.sign (shapes.owner_of p.region) s) (by p.sign)
   where
     by : (x : Sign) → IsTagged (shapes.signed_shape x (shapes.owner_of p.region) s)
-    by sign.Nullable = tt
-    by sign.NotNull = tt
+    by (sign.Nullable count) = tt
+    by (sign.NotNull count) = tt
     by sign.Fat = tt
 
 -- what a union may have isn't unique
-alone_fits : (b : Bool) (t : shapes.Shape) (u : StaticType) → shapes.ThinShape b shapes.Alone t ≡ shape_of u → fits_member true u ≡ true → ⊥
+alone_fits : (b : shapes.Reach) (t : shapes.Shape) (u : StaticType) → shapes.ThinShape b shapes.Alone t ≡ shape_of u → fits_member true u ≡ true → ⊥
 alone_fits b t (Unique n v) e f = cc
 alone_fits b t (Thin n q v) e f = cc
 alone_fits b t Null e f = cc

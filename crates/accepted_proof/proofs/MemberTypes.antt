@@ -67,8 +67,8 @@ IsPointerShape (FatShape s) = Unit {0}
 IsPointerShape _ = ⊥
 
 pub sign_pointer : (x : Sign) (o : Owner) (s : Shape) → IsPointerShape (shapes.signed_shape x o s)
-sign_pointer sign.Nullable o s = tt
-sign_pointer sign.NotNull o s = tt
+sign_pointer (sign.Nullable count) o s = tt
+sign_pointer (sign.NotNull count) o s = tt
 sign_pointer sign.Fat o s = tt
 
 pub still_pointer : (ps : List Pointer) (s : Shape) → IsPointerShape s → IsPointerShape (shapes.pointed ps s)

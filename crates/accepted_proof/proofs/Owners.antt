@@ -1,8 +1,10 @@
 -- Which pointers of a type are unique: by its shape as it is written, and by the type that it is judged to be. A missing region is taken from another type.
-use Rattle.std.proofs.Common.{◌≡◌, Bool, true, false, Option, Some, None, List, ℕ, refl, sym, subst, ap, ◌∙◌}
+use Rattle.std.proofs.Common.{nat_eq, ◌≡◌, Bool, true, false, Option, Some, None, List, ℕ, refl, sym, subst, ap, ◌∙◌}
+use Rattle.std.proofs.lemmas.Bool.{eqb-true}
+use Rattle.source_meaning.specs.Shapes.{MayBeNull, NeverNull, Reach, number_of, may_be_null, single}
 use Rattle.source_meaning.specs.Shapes.{Alone, CharShape, FatShape, HandleShape, IntShape, Owner, Shape, Shared, StructShape, ThinShape, UnionShape}
 use Rattle.source_meaning.specs.Shapes.{Unsaid, UnsignedShape, VoidShape, first_owner, settled, settled_by, shared_owner}
-use Rattle.source_typing.specs.Missing.{fat_with, filled_from, or_found, outer_region, pointee_of, thin_with, unique_with}
+use Rattle.source_typing.specs.Missing.{alone_with, fat_with, filled_from, or_found, outer_region, pointee_of, thin_with, unique_with}
 use Rattle.source_typing.specs.Regions.{Region}
 use Rattle.source_typing.specs.Types.{Char, Fat, Handle, Int, Key, Null, PartialType, StaticType, Struct, Thin, Union, Unique, Unsigned, Void, shape_of}
 use Rattle.source_typing.specs.Written.{Found, Is, IsUnique, Missing}
@@ -16,11 +18,11 @@ pub data Writes (left_open : Bool) : Shape → PartialType → Type 0 where
   WritesStruct : {tag : List ℕ} {rs : List (Option Region)} → Writes left_open (StructShape tag) (Struct tag rs)
   WritesUnion : {tag : List ℕ} {rs : List (Option Region)} → Writes left_open (UnionShape tag) (Union tag rs)
   WritesFat : {s : Shape} {r : Option Region} {p : PartialType} → Writes left_open s p → Writes left_open (FatShape s) (Fat r p)
-  WritesOpen : {b : Bool} {s : Shape} {p : PartialType} → left_open ≡ true → Writes left_open s p → Writes left_open (ThinShape b Unsaid s) (Thin b None p)
-  WritesFresh : {b : Bool} {s : Shape} {r : Region} {p : PartialType} → left_open ≡ false → Writes left_open s p
+  WritesOpen : {b : Reach} {s : Shape} {p : PartialType} → left_open ≡ true → Writes left_open s p → Writes left_open (ThinShape b Unsaid s) (Thin b None p)
+  WritesFresh : {b : Reach} {s : Shape} {r : Region} {p : PartialType} → left_open ≡ false → Writes left_open s p
       → Writes left_open (ThinShape b Unsaid s) (Thin b (Some r) p)
-  WritesShared : {b : Bool} {s : Shape} {r : Region} {p : PartialType} → Writes left_open s p → Writes left_open (ThinShape b Shared s) (Thin b (Some r) p)
-  WritesAlone : {b : Bool} {s : Shape} {p : PartialType} → Writes left_open s p → Writes left_open (ThinShape b Alone s) (Unique b p)
+  WritesShared : {b : Reach} {s : Shape} {r : Region} {p : PartialType} → Writes left_open s p → Writes left_open (ThinShape b Shared s) (Thin b (Some r) p)
+  WritesAlone : {b : Bool} {s : Shape} {p : PartialType} → Writes left_open s p → Writes left_open (ThinShape (single b) Alone s) (Unique b p)
 
 -- ---- shapes of types with what is missing from another one
 
@@ -50,7 +52,7 @@ first_shared Unsaid = refl
 first_shared Shared = refl
 first_shared Alone = refl
 
-thin_settled : (b : Bool) (o : Owner) (s : Shape) (u : Option StaticType)
+thin_settled : (b : Reach) (o : Owner) (s : Shape) (u : Option StaticType)
     → settled_from (ThinShape b o s) u ≡ ThinShape b (owner_with o (outer_region u)) (settled_from s (pointee_of u))
 thin_settled b o s u = by u
   where
@@ -105,16 +107,26 @@ FitsOwner o (Is r) = o ≡ Shared
 FitsOwner o IsUnique = o ≡ Alone
 FitsOwner o Missing = o ≡ Shared
 
-same_thin : (b : Bool) (o q : Owner) (s z : Shape) → o ≡ q → s ≡ z → ThinShape b o s ≡ ThinShape b q z
+same_thin : (b : Reach) (o q : Owner) (s z : Shape) → o ≡ q → s ≡ z → ThinShape b o s ≡ ThinShape b q z
 same_thin b o q s z e f = ap (λ x. ThinShape b x s) e ∙ ap (λ x. ThinShape b q x) f
 
-thin_shaped : (b : Bool) (o : Owner) (s : Shape) (f : Found) (t : Option StaticType) → FitsOwner o f → ShapedIfSome s t
+-- a bound of one element is the one without a number
+pub one_element : (b : Reach) → nat_eq (number_of b) 1 ≡ true → b ≡ single (may_be_null b)
+one_element (MayBeNull k) e = ap MayBeNull (eqb-true k 1 e)
+one_element (NeverNull k) e = ap NeverNull (eqb-true k 1 e)
+
+alone_shaped : (b : Reach) (o : Owner) (s : Shape) (t : StaticType) (one : Bool) → nat_eq (number_of b) 1 ≡ one → o ≡ Alone → s ≡ shape_of t
+    → ShapedIfSome (ThinShape b o s) (alone_with one b t)
+alone_shaped b o s t true one e h = same_thin b o Alone s (shape_of t) e h ∙ ap (λ x. ThinShape x Alone (shape_of t)) (one_element b one)
+alone_shaped b o s t false one e h = tt
+
+thin_shaped : (b : Reach) (o : Owner) (s : Shape) (f : Found) (t : Option StaticType) → FitsOwner o f → ShapedIfSome s t
     → ShapedIfSome (ThinShape b o s) (thin_with b f t)
 thin_shaped b o s (Is r) None e h = tt
 thin_shaped b o s IsUnique None e h = tt
 thin_shaped b o s Missing None e h = tt
 thin_shaped b o s (Is r) (Some t) e h = same_thin b o Shared s (shape_of t) e h
-thin_shaped b o s IsUnique (Some t) e h = same_thin b o Alone s (shape_of t) e h
+thin_shaped b o s IsUnique (Some t) e h = alone_shaped b o s t (nat_eq (number_of b) 1) refl e h
 thin_shaped b o s Missing (Some t) e h = same_thin b o Shared s (shape_of t) e h
 
 fat_shaped : (s : Shape) (f : Found) (t : Option StaticType) → ShapedIfSome s t → ShapedIfSome (FatShape s) (fat_with f t)
@@ -125,9 +137,9 @@ fat_shaped s (Is r) (Some t) h = ap (λ z. FatShape z) h
 fat_shaped s IsUnique (Some t) h = tt
 fat_shaped s Missing (Some t) h = ap (λ z. FatShape z) h
 
-unique_shaped : (b : Bool) (o : Owner) (s : Shape) (t : Option StaticType) → o ≡ Alone → ShapedIfSome s t → ShapedIfSome (ThinShape b o s) (unique_with b t)
+unique_shaped : (b : Bool) (o : Owner) (s : Shape) (t : Option StaticType) → o ≡ Alone → ShapedIfSome s t → ShapedIfSome (ThinShape (single b) o s) (unique_with b t)
 unique_shaped b o s None e h = tt
-unique_shaped b o s (Some t) e h = same_thin b o Alone s (shape_of t) e h
+unique_shaped b o s (Some t) e h = same_thin (single b) o Alone s (shape_of t) e h
 
 open_fits : (f : Found) → FitsOwner (owner_with Unsaid f) f
 open_fits (Is r) = refl
@@ -170,7 +182,7 @@ filled_shaped u k (WritesShared {b = b} {s = s} {r = r} {p = p} w) =
     (thin_shaped b (owner_with Shared (outer_region u)) (settled_from s (pointee_of u)) (Is r) (filled_from p (pointee_of u))
     (shared_fits (outer_region u)) (filled_shaped (pointee_of u) (λ q. ap (λ z. pointee_of z) (k q)) w))
 filled_shaped u k (WritesAlone {b = b} {s = s} {p = p} w) =
-    subst (λ z. ShapedIfSome z (unique_with b (filled_from p (pointee_of u)))) (sym (thin_settled b Alone s u))
+    subst (λ z. ShapedIfSome z (unique_with b (filled_from p (pointee_of u)))) (sym (thin_settled (single b) Alone s u))
     (unique_shaped b (owner_with Alone (outer_region u)) (settled_from s (pointee_of u)) (filled_from p (pointee_of u)) (alone_fits (outer_region u))
     (filled_shaped (pointee_of u) (λ q. ap (λ z. pointee_of z) (k q)) w))
 

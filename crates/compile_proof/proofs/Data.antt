@@ -1,13 +1,14 @@
 -- The data of a program that is taken are numbers, NULL and pointers to strings, each in a word or byte, one behind the other; structs, fat pointers that are
 -- NULL and arrays begin with nothing but zeros.
-use Rattle.std.proofs.Common.{◌≡◌, ℕ, zero, suc, ◌+◌, ◌%◌, ◌^◌, ◌<◌, ◌≤◌, Bool, Option, Some, None, List, [], ◌∷◌, ◌++◌, map, inl, inr, refl, sym, ap}
+use Rattle.std.proofs.Common.{◌≡◌, ℕ, zero, suc, ◌+◌, ◌%◌, ◌^◌, ◌<◌, ◌≤◌, Bool, true, false, Option, Some, None, nat_eq, List, [], ◌∷◌, ◌++◌, map, inl, inr, refl, sym, ap}
 use Rattle.std.proofs.Common.{subst, arith}
-use Rattle.std.specs.Prelude.{slice_get, length, unwrap_or}
+use Rattle.std.specs.Prelude.{slice_get, length, unwrap_or, if◌then◌else◌, option_map}
 use Rattle.std.proofs.lemmas.Option.{same_Some, none-some}
 use Rattle.cyc_tree.specs.Tree as tree
 use Rattle.cyc_tree.specs.Tree.{Initial, Item}
 use Rattle.source_meaning.specs.Shapes.{
   Owner,
+  Reach,
   Shape,
   IntShape,
   UnsignedShape,
@@ -23,8 +24,8 @@ use Rattle.source_meaning.specs.Shapes.{
   settled,
 }
 use Rattle.source_meaning.specs.Steps.{World}
-use Rattle.source_meaning.specs.Memory.{Scalar, Wide}
-use Rattle.source_meaning.specs.Places.{span_at, string_at}
+use Rattle.source_meaning.specs.Memory.{Scalar, Span, Wide}
+use Rattle.source_meaning.specs.Places.{literal_string, own_string, string_at}
 use Rattle.source_meaning.specs.Strings.{Literal, program_strings}
 use Rattle.source_meaning.specs.Programs.{global_shape, heap_spot, world_of}
 use Rattle.rv32_machine.specs.State.{data_base}
@@ -56,7 +57,7 @@ constant_plain os w (tree.Negative at value suffix) s i h e = subst (λ z. z < 2
 constant_plain os w (tree.Character at byte) s i h e = subst (λ z. z < 2 ^ 32) (sym e) (omega arith)
 constant_plain os w (tree.Text at bytes) s i h e = absurd (no_string s i h)
   where
-    no_string : (z : Shape) → IsIntegerShape z → IsString z → ⊥
+    no_string : (z : Shape) → IsIntegerShape z → IsString bytes z → ⊥
     no_string IntShape g k = k
     no_string UnsignedShape g k = k
     no_string CharShape g k = k
@@ -98,16 +99,27 @@ module _ (os : List ℕ) (near : AreNear os) (ss : List (ℕ × Scalar)) (lie : 
   pointer_near : (k : ℕ) → data_base + nth os k + 0 < 2 ^ 32
   pointer_near k = let h = near k in omega (arith, h)
 
-  text_plain : (at part : ℕ) → IsPlain os 4 (text_content (string_at ss at) part)
-  text_plain at part = by (string_at ss at) refl
+  text_plain : (at : ℕ) (bytes : List ℕ) (part : ℕ) → IsPlain os 4 (text_content (literal_string ss at bytes) part)
+  text_plain at bytes part = by (string_at ss at) refl
     where
-      of_span : (number count : ℕ) → number < length os → count < 2 ^ 32 → (j : ℕ)
-          → IsPlain os 4 (text_content (Some (span_at count (heap_spot number))) j)
-      of_span number count there few zero = record { wide = refl; heap = refl; has = there; small = pointer_near number }
-      of_span number count there few (suc zero) = few
-      of_span number count there few (suc (suc j)) = omega arith
+      own : Option Scalar → Option Scalar
+      own found = option_map (own_string (length bytes + 1)) found
 
-      by : (found : Option Scalar) → string_at ss at ≡ found → IsPlain os 4 (text_content found part)
+      span : (number count : ℕ) → Span
+      span number count = record { first = heap_spot number; count = count; index = 0 }
+
+      null : (j : ℕ) → IsPlain os 4 (text_content (Some (Wide None)) j)
+      null zero = tt
+      null (suc j) = omega arith
+
+      of_span : (number count : ℕ) → number < length os → count < 2 ^ 32 → (same : Bool) (j : ℕ)
+          → IsPlain os 4 (text_content (Some (Wide (if same then Some (span number count) else None))) j)
+      of_span number count there few false j = null j
+      of_span number count there few true zero = record { wide = refl; heap = refl; has = there; small = pointer_near number }
+      of_span number count there few true (suc zero) = few
+      of_span number count there few true (suc (suc j)) = omega arith
+
+      by : (found : Option Scalar) → string_at ss at ≡ found → IsPlain os 4 (text_content (own found) part)
       by None e = none part
         where
           none : (j : ℕ) → IsPlain os 4 (text_content None j)
@@ -115,7 +127,8 @@ module _ (os : List ℕ) (near : AreNear os) (ss : List (ℕ × Scalar)) (lie : 
           none (suc j) = omega arith
       by (Some v) e =
           let text = string_found (λ z. IsTextIn (length os) z) ss at v lie e in
-          subst (λ z. IsPlain os 4 (text_content (Some z) part)) (sym text.value) (of_span text.number text.count text.there text.few part)
+          subst (λ z. IsPlain os 4 (text_content (own (Some z)) part)) (sym text.value)
+          (of_span text.number text.count text.there text.few (nat_eq text.count (length bytes + 1)) part)
 
 -- the parts of a fat pointer are words
 fat_wide : (w : World) (to : Shape) (cell part : ℕ) (s : PartShape) → HasPart (layout_of w (FatShape to)) cell part s → s.width ≡ 4
@@ -170,21 +183,21 @@ begun_plain os w s plain variable =
 
 module _ (os : List ℕ) (near : AreNear os) (w : World) (lie : TextsLie (length os) w.strings) (plain : IsPlainWorld w) where
   -- a pointer is NULL or a string at first
-  given_plain : (c : tree.Constant) (b : Bool) (o : Owner) (to : Shape) → TakesConstant (ThinShape b o to) c
+  given_plain : (c : tree.Constant) (b : Reach) (o : Owner) (to : Shape) → TakesConstant (ThinShape b o to) c
       → IsPlain os 4 (constant_content w c (ThinShape b o to))
   given_plain (tree.Number at value suffix) b o to h = absurd h
   given_plain (tree.Negative at value suffix) b o to h = absurd h
   given_plain (tree.Character at byte) b o to h = absurd h
-  given_plain (tree.Text at bytes) b o to h = text_plain os near w.strings lie at 0
+  given_plain (tree.Text at bytes) b o to h = text_plain os near w.strings lie at bytes 0
   given_plain (tree.Null at) b o to h = tt
 
-  pointer_plain : (i : Initial) (b : Bool) (o : Owner) (to : Shape) → TakesGlobal (ThinShape b o to) i → IsPlain os 4 (initial_content w i (ThinShape b o to))
+  pointer_plain : (i : Initial) (b : Reach) (o : Owner) (to : Shape) → TakesGlobal (ThinShape b o to) i → IsPlain os 4 (initial_content w i (ThinShape b o to))
   pointer_plain Initial.Unset b o to h = tt
   pointer_plain (Initial.Elements count) b o to h = tt
   pointer_plain (Initial.Given c) b o to h = given_plain c b o to h
 
   fat_plain : (i : Initial) (to : Shape) → IsObject w.unions w.structs (FatShape to) → IsPlainDatum os (global_datum w i (FatShape to))
-  fat_plain (Initial.Given (tree.Text at bytes)) to h = given (string_at w.strings at) (λ part. text_plain os near w.strings lie at part)
+  fat_plain (Initial.Given (tree.Text at bytes)) to h = given (literal_string w.strings at bytes) (λ part. text_plain os near w.strings lie at bytes part)
     where
       given : (found : Option Scalar) → ((part : ℕ) → IsPlain os 4 (text_content found part)) → IsPlainDatum os (text_datum w (FatShape to) found)
       given (Some (Wide (Some span))) g =
@@ -206,8 +219,8 @@ module _ (os : List ℕ) (near : AreNear os) (w : World) (lie : TextsLie (length
   object_plain i IntShape h t = one_part_plain os 4 (Word 0) (global_datum w i IntShape) (inr refl) refl (λ cell. word_plain os w i t)
   object_plain i UnsignedShape h t = one_part_plain os 4 (Word 0) (global_datum w i UnsignedShape) (inr refl) refl (λ cell. unsigned_plain os w i t)
   object_plain i CharShape h t = one_part_plain os 1 (Word 0) (global_datum w i CharShape) (inl refl) refl (λ cell. byte_plain os w i t)
-  object_plain i (ThinShape may_be_null owner to) h t =
-      one_part_plain os 4 Null (global_datum w i (ThinShape may_be_null owner to)) (inr refl) refl (λ cell. pointer_plain i may_be_null owner to t)
+  object_plain i (ThinShape bound owner to) h t =
+      one_part_plain os 4 Null (global_datum w i (ThinShape bound owner to)) (inr refl) refl (λ cell. pointer_plain i bound owner to t)
   object_plain i (StructShape tag) h t = begun_plain os w (StructShape tag) plain h
   object_plain i (FatShape to) h t = fat_plain i to h
   object_plain i HandleShape h t = absurd (no_handle i t)

@@ -24,7 +24,7 @@ use Rattle.source_meaning.specs.Shapes.{
 }
 use Rattle.source_meaning.specs.Sizes.{rounded_up}
 use Rattle.source_meaning.specs.Memory.{Scalar, Wide}
-use Rattle.source_meaning.specs.Places.{string_at}
+use Rattle.source_meaning.specs.Places.{literal_string}
 use Rattle.source_meaning.specs.Programs.{global_shape, world_of}
 use Rattle.source_meaning.specs.Steps.{World}
 use Rattle.source_meaning.specs.Strings.{Literal, item_strings, program_strings}
@@ -115,7 +115,7 @@ datum_bytes w i (ThinShape may_be_null owner to) = omega arith
 datum_bytes w i (FatShape to) = by i
   where
     by : (initial : Initial) → bytes_of (datum_local (global_datum w initial (FatShape to))) ≡ 12
-    by (Initial.Given (tree.Text at bytes)) = given (string_at w.strings at)
+    by (Initial.Given (tree.Text at bytes)) = given (literal_string w.strings at bytes)
       where
         given : (found : Option Scalar) → bytes_of (datum_local (text_datum w (FatShape to) found)) ≡ 12
         given (Some (Wide (Some span))) = omega arith

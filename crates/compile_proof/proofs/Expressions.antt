@@ -3,7 +3,7 @@
 use Rattle.std.proofs.Common.{ℕ, suc, ◌+◌, ◌≤◌, Bool, false, List, [], ◌∷◌, length, arith, length-append, ap}
 use Rattle.cyc_tree.specs.Tree.{Expression, Expressions, NoExpressions, MoreExpressions, Links, NoLinks, MoreLinks, Suffixes, NoSuffixes, Index, Dot, Arrow}
 use Rattle.cyc_tree.specs.Tree.{Made, One, Array}
-use Rattle.source_meaning.specs.Shapes.{Shape, Part, part_shape, part_shapes, parts_of, pointee}
+use Rattle.source_meaning.specs.Shapes.{Shape, Part, part_shape, part_shapes, parts_of}
 use Rattle.source_meaning.specs.Sizes.{rounded_up}
 use Rattle.source_meaning.specs.Steps.{World}
 use Rattle.source_meaning.specs.Operators.{operator_shape}
@@ -206,8 +206,8 @@ module _ (blocks : List ℕ) (own n : ℕ) (w : World) (plain : IsPlainWorld w) 
         let first = next + length (suffix_values w names others) in
         let many = length-append (suffix_values w names others) (expression_values w names index) in
         let code : ℕ → List Statement = λ d. expression_code w names index d first in
-        suffixes_names names around others (element_at w (pointee s) code value) next takes.1.1.1 (omega (arith, f, many))
-        (element_left blocks own n w plain (pointee s) code value takes.1.1.0
+        suffixes_names names around others (element_at w s code value) next takes.1.1.1 (omega (arith, f, many))
+        (element_left blocks own n w plain s code value takes.1.1.0
         (λ d. expression_names names around index d first takes.1.0 (omega (arith, f, many))) (v takes.0))
     primary_names names around (Dot field others) s value pointer primary next takes f t v p =
         suffixes_names names around others (member_at w s pointer 0 0 field.text) next takes.1.1 f
@@ -227,8 +227,8 @@ module _ (blocks : List ℕ) (own n : ℕ) (w : World) (plain : IsPlainWorld w) 
         let first = next + length (suffix_values w names others) in
         let many = length-append (suffix_values w names others) (expression_values w names index) in
         let code : ℕ → List Statement = λ d. expression_code w names index d first in
-        suffixes_names names around others (element_at w (pointee left.shape) code left.value) next takes.1.1.1 (omega (arith, f, many))
-        (element_left blocks own n w plain (pointee left.shape) code left.value takes.1.1.0
+        suffixes_names names around others (element_at w left.shape code left.value) next takes.1.1.1 (omega (arith, f, many))
+        (element_left blocks own n w plain left.shape code left.value takes.1.1.0
         (λ d. expression_names names around index d first takes.1.0 (omega (arith, f, many))) h.value)
     suffixes_names names around (Dot field others) left next takes f h =
         suffixes_names names around others (member_at w left.shape left.pointer left.cells left.bytes field.text) next takes.1 f

@@ -1,19 +1,19 @@
 -- The code of an expression's own part names locals of the blocks around it and globals, where its names and the program's globals lie there.
-use Rattle.std.proofs.Common.{ℕ, ◌+◌, ◌<◌, List, [], ◌∷◌, ◌++◌, Bool, true, false, Option, Some, None}
+use Rattle.std.proofs.Common.{ℕ, ◌+◌, ◌%◌, ◌^◌, ◌<◌, List, [], ◌∷◌, ◌++◌, Bool, true, false, Option, Some, None}
 use Rattle.std.specs.Prelude.{bytes_eq, codes, if◌then◌else◌}
-use Rattle.cyc_words.specs.declared.faults.Kind.TheVariants.{ArrayBounds}
 use Rattle.cyc_tree.specs.declared.expression.Operator.{Operator}
 use Rattle.cyc_tree.specs.declared.expression.Prefix.{Prefix}
 use Rattle.cyc_tree.specs.declared.expression.Prefix.TheVariants as prefix
 use Rattle.cyc_tree.specs.declared.expression.Operator.TheVariants as operator
-use Rattle.source_meaning.specs.Shapes.{Shape, IntShape, CharShape, ThinShape, FatShape, ArrayShape, pointee}
+use Rattle.source_meaning.specs.Shapes.{Reach, MayBeNull, NeverNull, Shape, IntShape, CharShape, ThinShape, FatShape, ArrayShape, pointee}
 use Rattle.source_meaning.specs.Memory.{IntegerType}
 use Rattle.source_meaning.specs.Steps.{Entity, Variable, Fixed, Binding, World, Routine}
 use Rattle.source_meaning.specs.Places.{bound_to}
 use Rattle.source_meaning.specs.Calls.{function_of}
-use Rattle.core_meaning.specs.Core.{Operation, LessUnsigned, Apply, Statement, Do, IsNull, SamePlace, Getchar, Putchar}
+use Rattle.core_meaning.specs.Core.{Operation, Statement, Do, IsNull, SamePlace, Getchar, Putchar}
 use Rattle.core_lines.specs.Selectable.{IsLocal}
-use Rattle.source_lowering.specs.Members.{words_in, raised, reached_code}
+use Rattle.source_lowering.specs.Members.{null_check, words_in}
+use Rattle.source_lowering.specs.Operators.{enough_code}
 use Rattle.source_lowering.specs.Lowered.{Named, local_named, number_of, get_local, load_global, stored_code, get_by, put_by, address_by, reach_code}
 use Rattle.source_lowering.specs.Lowered.{loads_code, narrow_code, to_fat_code, to_thin_code, thinned_code, conversion_code, type_of, applied_to}
 use Rattle.source_lowering.specs.Lowered.{compared_code, fat_code, operator_code, count_code, word_code, not_code, prefix_code, pointed_code, function_call}
@@ -23,7 +23,7 @@ use Rattle.source_lowering.proofs.expressions.Names.{AreObjectNames, IsPlainWorl
 use Rattle.compile_proof.specs.Naming.{NamesIn, CodeNames}
 use Rattle.compile_proof.proofs.Naming.{both_name, all_name}
 use Rattle.compile_proof.proofs.Texts.{TextsLie}
-use Rattle.compile_proof.proofs.Pointers.{loads_names, stores_names, check_names, bounds_names, reached_names, element_names, reach_names}
+use Rattle.compile_proof.proofs.Pointers.{loads_names, stores_names, check_names, bounds_names, enough_names, reach_names}
 
 -- ---- names in scope
 
@@ -127,25 +127,27 @@ module _ (blocks : List ℕ) (own n : ℕ) where
   narrow_names _ d = (tt, tt)
 
   to_fat_names : (from : Shape) (d : ℕ) → CodeNames blocks own n (to_fat_code from d)
-  to_fat_names (ThinShape false owner to) d = bounds_names blocks own n d 1
-  to_fat_names (ThinShape true owner to) d = (tt, (tt, (tt, (tt, tt))))
+  to_fat_names (ThinShape (NeverNull count) owner to) d = bounds_names blocks own n d (count % 2 ^ 32)
+  to_fat_names (ThinShape (MayBeNull count) owner to) d = (((tt, tt), (tt, tt)), (tt, tt))
   to_fat_names _ d = tt
 
   module _ (w : World) (plain : IsPlainWorld w) where
-    to_thin_names : (may_be_null : Bool) (to : Shape) (d : ℕ) → IsTarget to → CodeNames blocks own n (to_thin_code w may_be_null to d)
-    to_thin_names false to d h = element_names blocks own n w plain to d d h
-    to_thin_names true to d h =
-        let code : List Statement = Do (Apply LessUnsigned (d + 1) (d + 2) (d + 1)) ∷ reached_code w to d d (raised ArrayBounds) in
-        ((all_name blocks own n code (tt, reached_names blocks own n w plain to d d (raised ArrayBounds) h (tt, tt)), tt), tt)
+    to_thin_names : (bound : Reach) (to : Shape) (d : ℕ) → IsTarget to → CodeNames blocks own n (to_thin_code w bound to d)
+    to_thin_names (NeverNull count) to d h =
+        both_name blocks own n (null_check d) (enough_code w (count % 2 ^ 32) to d) ((tt, (tt, tt)), tt)
+        (enough_names blocks own n w plain (count % 2 ^ 32) to d h)
+    to_thin_names (MayBeNull count) to d h =
+        let code : List Statement = enough_code w (count % 2 ^ 32) to d in
+        ((all_name blocks own n code (enough_names blocks own n w plain (count % 2 ^ 32) to d h), tt), tt)
 
-    thinned_names : (may_be_null : Bool) (to from : Shape) (d : ℕ) → IsTarget to → CodeNames blocks own n (thinned_code w may_be_null to from d)
-    thinned_names may_be_null to (FatShape of) d h = to_thin_names may_be_null to d h
-    thinned_names false to from d h = check_names blocks own n from d
-    thinned_names true to from d h = tt
+    thinned_names : (bound : Reach) (to from : Shape) (d : ℕ) → IsTarget to → CodeNames blocks own n (thinned_code w bound to from d)
+    thinned_names bound to (FatShape of) d h = to_thin_names bound to d h
+    thinned_names (NeverNull count) to from d h = check_names blocks own n from d
+    thinned_names (MayBeNull count) to from d h = tt
 
     pub conversion_names : (to from : Shape) (d : ℕ) → IsTarget to → CodeNames blocks own n (conversion_code w to from d)
     conversion_names CharShape from d h = narrow_names from d
-    conversion_names (ThinShape may_be_null owner to) from d h = thinned_names may_be_null to from d h
+    conversion_names (ThinShape bound owner to) from d h = thinned_names bound to from d h
     conversion_names (FatShape to) from d h = to_fat_names from d
     conversion_names _ from d h = tt
 

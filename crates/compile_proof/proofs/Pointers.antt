@@ -1,8 +1,11 @@
 -- The code of values of one word and of three, of fat pointers, and of members of structs and unions and of elements names temporaries alone; an element has no
 -- more bytes than a word says.
-use Rattle.std.proofs.Common.{ℕ, zero, suc, ◌+◌, List, [], ◌∷◌, ◌++◌, length, true, false}
+use Rattle.std.proofs.Common.{ℕ, zero, suc, ◌+◌, List, [], ◌∷◌, ◌++◌, length}
 use Rattle.cyc_words.specs.declared.faults.Kind.TheVariants.{NullException, ArrayBounds}
 use Rattle.source_meaning.specs.Shapes.{
+  Reach,
+  MayBeNull,
+  NeverNull,
   Shape,
   IntShape,
   UnsignedShape,
@@ -35,7 +38,8 @@ use Rattle.source_lowering.specs.Lowered.{
   pointer_to,
   store_to,
 }
-use Rattle.source_lowering.specs.Members.{all_of, bounds_code, raised, reached_code, element_code, index_code, words_in}
+use Rattle.source_lowering.specs.Members.{all_of, bound_code, bounds_code, raised, reached_code, element_code, subscript_code, words_in}
+use Rattle.source_lowering.specs.Operators.{enough_code}
 use Rattle.source_lowering.specs.Layouts.{cell_pieces}
 use Rattle.source_lowering.specs.Programs.{value_exchange, words_read, words_written, exchange_code}
 use Rattle.source_lowering.specs.Lowerable.{IsTarget, IsObject}
@@ -64,8 +68,8 @@ module _ (blocks : List ℕ) (own n : ℕ) where
   given_names _ p d = (tt, tt)
 
   pub check_names : (s : Shape) (d : ℕ) → CodeNames blocks own n (check_code s d)
-  check_names (ThinShape true owner to) d = ((tt, (tt, tt)), tt)
-  check_names (ThinShape false owner to) d = tt
+  check_names (ThinShape (MayBeNull count) owner to) d = ((tt, (tt, tt)), tt)
+  check_names (ThinShape (NeverNull count) owner to) d = tt
   check_names IntShape d = tt
   check_names UnsignedShape d = tt
   check_names CharShape d = tt
@@ -130,6 +134,19 @@ module _ (blocks : List ℕ) (own n : ℕ) where
     reach_names (FatShape to) d h = element_names to d d h
     reach_names s d h = check_names s d
 
+    -- a subscript, by the shape of what it is of
+    bound_names : (bound : Reach) (to : Shape) (d : ℕ) → IsTarget to → CodeNames blocks own n (bound_code w bound to d)
+    bound_names bound to d h = (tt, (tt, ((tt, (tt, tt)), (target_small w to plain h, tt))))
+
+    subscript_names : (s : Shape) (d : ℕ) → IsTarget (pointee s) → CodeNames blocks own n (subscript_code w s d)
+    subscript_names (ThinShape bound owner to) d h =
+        both_name blocks own n _ _ (check_names (ThinShape bound owner to) (d + 1)) (bound_names bound to d h)
+    subscript_names s d h = (tt, element_names (pointee s) d (d + 1) h)
+
+    -- so many elements of a fat pointer are there
+    pub enough_names : (count : ℕ) (to : Shape) (d : ℕ) → IsTarget to → CodeNames blocks own n (enough_code w count to d)
+    enough_names count to d h = (tt, ((tt, (tt, tt)), (tt, (tt, (tt, (((tt, tt), tt), (target_small w to plain h, tt)))))))
+
     -- ---- members
 
     -- what stands on the left of suffixes, wherever it comes
@@ -153,21 +170,19 @@ module _ (blocks : List ℕ) (own n : ℕ) where
         member_left (pointee left.shape) (λ d. left.value d ++ reach_code w left.shape d) 0 0 f object
         (λ d. both_name blocks own n _ _ (value d) (reach_names left.shape d target))
 
-    pub element_left : (to : Shape) (index value : ℕ → List Statement) → IsObject w.unions w.structs to → ((d : ℕ) → CodeNames blocks own n (index d))
-        → ((d : ℕ) → CodeNames blocks own n (value d)) → LeftNames (element_at w to index value)
-    element_left to index value object indexed valued = record {
-      value = λ d. both_name blocks own n _ _ (pointer d) (loads_names to d 0 0);
+    pub element_left : (from : Shape) (index value : ℕ → List Statement) → IsObject w.unions w.structs (pointee from)
+        → ((d : ℕ) → CodeNames blocks own n (index d)) → ((d : ℕ) → CodeNames blocks own n (value d)) → LeftNames (element_at w from index value)
+    element_left from index value object indexed valued = record {
+      value = λ d. both_name blocks own n _ _ (pointer d) (loads_names (pointee from) d 0 0);
       pointer = pointer;
       target = target;
     }
       where
-        target : IsTarget to
-        target = object_target w.unions w.structs to object
+        target : IsTarget (pointee from)
+        target = object_target w.unions w.structs (pointee from) object
 
-        pointer : (d : ℕ) → CodeNames blocks own n (index d ++ (value (d + 1) ++ index_code w to d))
-        pointer d =
-            both_name blocks own n _ _ (indexed d)
-            (both_name blocks own n _ _ (valued (d + 1)) (tt, element_names to d (d + 1) target))
+        pointer : (d : ℕ) → CodeNames blocks own n (index d ++ (value (d + 1) ++ subscript_code w from d))
+        pointer d = both_name blocks own n _ _ (indexed d) (both_name blocks own n _ _ (valued (d + 1)) (subscript_names from d target))
 
     -- a pointer to what suffixes lead to
     pub pointed_left : (left : Left) (d : ℕ) → LeftNames left → CodeNames blocks own n (pointer_to left d)

@@ -1,13 +1,16 @@
 -- The globals' constants are stored before `main` is entered; Core's data have them from the start.
-use Rattle.std.proofs.Common.{◌≡◌, inl, inr, ⊎_elim, ◌⊎◌, Option, Some, None, ℕ, suc, ◌+◌, ◌-◌, ◌%◌, ◌^◌, ◌<◌, List, [], ◌∷◌, true, false, refl, sym, ap}
-use Rattle.std.proofs.Common.{◌∙◌, subst, arith}
-use Rattle.std.specs.Prelude.{nat_lt}
+use Rattle.std.proofs.Common.{◌≡◌, inl, inr, ⊎_elim, ◌⊎◌, Option, Some, None, ℕ, suc, ◌+◌, ◌-◌, ◌%◌, ◌^◌, ◌<◌, ◌≤◌, List, [], ◌∷◌, refl, sym, ap}
+use Rattle.std.proofs.Common.{Bool, true, false, ◌∙◌, subst, arith}
+use Rattle.std.specs.Prelude.{length, nat_eq, nat_le, nat_lt, if◌then◌else◌, option_map}
+use Rattle.std.proofs.lemmas.Bool.{eqb-true, le-leb}
 use Rattle.std.proofs.lemmas.Bool.Decides.{nat_tests}
 use Rattle.cyc_words.specs.Events.{SourceEnding}
 use Rattle.step_trees.specs.Trees.{Stops}
 use Rattle.cyc_tree.specs.Tree as tree
 use Rattle.cyc_tree.specs.Tree.{Initial, Item, Constant}
 use Rattle.source_meaning.specs.Shapes.{
+  MayBeNull,
+  NeverNull,
   Owner,
   Shared,
   Alone,
@@ -33,7 +36,7 @@ use Rattle.source_meaning.specs.Steps as steps
 use Rattle.source_meaning.specs.Steps.{World, need}
 use Rattle.source_meaning.specs.Conversions.{converted}
 use Rattle.source_meaning.specs.Values.{write_cells}
-use Rattle.source_meaning.specs.Places.{span_at, string_at}
+use Rattle.source_meaning.specs.Places.{literal_string, own_string, span_at, string_at}
 use Rattle.source_meaning.specs.Calls.{number_type}
 use Rattle.source_meaning.specs.Programs.{constant_value, constant_shape, integer_shape, global_shape, global_stored, globals_stored, globals_from, heap_spot}
 use Rattle.core_meaning.specs.Memory as core
@@ -66,11 +69,14 @@ abbrev text_contents : Option Scalar → Shape → List core.Content
 text_contents found (FatShape to) = text_content found 0 ∷ text_content found 1 ∷ text_content found 2 ∷ []
 text_contents found s = text_content found 0 ∷ []
 
-contents_of_text : (w : World) (at : ℕ) (bytes : List ℕ) (s : Shape) → IsString s
-    → constant_contents w (Constant.Text at bytes) s ≡ text_contents (string_at w.strings at) s
+contents_of_text : (w : World) (at : ℕ) (bytes : List ℕ) (s : Shape) → IsString bytes s
+    → constant_contents w (Constant.Text at bytes) s ≡ text_contents (literal_string w.strings at bytes) s
 contents_of_text w at bytes (FatShape CharShape) h = refl
-contents_of_text w at bytes (ThinShape true owner CharShape) h = refl
+contents_of_text w at bytes (ThinShape (MayBeNull count) owner CharShape) h = refl
 contents_of_text w at bytes _ h = absurd h
+
+enough_left : (b count : ℕ) → b % 2 ^ 32 ≤ count → nat_le (b % 2 ^ 32) (count - 0) ≡ true
+enough_left b count few = le-leb (b % 2 ^ 32) (count - 0) (omega (arith, few))
 
 is_some : (count : ℕ) → 0 < count → nat_lt 0 count ≡ true
 is_some count some = grind (arith, nat_tests, some)
@@ -128,12 +134,12 @@ number_converted w m0 c0 c s t from h small content gives =
 
 -- NULL, for a pointer that may be it
 null_converted : (w : World) (m0 : source.Memory) (c0 : core.Memory) (at : ℕ) (s : Shape) → IsNullable s → IsConverted w m0 c0 (Constant.Null at) s
-null_converted w m0 c0 at (ThinShape true owner to) h = record {
+null_converted w m0 c0 at (ThinShape (MayBeNull count) owner to) h = record {
   value = Thin None;
   shown = inl (record { allowed = refl; value = refl; shown = refl });
   gives = λ k m. refl;
 }
-null_converted w m0 c0 at (ThinShape false owner to) h = absurd h
+null_converted w m0 c0 at (ThinShape (NeverNull count) owner to) h = absurd h
 null_converted w m0 c0 at IntShape h = absurd h
 null_converted w m0 c0 at UnsignedShape h = absurd h
 null_converted w m0 c0 at CharShape h = absurd h
@@ -149,14 +155,17 @@ null_converted w m0 c0 at (StructShape tag) h = absurd h
 null_converted w m0 c0 at (UnionShape tag) h = absurd h
 null_converted w m0 c0 at (ArrayShape count of) h = absurd h
 
--- a string, for a pointer to characters: it has an element, to which a thin pointer leads
-text_converted : (w : World) (m0 : source.Memory) (c0 : core.Memory) (at : ℕ) (bytes : List ℕ) (s : Shape) → AreStructs w.unions w.structs → IsString s
+-- a string, for a pointer to no more characters than it has, or NULL, where another string is at its place
+text_converted : (w : World) (m0 : source.Memory) (c0 : core.Memory) (at : ℕ) (bytes : List ℕ) (s : Shape) → AreStructs w.unions w.structs → IsString bytes s
     → IsObject w.unions w.structs s → AreTexts w m0 c0 w.strings
     → IsConverted w m0 c0 (Constant.Text at bytes) s ⊎ HasNoValue w (Constant.Text at bytes) s
 text_converted w m0 c0 at bytes s structs h object texts = by (string_at w.strings at) refl
   where
     lies : IsTakenObject w CharShape
     lies = lies_here w CharShape structs tt
+
+    own : Option Scalar → Option Scalar
+    own found = option_map (own_string (length bytes + 1)) found
 
     IsGiven : Option Scalar → Shape → Type 0
     IsGiven found z = (value : Scalar) × (Shown w m0 c0 z value (text_contents found z) × ((k : List Scalar → source.Memory → steps.Step) (m : source.Memory)
@@ -167,12 +176,13 @@ text_converted w m0 c0 at bytes s structs h object texts = by (string_at w.strin
     given_stuck found z = (k : List Scalar → source.Memory → steps.Step) (m : source.Memory)
         → need found (λ v. converted w z (FatShape CharShape) (v ∷ []) k) m ≡ Stops SourceEnding.Stuck
 
-    thin_given : (o : Owner) (number count : ℕ) → 0 < count → LeadsAll w m0 c0 CharShape count (heap_spot number) 0
+    thin_given : (b : ℕ) (o : Owner) (number count : ℕ) → b % 2 ^ 32 ≤ count → 0 < count → count < 2 ^ 32
+        → LeadsAll w m0 c0 CharShape count (heap_spot number) 0
         → ((c : core.Memory) (t : Spot) (byte : ℕ) → IsOwned o c t byte)
         → ((k : List Scalar → source.Memory → steps.Step) (m : source.Memory)
-        → need (Some (span_at count (heap_spot number))) (λ v. converted w (ThinShape true o CharShape) (FatShape CharShape) (v ∷ []) k) m
-        ≡ k (Thin (Some (heap_spot number)) ∷ []) m) → IsGiven (Some (span_at count (heap_spot number))) (ThinShape true o CharShape)
-    thin_given o number count some leads owned gives = (
+        → need (Some (span_at count (heap_spot number))) (λ v. converted w (ThinShape (MayBeNull b) o CharShape) (FatShape CharShape) (v ∷ []) k) m
+        ≡ k (Thin (Some (heap_spot number)) ∷ []) m) → IsGiven (Some (span_at count (heap_spot number))) (ThinShape (MayBeNull b) o CharShape)
+    thin_given b o number count fewer some few leads owned gives = (
       Thin (Some (heap_spot number)),
       (
         inr (record {
@@ -182,15 +192,18 @@ text_converted w m0 c0 at bytes s structs h object texts = by (string_at w.strin
           shown = refl;
           lies = lies;
           leads = leads 0 some;
+          few = omega (arith, fewer, few);
+          elements = λ k less. leads k (omega (arith, fewer, less));
           owned = owned c0 (heap_spot number) 0;
         }),
         gives,
       ),
     )
 
-    span_given : (number count : ℕ) → 0 < count → count < 2 ^ 32 → LeadsAll w m0 c0 CharShape count (heap_spot number) 0 → (z : Shape) → IsString z
+    span_given : (number count : ℕ) → count ≡ length bytes + 1 → 0 < count → count < 2 ^ 32 → LeadsAll w m0 c0 CharShape count (heap_spot number) 0
+        → (z : Shape) → IsString bytes z
         → IsGiven (Some (span_at count (heap_spot number))) z ⊎ given_stuck (Some (span_at count (heap_spot number))) z
-    span_given number count some few leads (FatShape CharShape) g = inl (
+    span_given number count is some few leads (FatShape CharShape) g = inl (
       span_at count (heap_spot number),
       (
         inr (record {
@@ -206,27 +219,44 @@ text_converted w m0 c0 at bytes s structs h object texts = by (string_at w.strin
         λ k m. refl,
       ),
     )
-    span_given number count some few leads (ThinShape true Shared CharShape) g =
-        inl (thin_given Shared number count some leads (λ c t byte. tt) (λ k m. rw (is_some count some) refl))
-    span_given number count some few leads (ThinShape true Unsaid CharShape) g =
-        inl (thin_given Unsaid number count some leads (λ c t byte. tt) (λ k m. rw (is_some count some) refl))
-    span_given number count some few leads (ThinShape true Alone CharShape) g = inr (λ k m. refl)
-    span_given number count some few leads _ g = absurd g
+    span_given number count is some few leads (ThinShape (MayBeNull b) Shared CharShape) g =
+        let fewer : b % 2 ^ 32 ≤ count = subst (λ n. b % 2 ^ 32 ≤ n) (sym is) g in
+        inl (thin_given b Shared number count fewer some few leads (λ c t byte. tt) (λ k m. rw (is_some count some, enough_left b count fewer) refl))
+    span_given number count is some few leads (ThinShape (MayBeNull b) Unsaid CharShape) g =
+        let fewer : b % 2 ^ 32 ≤ count = subst (λ n. b % 2 ^ 32 ≤ n) (sym is) g in
+        inl (thin_given b Unsaid number count fewer some few leads (λ c t byte. tt) (λ k m. rw (is_some count some, enough_left b count fewer) refl))
+    span_given number count is some few leads (ThinShape (MayBeNull b) Alone CharShape) g = inr (λ k m. refl)
+    span_given number count is some few leads _ g = absurd g
+
+    null_given : (z : Shape) → IsString bytes z → IsGiven (Some (Wide None)) z
+    null_given (FatShape CharShape) g = (Wide None, (inl (record { word = 0; value = refl; shown = refl; small = omega arith }), λ k m. refl))
+    null_given (ThinShape (MayBeNull b) Shared CharShape) g = (Thin None, (inl (record { allowed = refl; value = refl; shown = refl }), λ k m. refl))
+    null_given (ThinShape (MayBeNull b) Unsaid CharShape) g = (Thin None, (inl (record { allowed = refl; value = refl; shown = refl }), λ k m. refl))
+    null_given (ThinShape (MayBeNull b) Alone CharShape) g = (Thin None, (inl (record { allowed = refl; value = refl; shown = refl }), λ k m. refl))
+    null_given _ g = absurd g
+
+    own_given : (number count : ℕ) → 0 < count → count < 2 ^ 32 → LeadsAll w m0 c0 CharShape count (heap_spot number) 0 → (same : Bool)
+        → nat_eq count (length bytes + 1) ≡ same
+        → (let found = Some (Wide (if same then Some (record { first = heap_spot number; count = count; index = 0 }) else None)) in
+        IsGiven found s ⊎ given_stuck found s)
+    own_given number count some few leads true e = span_given number count (eqb-true count (length bytes + 1) e) some few leads s h
+    own_given number count some few leads false e = inl (null_given s h)
 
     by : (found : Option Scalar) → string_at w.strings at ≡ found → IsConverted w m0 c0 (Constant.Text at bytes) s ⊎ HasNoValue w (Constant.Text at bytes) s
-    by None e = inr (record { stops = λ k m. ap (λ z. need z (λ v. converted w s (FatShape CharShape) (v ∷ []) k) m) e })
+    by None e = inr (record { stops = λ k m. ap (λ z. need (own z) (λ v. converted w s (FatShape CharShape) (v ∷ []) k) m) e })
     by (Some v) e =
         let text = string_found (λ z. IsText w m0 c0 z) w.strings at v texts e in
         ⊎_elim
-        (λ (o : IsGiven (Some v) s). inl (record {
+        (λ (o : IsGiven (own (Some v)) s). inl (record {
           value = o.0;
-          shown = subst (λ xs. Shown w m0 c0 s o.0 xs) (ap (λ z. text_contents z s) (sym e) ∙ sym (contents_of_text w at bytes s h)) o.1.0;
-          gives = λ k m. ap (λ z. need z (λ v. converted w s (FatShape CharShape) (v ∷ []) k) m) e ∙ o.1.1 k m;
+          shown = subst (λ xs. Shown w m0 c0 s o.0 xs) (ap (λ z. text_contents (own z) s) (sym e) ∙ sym (contents_of_text w at bytes s h)) o.1.0;
+          gives = λ k m. ap (λ z. need (own z) (λ v. converted w s (FatShape CharShape) (v ∷ []) k) m) e ∙ o.1.1 k m;
         }))
-        (λ (o : given_stuck (Some v) s). inr (record {
-          stops = λ k m. ap (λ z. need z (λ v. converted w s (FatShape CharShape) (v ∷ []) k) m) e ∙ o k m;
+        (λ (o : given_stuck (own (Some v)) s). inr (record {
+          stops = λ k m. ap (λ z. need (own z) (λ v. converted w s (FatShape CharShape) (v ∷ []) k) m) e ∙ o k m;
         }))
-        (subst (λ z. IsGiven (Some z) s ⊎ given_stuck (Some z) s) (sym text.value) (span_given text.number text.count text.some text.few text.leads s h))
+        (subst (λ z. IsGiven (own (Some z)) s ⊎ given_stuck (own (Some z)) s) (sym text.value)
+        (own_given text.number text.count text.some text.few text.leads (nat_eq text.count (length bytes + 1)) refl))
 
 constant_converted : (w : World) (m0 : source.Memory) (c0 : core.Memory) (c : Constant) (s : Shape) → AreStructs w.unions w.structs → TakesConstant s c
     → IsObject w.unions w.structs s → AreTexts w m0 c0 w.strings → IsConverted w m0 c0 c s ⊎ HasNoValue w c s

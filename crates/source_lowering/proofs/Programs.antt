@@ -5,6 +5,7 @@ use Rattle.cyc_words.specs.Events.{AreBytes, SourceEnding}
 use Rattle.step_trees.specs.Trees.{Stops}
 use Rattle.cyc_tree.specs.Tree as tree
 use Rattle.cyc_tree.specs.Tree.{Base, TypeName, Pointer, Member, Initial, Function, Item}
+use Rattle.source_meaning.specs.Shapes.{count_of}
 use Rattle.source_meaning.specs.Shapes.{
   Shape,
   IntShape,
@@ -184,7 +185,7 @@ status_same w fs n shape m c vs xs taken r =
     by CharShape h v o = word AsChar 256 v o
     by VoidShape h v o = absurd o
     by (ThinShape b owner to) h v o =
-        ⊎_elim (λ (z : ANull b v xs). subst goal (sym z.value) stuck) (λ (z : APointer w m c owner to v xs). subst goal (sym z.value) stuck) o
+        ⊎_elim (λ (z : ANull b v xs). subst goal (sym z.value) stuck) (λ (z : APointer w m c (count_of b) owner to v xs). subst goal (sym z.value) stuck) o
     by (FatShape to) h v o =
         ⊎_elim (λ (z : AFatNull v xs). subst goal (sym z.value) stuck) (λ (z : AFat w m c to (size_of w to) v xs). subst goal (sym z.value) stuck) o
     by HandleShape h v o = subst goal (sym o.value) stuck

@@ -1,5 +1,5 @@
 -- How large a function's frame may be, and how many operations a program may have, by its source; the same of Core stands below.
-use Rattle.std.specs.Prelude.{◌≤◌, ℕ, suc, ◌+◌, ◌*◌, ◌/◌, max, Some, List, [], ◌∷◌, length}
+use Rattle.std.specs.Prelude.{◌≤◌, ℕ, suc, ◌+◌, ◌*◌, max, Some, List, [], ◌∷◌, length}
 use Rattle.cyc_tree.specs.Tree as tree
 use Rattle.cyc_tree.specs.Tree.{
   Expression,
@@ -30,7 +30,7 @@ use Rattle.cyc_tree.specs.Tree.{
   Case,
   Default,
 }
-use Rattle.source_meaning.specs.Shapes.{Shared, Shape, IntShape, UnsignedShape, VoidShape, StructShape, UnionShape, Part, part_shape, part_shapes, pointee}
+use Rattle.source_meaning.specs.Shapes.{Alone, Shared, Shape, IntShape, UnsignedShape, VoidShape, ThinShape, KeyShape, StructShape, UnionShape, Part, part_shape, part_shapes, pointee}
 use Rattle.source_meaning.specs.Steps.{World, Routine}
 use Rattle.source_meaning.specs.Operators.{operator_shape}
 use Rattle.source_meaning.specs.Expressions.{is_unique_region}
@@ -56,10 +56,12 @@ value_words w s = max 1 (shape_words w s)
 abbrev pub node : World → Shape → ℕ
 node w s = 1 + value_words w s
 
--- a struct and a tagged union that are assigned give no value
+-- a struct, a tagged union, a unique pointer and a key that are assigned give no value
 abbrev pub assigned_node : World → Shape → ℕ
 assigned_node w (StructShape tag) = 1
 assigned_node w (UnionShape tag) = 1
+assigned_node w (ThinShape bound Alone to) = 1
+assigned_node w KeyShape = 1
 assigned_node w s = node w s
 
 -- A literal, a variable, a call, what is made, an operator, a subscript and the use of a member are a node each. Parentheses and a call's name are none.

@@ -6,7 +6,7 @@ use Rattle.cyc_words.specs.Words.{difference_of}
 use Rattle.source_meaning.specs.Shapes.{Shape, CharShape, FatShape, StructShape, ArrayShape, written, settled}
 use Rattle.source_meaning.specs.Steps.{World}
 use Rattle.source_meaning.specs.Memory.{Span, Scalar, Wide}
-use Rattle.source_meaning.specs.Places.{string_at}
+use Rattle.source_meaning.specs.Places.{literal_string}
 use Rattle.source_meaning.specs.Programs.{global_shape}
 use Rattle.source_meaning.specs.Strings.{Literal}
 use Rattle.core_meaning.specs.Memory as memory
@@ -41,7 +41,7 @@ text_content _ (suc part) = memory.Word 0
 
 abbrev pub constant_content : World → tree.Constant → Shape → memory.Content
 constant_content w (tree.Null at) s = memory.Null
-constant_content w (tree.Text at bytes) s = text_content (string_at w.strings at) 0
+constant_content w (tree.Text at bytes) s = text_content (literal_string w.strings at bytes) 0
 constant_content w c s = memory.Word (word_in s (constant_word c))
 
 -- what a global begins with
@@ -74,7 +74,7 @@ text_datum w s _ = begun_datum (local_of w s)
 -- a global of a struct, of a fat pointer or of an array begins as its layout does
 abbrev pub global_datum : World → Initial → Shape → Datum
 global_datum w initial (StructShape tag) = begun_datum (local_of w (StructShape tag))
-global_datum w (Initial.Given (tree.Text at bytes)) (FatShape to) = text_datum w (FatShape to) (string_at w.strings at)
+global_datum w (Initial.Given (tree.Text at bytes)) (FatShape to) = text_datum w (FatShape to) (literal_string w.strings at bytes)
 global_datum w initial (FatShape to) = begun_datum (local_of w (FatShape to))
 global_datum w initial (ArrayShape count of) = begun_datum (local_of w (ArrayShape count of))
 global_datum w initial s = datum_of w s (initial_content w initial s)

@@ -29,7 +29,7 @@ abbrev pub pieces_of : Shape → List Piece
 pieces_of IntShape = piece 0 4 (core.Word 0) ∷ []
 pieces_of UnsignedShape = piece 0 4 (core.Word 0) ∷ []
 pieces_of CharShape = piece 0 1 (core.Word 0) ∷ []
-pieces_of (ThinShape may_be_null owner to) = piece 0 4 core.Null ∷ []
+pieces_of (ThinShape bound owner to) = piece 0 4 core.Null ∷ []
 pieces_of (FatShape to) = piece 0 4 core.Null ∷ piece 4 4 (core.Word 0) ∷ piece 8 4 (core.Word 0) ∷ []
 pieces_of s = piece 0 4 core.Blank ∷ []
 

@@ -4,7 +4,7 @@
 use Rattle.std.specs.Prelude.{ℕ, suc, ◌+◌, ◌%◌, Bool, true, false, List, [], ◌∷◌, ◌++◌, length}
 use Rattle.cyc_tree.specs.Tree.{Expression, Expressions, NoExpressions, MoreExpressions, Links, NoLinks, MoreLinks, Suffixes, NoSuffixes, Index, Dot, Arrow}
 use Rattle.cyc_tree.specs.Tree.{Made, One, Array}
-use Rattle.source_meaning.specs.Shapes.{Shape, StructShape, UnionShape, Part, parts_of, part_shape, pointee}
+use Rattle.source_meaning.specs.Shapes.{Shape, StructShape, UnionShape, Part, parts_of, part_shape}
 use Rattle.source_meaning.specs.Sizes.{rounded_up}
 use Rattle.source_meaning.specs.Steps.{World}
 use Rattle.source_meaning.specs.Operators.{operator_shape}
@@ -304,7 +304,7 @@ abbrev mutual
   suffixed_code w names NoSuffixes left own = left
   suffixed_code w names (Index index others) left own =
       let first = own + length (suffix_values w names others) in
-      suffixed_code w names others (element_at w (pointee left.shape) (λ d. expression_code w names index d first) left.value) own
+      suffixed_code w names others (element_at w left.shape (λ d. expression_code w names index d first) left.value) own
   suffixed_code w names (Dot f others) left own =
       suffixed_code w names others (member_at w left.shape left.pointer left.cells left.bytes f.text) own
   suffixed_code w names (Arrow f others) left own = suffixed_code w names others (member_behind w left f.text) own

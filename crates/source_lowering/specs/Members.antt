@@ -1,9 +1,9 @@
 -- Code, fat pointers and their elements, and the members of structs: their shapes, where they are, and how they are reached.
-use Rattle.std.specs.Prelude.{ℕ, zero, ◌+◌, ◌*◌, true, List, [], ◌∷◌, ◌++◌, length}
+use Rattle.std.specs.Prelude.{ℕ, zero, ◌+◌, ◌*◌, List, [], ◌∷◌, ◌++◌, length}
 use Rattle.cyc_words.specs.declared.faults.Kind.{Kind}
 use Rattle.cyc_words.specs.declared.faults.Kind.TheVariants.{NullException, ArrayBounds}
 use Rattle.cyc_tree.specs.Tree.{Suffixes, NoSuffixes, Index, Dot, Arrow}
-use Rattle.source_meaning.specs.Shapes.{Shape, CharShape, ThinShape, FatShape, ArrayShape, pointee, part_shape}
+use Rattle.source_meaning.specs.Shapes.{Reach, count_of, MayBeNull, Shape, CharShape, ThinShape, FatShape, ArrayShape, pointee, part_shape}
 use Rattle.source_meaning.specs.Sizes.{cells_before}
 use Rattle.source_meaning.specs.Steps.{World}
 use Rattle.source_meaning.specs.Conversions.{cells_of}
@@ -81,7 +81,7 @@ null_check d = If d NoStatements (MoreStatements (Raise NullException) NoStateme
 
 -- a pointer of a shape is checked where it may be NULL
 abbrev pub check_code : Shape → ℕ → List Statement
-check_code (ThinShape true owner to) d = null_check d
+check_code (ThinShape (MayBeNull count) owner to) d = null_check d
 check_code s d = []
 
 -- ---- fat pointers
@@ -112,6 +112,17 @@ reach_code w s d = check_code s d
 -- a[b]: b is in this temporary, and the fat pointer in the three behind it; the index wraps
 abbrev pub index_code : World → Shape → ℕ → List Statement
 index_code w to d = Do (Apply Add (d + 3) (d + 3) d) ∷ element_code w to d (d + 1)
+
+-- p[e] of a thin pointer: e is in this temporary, and the pointer in the next. NULL raises, and so does an index that isn't below the bound.
+abbrev pub bound_code : World → Reach → Shape → ℕ → List Statement
+bound_code w bound to d =
+    Do (Constant (d + 2) (count_of bound)) ∷ Do (Apply LessUnsigned (d + 2) d (d + 2)) ∷ If (d + 2) NoStatements (raised ArrayBounds)
+    ∷ Do (Element d (d + 1) d (length (cells_of w to)) (extent_of w to).size) ∷ []
+
+-- a subscript, by the shape of what it is of
+abbrev pub subscript_code : World → Shape → ℕ → List Statement
+subscript_code w (ThinShape bound owner to) d = check_code (ThinShape bound owner to) (d + 1) ++ bound_code w bound to d
+subscript_code w s d = index_code w (pointee s) d
 
 -- ---- shapes of members
 
@@ -171,9 +182,9 @@ member_behind w left f = member_at w (pointee left.shape) (λ d. left.value d ++
 
 -- An element: its index is evaluated first, and what stands on its left behind it; both lead to it.
 abbrev pub element_at : World → Shape → (index value : ℕ → List Statement) → Left
-element_at w to index value =
-    let pointer : ℕ → List Statement = λ d. index d ++ (value (d + 1) ++ index_code w to d) in
-    record { shape = to; value = λ d. pointer d ++ loads_code to d 0 0; pointer = pointer; cells = 0; bytes = 0 }
+element_at w from index value =
+    let pointer : ℕ → List Statement = λ d. index d ++ (value (d + 1) ++ subscript_code w from d) in
+    record { shape = pointee from; value = λ d. pointer d ++ loads_code (pointee from) d 0 0; pointer = pointer; cells = 0; bytes = 0 }
 
 -- a pointer to what the suffixes lead to
 abbrev pub pointer_to : Left → ℕ → List Statement

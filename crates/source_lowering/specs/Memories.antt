@@ -1,5 +1,5 @@
 -- The relation between a source's memory and Core's, and how both grow.
-use Rattle.std.proofs.Common.{◌≡◌, ℕ, suc, ◌+◌, ◌*◌, ◌^◌, ◌<◌, ◌≤◌, ◌⊎◌, List, [], ◌∷◌, length, Bool, true, Option, Some, None}
+use Rattle.std.proofs.Common.{◌≡◌, ℕ, suc, ◌+◌, ◌*◌, ◌^◌, ◌<◌, ◌≤◌, ◌⊎◌, List, [], ◌∷◌, length, true, Option, Some, None}
 use Rattle.std.specs.Prelude.{slice_get}
 use Rattle.source_meaning.specs.Shapes.{
   Owner,
@@ -16,7 +16,7 @@ use Rattle.source_meaning.specs.Shapes.{
   HandleShape,
   KeyShape,
 }
-use Rattle.source_meaning.specs.Shapes.{StructShape, UnionShape, ArrayShape, part_shapes, parts_of}
+use Rattle.source_meaning.specs.Shapes.{Reach, count_of, may_be_null, StructShape, UnionShape, ArrayShape, part_shapes, parts_of}
 use Rattle.source_meaning.specs.Memory as source
 use Rattle.source_meaning.specs.Memory.{
   IntegerType,
@@ -120,8 +120,8 @@ pub record AnInteger (t : IntegerType) (below : ℕ) (v : Scalar) (cs : List Con
   pub shown : cs ≡ Word word ∷ []
   pub small : word < below
 
-pub record ANull (may_be_null : Bool) (v : Scalar) (cs : List Content) : Type 0 where
-  pub allowed : may_be_null ≡ true
+pub record ANull (bound : Reach) (v : Scalar) (cs : List Content) : Type 0 where
+  pub allowed : may_be_null bound ≡ true
   pub value : v ≡ Thin None
   pub shown : cs ≡ Null ∷ []
 
@@ -144,13 +144,16 @@ IsOwned Alone c s byte = IsBlock c s byte
 IsOwned Shared c s byte = Unit {0}
 IsOwned Unsaid c s byte = Unit {0}
 
-pub record APointer (w : World) (m : source.Memory) (c : core.Memory) (owner : Owner) (to : Shape) (v : Scalar) (cs : List Content) : Type 0 where
+-- a thin pointer leads to its object, and to so many elements from there on
+pub record APointer (w : World) (m : source.Memory) (c : core.Memory) (count : ℕ) (owner : Owner) (to : Shape) (v : Scalar) (cs : List Content) : Type 0 where
   pub spot : Spot
   pub byte : ℕ
   pub value : v ≡ Thin (Some spot)
   pub shown : cs ≡ Pointer (at spot) byte ∷ []
   pub lies : IsTakenObject w to
   pub leads : Leads w m c to spot byte
+  pub few : count < 2 ^ 32
+  pub elements : LeadsAll w m c to count spot byte
   pub owned : IsOwned owner c spot byte
 
 -- NULL has the count 0, and any index
@@ -181,7 +184,7 @@ ShownMember w m c IntShape v cs = AnInteger AsInt (2 ^ 32) v cs
 ShownMember w m c UnsignedShape v cs = AnInteger AsUnsigned (2 ^ 32) v cs
 ShownMember w m c CharShape v cs = AnInteger AsChar 256 v cs
 ShownMember w m c VoidShape v cs = ⊥
-ShownMember w m c (ThinShape may_be_null owner to) v cs = ANull may_be_null v cs ⊎ APointer w m c owner to v cs
+ShownMember w m c (ThinShape bound owner to) v cs = ANull bound v cs ⊎ APointer w m c (count_of bound) owner to v cs
 ShownMember w m c (FatShape to) v cs = AFatNull v cs ⊎ AFat w m c to (size_of w to) v cs
 ShownMember w m c HandleShape v cs = ABirth HandleOf v cs
 ShownMember w m c KeyShape v cs = ABirth KeyOf v cs

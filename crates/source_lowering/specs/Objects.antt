@@ -16,7 +16,7 @@ IsTarget IntShape = Unit {0}
 IsTarget UnsignedShape = Unit {0}
 IsTarget CharShape = Unit {0}
 IsTarget VoidShape = Unit {0}
-IsTarget (ThinShape may_be_null owner to) = IsTarget to
+IsTarget (ThinShape bound owner to) = IsTarget to
 IsTarget (FatShape to) = IsTarget to
 IsTarget HandleShape = Unit {0}
 IsTarget KeyShape = Unit {0}
@@ -30,7 +30,7 @@ IsWordShape IntShape = Unit {0}
 IsWordShape UnsignedShape = Unit {0}
 IsWordShape CharShape = Unit {0}
 IsWordShape VoidShape = ⊥
-IsWordShape (ThinShape may_be_null owner to) = IsTarget to
+IsWordShape (ThinShape bound owner to) = IsTarget to
 IsWordShape (FatShape to) = ⊥
 IsWordShape HandleShape = Unit {0}
 IsWordShape KeyShape = Unit {0}
@@ -75,7 +75,7 @@ IsWholeShape unions structs s = ⊥
 
 -- what an assignment gives, where its value is used: no struct, no union, and no unique pointer
 abbrev pub IsGivenShape : Shape → Type 0
-IsGivenShape (ThinShape may_be_null owner to) = (is_alone owner ≡ false)
+IsGivenShape (ThinShape bound owner to) = (is_alone owner ≡ false)
 IsGivenShape KeyShape = ⊥
 IsGivenShape (StructShape tag) = ⊥
 IsGivenShape (UnionShape tag) = ⊥
@@ -88,7 +88,7 @@ IsExchanged unions s = IsValueShape s
 
 -- a thin pointer, of any owner
 abbrev pub IsThinShape : Shape → Type 0
-IsThinShape (ThinShape may_be_null owner to) = Unit {0}
+IsThinShape (ThinShape bound owner to) = Unit {0}
 IsThinShape s = ⊥
 
 -- a key

@@ -1,15 +1,18 @@
 -- The code of conversions and of operators.
-use Rattle.std.specs.Prelude.{ℕ, ◌+◌, Bool, true, false, List, [], ◌∷◌, ◌++◌}
+use Rattle.std.specs.Prelude.{ℕ, ◌%◌, ◌^◌, ◌+◌, List, [], ◌∷◌, ◌++◌}
 use Rattle.cyc_words.specs.declared.faults.Kind.TheVariants.{ArrayBounds}
 use Rattle.cyc_tree.specs.declared.expression.Operator.{Operator}
 use Rattle.cyc_tree.specs.declared.expression.Operator.TheVariants as operator
 use Rattle.cyc_tree.specs.declared.expression.Prefix.{Prefix}
 use Rattle.cyc_tree.specs.declared.expression.Prefix.TheVariants as prefix
-use Rattle.source_meaning.specs.Shapes.{Shape, IntShape, UnsignedShape, CharShape, ThinShape, FatShape, pointee}
+use Rattle.source_meaning.specs.Shapes.{Reach, MayBeNull, NeverNull, Shape, IntShape, UnsignedShape, CharShape, ThinShape, FatShape, pointee}
 use Rattle.source_meaning.specs.Memory.{IntegerType, AsInt, AsUnsigned, AsChar}
 use Rattle.source_meaning.specs.Steps.{World}
 use Rattle.source_meaning.specs.Operators.{common, by_type}
-use Rattle.source_lowering.specs.Members.{all_of, loads_code, check_code, bounds_code, raised, reached_code, element_code, reach_code}
+use Rattle.source_lowering.specs.Members.{null_check, all_of, loads_code, check_code, bounds_code, raised, reach_code}
+use Rattle.source_meaning.specs.Conversions.{cells_of}
+use Rattle.std.specs.Prelude.{length}
+use Rattle.source_lowering.specs.Layouts.{extent_of}
 use Rattle.core_meaning.specs.Core as core
 use Rattle.core_meaning.specs.Core.{Operation, Constant, Narrow, Apply, IsNull, SamePlace, Statement, Do, If, NoStatements}
 
@@ -20,28 +23,34 @@ abbrev pub narrow_code : Shape → ℕ → List Statement
 narrow_code CharShape d = []
 narrow_code s d = Do (Narrow d d) ∷ []
 
--- thin to fat: one element, or none of NULL
+-- thin to fat: so many elements as its bound says, or none of NULL
 abbrev pub to_fat_code : Shape → ℕ → List Statement
-to_fat_code (ThinShape false owner to) d = bounds_code d 1
-to_fat_code (ThinShape true owner to) d =
-    Do (IsNull (d + 1) d) ∷ Do (Constant (d + 2) 1) ∷ Do (Apply core.Xor (d + 1) (d + 2) (d + 1)) ∷ Do (Constant (d + 2) 0) ∷ []
+to_fat_code (ThinShape (NeverNull count) owner to) d = bounds_code d (count % 2 ^ 32)
+to_fat_code (ThinShape (MayBeNull count) owner to) d =
+    If d (all_of (Do (Constant (d + 1) (count % 2 ^ 32)) ∷ [])) (all_of (Do (Constant (d + 1) 0) ∷ [])) ∷ Do (Constant (d + 2) 0) ∷ []
 to_fat_code s d = []
 
--- fat to thin: NULL stays NULL or raises, and the element of another one has to be there
-abbrev pub to_thin_code : World → Bool → Shape → ℕ → List Statement
-to_thin_code w false to d = element_code w to d d
-to_thin_code w true to d =
-    If d (all_of (Do (Apply core.LessUnsigned (d + 1) (d + 2) (d + 1)) ∷ reached_code w to d d (raised ArrayBounds))) NoStatements ∷ []
+-- The element of a fat pointer that isn't NULL, where its index is below the count, and so many elements are left from there on.
+abbrev pub enough_code : World → (count : ℕ) → Shape → ℕ → List Statement
+enough_code w count to d =
+    Do (Apply core.LessUnsigned (d + 3) (d + 2) (d + 1)) ∷ If (d + 3) NoStatements (raised ArrayBounds) ∷ Do (Apply core.Subtract (d + 1) (d + 1) (d + 2))
+    ∷ Do (Constant (d + 3) count) ∷ Do (Apply core.LessUnsigned (d + 1) (d + 1) (d + 3)) ∷ If (d + 1) (raised ArrayBounds) NoStatements
+    ∷ Do (core.Element d d (d + 2) (length (cells_of w to)) (extent_of w to).size) ∷ []
+
+-- fat to thin: NULL stays NULL or raises, and so many elements of another one have to be there from the current one on
+abbrev pub to_thin_code : World → Reach → Shape → ℕ → List Statement
+to_thin_code w (NeverNull count) to d = null_check d ++ enough_code w (count % 2 ^ 32) to d
+to_thin_code w (MayBeNull count) to d = If d (all_of (enough_code w (count % 2 ^ 32) to d)) NoStatements ∷ []
 
 -- What becomes a thin pointer: a thin one is checked where the place never holds NULL.
-abbrev pub thinned_code : World → Bool → Shape → Shape → ℕ → List Statement
-thinned_code w may_be_null to (FatShape of) d = to_thin_code w may_be_null to d
-thinned_code w false to from d = check_code from d
-thinned_code w true to from d = []
+abbrev pub thinned_code : World → Reach → Shape → Shape → ℕ → List Statement
+thinned_code w bound to (FatShape of) d = to_thin_code w bound to d
+thinned_code w (NeverNull count) to from d = check_code from d
+thinned_code w (MayBeNull count) to from d = []
 
 abbrev pub conversion_code : World → Shape → Shape → ℕ → List Statement
 conversion_code w CharShape from d = narrow_code from d
-conversion_code w (ThinShape may_be_null owner to) from d = thinned_code w may_be_null to from d
+conversion_code w (ThinShape bound owner to) from d = thinned_code w bound to from d
 conversion_code w (FatShape to) from d = to_fat_code from d
 conversion_code w to from d = []
 
@@ -97,8 +106,8 @@ fat_code o d = null_code o d d
 -- the operands are in the temporaries from this one on, one behind the other, and the result comes into the first ones
 abbrev pub operator_code : Operator → Shape → Shape → ℕ → List Statement
 operator_code o (FatShape to) t d = fat_code o d
-operator_code o (ThinShape may_be_null owner to) (FatShape of) d = null_code o d (d + 1)
-operator_code o (ThinShape may_be_null owner to) t d = pointers_code o d
+operator_code o (ThinShape bound owner to) (FatShape of) d = null_code o d (d + 1)
+operator_code o (ThinShape bound owner to) t d = pointers_code o d
 operator_code o s t d = Do (applied_to o (type_of s) (type_of t) d d (d + 1)) ∷ []
 
 -- how many elements a fat pointer leads to: the difference where the index is below the count, and 0 else
@@ -112,13 +121,13 @@ truth_code d = Do (Constant (d + 1) 0) ∷ Do (Apply core.NotEqual d d (d + 1)) 
 
 -- an operand of `&&` and `||` becomes a word: NULL 0, and another pointer 1
 abbrev pub word_code : Shape → ℕ → List Statement
-word_code (ThinShape may_be_null owner to) d = Do (IsNull d d) ∷ turned_code d
+word_code (ThinShape bound owner to) d = Do (IsNull d d) ∷ turned_code d
 word_code (FatShape to) d = Do (IsNull d d) ∷ turned_code d
 word_code s d = []
 
 -- `!e`, from the next temporary: whether it is 0, or NULL
 abbrev pub not_code : Shape → ℕ → List Statement
-not_code (ThinShape may_be_null owner to) d = Do (IsNull d (d + 1)) ∷ []
+not_code (ThinShape bound owner to) d = Do (IsNull d (d + 1)) ∷ []
 not_code (FatShape to) d = Do (IsNull d (d + 1)) ∷ []
 not_code s d = Do (Constant d 0) ∷ Do (Apply core.Equal d (d + 1) d) ∷ []
 

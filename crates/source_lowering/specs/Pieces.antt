@@ -20,7 +20,7 @@ use Rattle.source_meaning.specs.Shapes.{
   UnionShape,
   ArrayShape,
 }
-use Rattle.source_meaning.specs.Shapes.{Part, has_tag, parts_of, part_position, pointee, part_shapes}
+use Rattle.source_meaning.specs.Shapes.{MayBeNull, NeverNull, Part, has_tag, parts_of, part_position, pointee, part_shapes}
 use Rattle.source_meaning.specs.Memory.{Scalar, Wide}
 use Rattle.source_meaning.specs.Steps.{Entity, Variable, Fixed, Routine, World}
 use Rattle.source_meaning.specs.Operators.{operator_shape}
@@ -132,7 +132,7 @@ prefix_shape prefix.Negate s = operator_shape operator.Subtract IntShape s
 prefix_shape prefix.Complement s = operator_shape operator.BitXor IntShape s
 prefix_shape prefix.Not s = IntShape
 prefix_shape prefix.Dereference s = pointee s
-prefix_shape prefix.AddressOf s = ThinShape false Shared s
+prefix_shape prefix.AddressOf s = ThinShape (NeverNull 1) Shared s
 
 -- what is made in the unique region, or in another one
 abbrev pub owner_in : Bool → Owner
@@ -144,7 +144,7 @@ abbrev mutual
   pub static_shape : World → List Named → Expression → Shape
   static_shape w names (Expression.Number at value suffix) = integer_shape (number_type value suffix)
   static_shape w names (Expression.Character at byte) = CharShape
-  static_shape w names (Expression.Null at) = ThinShape true Shared VoidShape
+  static_shape w names (Expression.Null at) = ThinShape (MayBeNull 1) Shared VoidShape
   static_shape w names (Expression.Variable name) = valued (named_shape w names name.text)
   static_shape w names (Expression.Call name arguments) = call_shape w name.text
   static_shape w names (Expression.MakeUnion tag member value) = UnionShape tag.text
@@ -164,7 +164,7 @@ abbrev mutual
 
   -- a thin pointer to the one object that is made, and a fat one to the first of an array
   pub new_shape : World → List Named → Owner → Made → Shape
-  new_shape w names owner (One value) = ThinShape false owner (static_shape w names value)
+  new_shape w names owner (One value) = ThinShape (NeverNull 1) owner (static_shape w names value)
   new_shape w names owner (Array index count element) = FatShape (static_shape w (number_named index.text 0 ∷ names) element)
 
   -- that of a chain, from what is on its left

@@ -127,7 +127,7 @@ outward names = map one_out names
 -- ---- declarations: the local of a number gets what it begins with, or its initializer's value, which comes into the first free temporaries
 
 abbrev pub first_code : Shape → ℕ → Operation
-first_code (ThinShape may_be_null owner to) d = NullPointer d
+first_code (ThinShape bound owner to) d = NullPointer d
 first_code s d = Constant d 0
 
 -- a local begins as its layout does, element by element

@@ -1,8 +1,8 @@
 -- Types and constants that lowering takes, by the forms of the tree alone.
-use Rattle.std.specs.Prelude.{◌≡◌, true, []}
+use Rattle.std.specs.Prelude.{◌≡◌, ◌≤◌, ℕ, ◌+◌, ◌%◌, ◌^◌, List, [], length}
 use Rattle.cyc_tree.specs.Tree as tree
 use Rattle.cyc_tree.specs.Tree.{Base, TypeName}
-use Rattle.source_meaning.specs.Shapes.{Shape, IntShape, UnsignedShape, CharShape, ThinShape, FatShape}
+use Rattle.source_meaning.specs.Shapes.{MayBeNull, Shape, IntShape, UnsignedShape, CharShape, ThinShape, FatShape}
 
 -- ---- types
 
@@ -20,7 +20,7 @@ abbrev pub HasFirst : Shape → Type 0
 HasFirst IntShape = Unit {0}
 HasFirst UnsignedShape = Unit {0}
 HasFirst CharShape = Unit {0}
-HasFirst (ThinShape true owner to) = Unit {0}
+HasFirst (ThinShape (MayBeNull count) owner to) = Unit {0}
 HasFirst (FatShape to) = Unit {0}
 HasFirst _ = ⊥
 
@@ -37,19 +37,20 @@ IsIntegerShape CharShape = Unit {0}
 IsIntegerShape _ = ⊥
 
 abbrev pub IsNullable : Shape → Type 0
-IsNullable (ThinShape true owner to) = Unit {0}
+IsNullable (ThinShape (MayBeNull count) owner to) = Unit {0}
 IsNullable (FatShape to) = Unit {0}
 IsNullable _ = ⊥
 
-abbrev pub IsString : Shape → Type 0
-IsString (ThinShape true owner CharShape) = Unit {0}
-IsString (FatShape CharShape) = Unit {0}
-IsString _ = ⊥
+-- a string of these bytes has them and a final 0
+abbrev pub IsString : List ℕ → Shape → Type 0
+IsString bytes (ThinShape (MayBeNull count) owner CharShape) = (count % 2 ^ 32 ≤ length bytes + 1)
+IsString bytes (FatShape CharShape) = Unit {0}
+IsString bytes _ = ⊥
 
--- a number for an integer, NULL for a pointer that may be NULL, and a string for one to characters
+-- a number for an integer, NULL for a pointer that may be NULL, and a string for one to no more characters than it has
 abbrev pub TakesConstant : Shape → tree.Constant → Type 0
 TakesConstant shape (tree.Number at value suffix) = IsIntegerShape shape
 TakesConstant shape (tree.Negative at value suffix) = IsIntegerShape shape
 TakesConstant shape (tree.Character at byte) = IsIntegerShape shape
-TakesConstant shape (tree.Text at bytes) = IsString shape
+TakesConstant shape (tree.Text at bytes) = IsString bytes shape
 TakesConstant shape (tree.Null at) = IsNullable shape

@@ -242,8 +242,8 @@ mutual
   expression_judged (Expression.New at (One e)) g good = made_there g at (To TheHeap) (judge g e) (expression_judged e g good) tt
   expression_judged (Expression.New at (Array x c e)) g good =
       let inner : Env = with_counter x g in
-      array_there g at (To TheHeap) (both (judge g c) (judge inner e) (elements at))
-      (elements_good g at (judge g c) (judge inner e) (known_operand g (judge g c) (expression_judged c g good))
+      array_there g at (To TheHeap) (both (judge g c) (judge inner e) elements)
+      (elements_good g (judge g c) (judge inner e) (known_operand g (judge g c) (expression_judged c g good))
       (known_operand inner (judge inner e) (expression_judged e inner (good_counter x g good)))) tt
   expression_judged (Expression.NewIn at handle (One e)) g good =
       new_in g good at handle (One e) (expression_judged handle g good)
@@ -261,7 +261,7 @@ mutual
       let within : Env = inside (Of y) g in
       let inner : Env = with_counter x within in
       let good_within : IsGood within = good_inside y g b good in
-      elements_good g at (judge within c) (judge inner e)
+      elements_good g (judge within c) (judge inner e)
       (known_operand within (judge within c) (expression_judged c within good_within))
       (known_operand inner (judge inner e) (expression_judged e inner (good_counter x within good_within)))))
   expression_judged (Expression.Chain e NoLinks) g good = expression_judged e g good

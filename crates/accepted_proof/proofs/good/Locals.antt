@@ -1,6 +1,6 @@
 -- The type of a local, where it has no fault: an object's, whose region names are in scope, with the shape that is written. A missing region is
 -- that of its initializer, or the heap.
-use Rattle.std.proofs.Common.{◌≡◌, ℕ, Bool, true, false, Option, Some, None, List, [], ◌∷◌, refl, sym, subst, ap, ◌∙◌}
+use Rattle.std.proofs.Common.{nat_eq, ◌≡◌, ℕ, Bool, true, false, Option, Some, None, List, [], ◌∷◌, refl, sym, subst, ap, ◌∙◌}
 use Rattle.std.specs.Prelude.{◌&&◌, ◌||◌, ◌++◌, bytes_eq, if◌then◌else◌, is_none, map}
 use Rattle.std.proofs.lemmas.Bool.{and_parts}
 use Rattle.cyc_tree.specs.declared.name.Sign.{Sign}
@@ -14,7 +14,7 @@ use Rattle.type_proof.proofs.expressions.Fixed.{PartBelow, same_below}
 use Rattle.source_typing.specs.Declarations.{can_be, fitting, fitting_local, if_sized, local_type, misses_region, set_type, taken_from, type_in_scope}
 use Rattle.source_typing.specs.Declarations.{tags_in_scope, unset_type}
 use Rattle.source_typing.specs.Extents.{fits_bytes, variable_size}
-use Rattle.source_typing.specs.Missing.{arguments_of, as_type, fat_with, filled_arguments, filled_from, or_found, outer_region, pointee_of, settled, thin_with}
+use Rattle.source_typing.specs.Missing.{alone_with, arguments_of, as_type, fat_with, filled_arguments, filled_from, or_found, outer_region, pointee_of, settled, thin_with}
 use Rattle.source_typing.specs.Missing.{unique_with}
 use Rattle.source_typing.specs.Regions.{Region, TheHeap}
 use Rattle.source_typing.specs.Scope.{Env, Value, in_scope}
@@ -64,12 +64,16 @@ abbrev FilledIfSome : ℕ → Option StaticType → Type 0
 FilledIfSome n None = Unit {0}
 FilledIfSome n (Some t) = IsFilled n t
 
-thin_filled : (n : ℕ) (b : Bool) (f : Found) (o : Option StaticType) → FoundBelow n f → FilledIfSome n o → FilledIfSome n (thin_with b f o)
+alone_filled_one : (n : ℕ) (one : Bool) (b : shapes.Reach) (t : StaticType) → FilledIfSome n (Some t) → FilledIfSome n (alone_with one b t)
+alone_filled_one n true b t h = record { object = h.object; below = h.below }
+alone_filled_one n false b t h = tt
+
+thin_filled : (n : ℕ) (b : shapes.Reach) (f : Found) (o : Option StaticType) → FoundBelow n f → FilledIfSome n o → FilledIfSome n (thin_with b f o)
 thin_filled n b (Is q) None h k = tt
 thin_filled n b IsUnique None h k = tt
 thin_filled n b Missing None h k = tt
 thin_filled n b (Is q) (Some t) h k = record { object = k.object; below = (h, k.below) }
-thin_filled n b IsUnique (Some t) h k = record { object = k.object; below = k.below }
+thin_filled n b IsUnique (Some t) h k = alone_filled_one n (nat_eq (shapes.number_of b) 1) b t k
 thin_filled n b Missing (Some t) h k = record { object = k.object; below = (tt, k.below) }
 
 fat_filled : (n : ℕ) (f : Found) (o : Option StaticType) → FoundBelow n f → FilledIfSome n o → FilledIfSome n (fat_with f o)
@@ -272,8 +276,8 @@ pointers_said (p ∷ ps) s e h =
     owned (Some (tree.Named x)) e q = cc
 
     by : (x : Sign) (r : Option tree.RegionName) → is_none r || missing ≡ false → IsSaid (shapes.signed_shape x (shapes.owner_of r) s)
-    by sign.Nullable r e = (λ q. owned r e q, h)
-    by sign.NotNull r e = (λ q. owned r e q, h)
+    by (sign.Nullable count) r e = (λ q. owned r e q, h)
+    by (sign.NotNull count) r e = (λ q. owned r e q, h)
     by sign.Fat r e = h
 
 base_said : (b : tree.Base) → IsSaid (shapes.base_shape b)

@@ -1,14 +1,15 @@
 -- Makings are at fault or in order, where their handles and what they make are.
 use Rattle.std.proofs.Common.{◌≡◌, ℕ, Bool, true, false, List, refl}
 use Rattle.cyc_tree.specs.Tree.{Array, Expression, Name, One}
+use Rattle.source_meaning.specs.Shapes.{NeverNull}
 use Rattle.source_typing.specs.Expressions.{judge, judge_made_in}
 use Rattle.source_typing.specs.Faults.{Fault}
-use Rattle.source_typing.specs.Making.{Goal, NoHandle, To, ToUnique, array_made, elements, enclosed, goal_of, handled, handled_of, inside, live_goal, made}
+use Rattle.source_typing.specs.Making.{Goal, NoHandle, To, ToUnique, array_made, array_to, elements, enclosed, goal_of, handled, handled_of, inside, live_goal, made}
 use Rattle.source_typing.specs.Making.{made_to, with_counter, with_goal}
 use Rattle.source_typing.specs.Regions.{Region}
 use Rattle.source_typing.specs.Scope.{Env, Nowhere, Value, is_live}
 use Rattle.source_typing.specs.Types.{Char, Fat, Handle, Int, Key, Null, StaticType, Struct, Thin, Union, Unique, Unsigned, Void, is_integer, is_makeable}
-use Rattle.source_typing.specs.Verdicts.{Faulty, Of, Unjudged, Verdict, both, if_fits}
+use Rattle.source_typing.specs.Verdicts.{Faulty, Of, Unjudged, Verdict, both}
 use Rattle.std.specs.Prelude.{◌&&◌}
 use Rattle.std.proofs.lemmas.Bool.{and_parts, false≢true}
 use Rattle.type_proof.specs.Entries.{IsObjectType}
@@ -42,7 +43,7 @@ module _ (g : Env) where
     where
       by : (x : Goal) → IsKnownGoal x → is_makeable v.type ≡ true → Surely (λ w. IsGoodValue g w) (made_to at x v.type)
       by (To r) b e =
-          valued g (record { at = at; type = Thin false r v.type; seat = Nowhere })
+          valued g (record { at = at; type = Thin (NeverNull 1) r v.type; seat = Nowhere })
           (record { type = makeable_object v.type h.type e; below = (b, h.below); nowhere = refl })
       by ToUnique b e =
           valued g (record { at = at; type = Unique false v.type; seat = Nowhere })
@@ -79,12 +80,13 @@ module _ (g : Env) where
   made_nowhere at (Faulty f fs) = tt
   made_nowhere at (Of v) = surely_fits (λ w. IsGoodValue g w) (is_makeable v.type) at v.type (made_to at NoHandle) (λ e. tt)
 
-  array_nowhere : (at : ℕ) (v : Verdict Value) → Surely (λ w. IsGoodValue g w) (with_goal at (Of NoHandle) v (array_made at))
+  array_nowhere : (at : ℕ) (v : Verdict (Value × Value)) → Surely (λ w. IsGoodValue g w) (with_goal at (Of NoHandle) v (array_made at))
   array_nowhere at Unjudged = tt
   array_nowhere at (Faulty f fs) = tt
-  array_nowhere at (Of v) = tt
+  array_nowhere at (Of (c, v)) =
+      surely_fits (λ w. IsGoodValue g w) (is_integer c.type && is_makeable v.type) at v.type (array_to at NoHandle) (λ e. tt)
 
-  goal_faulty : (at : ℕ) (f : Fault) (fs : List Fault) (v : Verdict Value) (rule : Goal → Value → Verdict Value)
+  goal_faulty : {A : Type 0} (at : ℕ) (f : Fault) (fs : List Fault) (v : Verdict A) (rule : Goal → A → Verdict Value)
       → Surely (λ w. IsGoodValue g w) (with_goal at (Faulty f fs) v rule)
   goal_faulty at f fs (Faulty c cs) rule = tt
   goal_faulty at f fs Unjudged rule = tt
@@ -112,52 +114,53 @@ module _ (g : Env) where
 
   -- ---- arrays
 
-  -- an element: an object, whose type speaks of regions in scope
-  abbrev pub IsElement : Value → Type 0
-  IsElement v = IsObjectType v.type × TypeBelow g.regions.count v.type
-
   abbrev pub IsKnownOperand : Value → Type 0
   IsKnownOperand v = IsValueType v.type × TypeBelow g.regions.count v.type
 
-  pub elements_good : (at : ℕ) (c e : Verdict Value) → Surely (λ v. IsKnownOperand v) c
-      → Surely (λ v. IsKnownOperand v) e → Surely (λ v. IsElement v) (both c e (elements at))
-  elements_good at c e h k =
-      surely_both (λ v. IsKnownOperand v) (λ v. IsKnownOperand v) (λ v. IsElement v) c e (elements at) h k
-      (λ a b l m. by a b m (is_integer a.type && is_makeable b.type) refl)
-    where
-      by : (a b : Value) → IsKnownOperand b → (t : Bool) → is_integer a.type && is_makeable b.type ≡ t
-          → Surely (λ v. IsElement v) (if_fits t at b)
-      by a b m true z = (makeable_object b.type m.0 (and_parts (is_integer a.type) (is_makeable b.type) z).1, m.1)
-      by a b m false z = tt
+  pub elements_good : (c e : Verdict Value) → Surely (λ v. IsKnownOperand v) c
+      → Surely (λ v. IsKnownOperand v) e → Surely (λ p. IsKnownOperand p.1) (both c e elements)
+  elements_good c e h k =
+      surely_both (λ v. IsKnownOperand v) (λ v. IsKnownOperand v) (λ (p : Value × Value). IsKnownOperand p.1) c e elements h k (λ a b l m. m)
 
-  pub array_there : (at : ℕ) (x : Goal) (v : Verdict Value) → Surely (λ w. IsElement w) v → IsKnownGoal x
+  array_below : (at : ℕ) (x : Goal) (c v : Value) → IsKnownOperand v → IsKnownGoal x → Surely (λ w. IsGoodValue g w) (array_made at x (c, v))
+  array_below at x c v h b =
+      surely_fits (λ w. IsGoodValue g w) (is_integer c.type && is_makeable v.type) at v.type (array_to at x)
+      (λ e. by x b (and_parts (is_integer c.type) (is_makeable v.type) e).1)
+    where
+      by : (x : Goal) → IsKnownGoal x → is_makeable v.type ≡ true → Surely (λ w. IsGoodValue g w) (array_to at x v.type)
+      by (To r) b e =
+          valued g (record { at = at; type = Fat r v.type; seat = Nowhere })
+          (record { type = makeable_object v.type h.0 e; below = (b, h.1); nowhere = refl })
+      by ToUnique b e = tt
+      by NoHandle b e = tt
+
+  pub array_there : (at : ℕ) (x : Goal) (v : Verdict (Value × Value)) → Surely (λ p. IsKnownOperand p.1) v → IsKnownGoal x
       → Surely (λ w. IsGoodValue g w) (with_goal at (Of x) v (array_made at))
   array_there at NoHandle v h b = absurd b
   array_there at ToUnique (Faulty c cs) h b = tt
   array_there at ToUnique Unjudged h b = absurd h
-  array_there at ToUnique (Of v) h b = tt
+  array_there at ToUnique (Of (c, v)) h b = array_below at ToUnique c v h b
   array_there at (To r) (Faulty c cs) h b = tt
   array_there at (To r) Unjudged h b = absurd h
-  array_there at (To r) (Of v) h b =
-      valued g (record { at = at; type = Fat r v.type; seat = Nowhere }) (record { type = h.0; below = (b, h.1); nowhere = refl })
+  array_there at (To r) (Of (c, v)) h b = array_below at (To r) c v h b
 
   -- count and element are judged in the region of the handle
   pub array_good : (at : ℕ) (goal : Verdict Goal) (x : Name) (c e : Expression) → Surely (λ y. IsGoal y) goal
       → ((y : Goal) → IsKnownGoal y
-      → Surely (λ w. IsElement w) (both (judge (inside (Of y) g) c) (judge (with_counter x (inside (Of y) g)) e) (elements at)))
+      → Surely (λ p. IsKnownOperand p.1) (both (judge (inside (Of y) g) c) (judge (with_counter x (inside (Of y) g)) e) elements))
       → Surely (λ w. IsGoodValue g w) (judge_made_in g at goal (Array x c e))
   array_good at (Faulty f fs) x c e h k =
       let inner : Env = inside (Faulty f fs) g in
-      goal_faulty at f fs (both (judge inner c) (judge (with_counter x inner) e) (elements at)) (array_made at)
+      goal_faulty at f fs (both (judge inner c) (judge (with_counter x inner) e) elements) (array_made at)
   array_good at Unjudged x c e h k = absurd h
   array_good at (Of (To r)) x c e h k =
       let inner : Env = inside (Of (To r)) g in
-      array_there at (To r) (both (judge inner c) (judge (with_counter x inner) e) (elements at)) (k (To r) h) h
+      array_there at (To r) (both (judge inner c) (judge (with_counter x inner) e) elements) (k (To r) h) h
   array_good at (Of ToUnique) x c e h k =
       let inner : Env = inside (Of ToUnique) g in
-      array_there at ToUnique (both (judge inner c) (judge (with_counter x inner) e) (elements at)) (k ToUnique tt) tt
+      array_there at ToUnique (both (judge inner c) (judge (with_counter x inner) e) elements) (k ToUnique tt) tt
   array_good at (Of NoHandle) x c e h k =
-      let inner : Env = inside (Of NoHandle) g in array_nowhere at (both (judge inner c) (judge (with_counter x inner) e) (elements at))
+      let inner : Env = inside (Of NoHandle) g in array_nowhere at (both (judge inner c) (judge (with_counter x inner) e) elements)
 
   pub handle_good : (e : Expression) → Surely (λ v. IsGoodValue g v) (judge g e) → Surely (λ x. IsGoal x) (goal_of false g (judge g e))
   handle_good e h =

@@ -5,6 +5,7 @@ use Rattle.cyc_tree.specs.declared.expression.Prefix.{Prefix}
 use Rattle.cyc_tree.specs.declared.expression.Prefix.TheVariants as prefix
 use Rattle.cyc_tree.specs.Tree as tree
 use Rattle.type_proof.specs.Entries.{AreObjects, IsObjectType}
+use Rattle.source_meaning.specs.Shapes.{MayBeNull, NeverNull, Reach}
 use Rattle.source_typing.specs.Named.{AllBelow, Below, TypeBelow}
 use Rattle.source_typing.specs.Conversions.{converts}
 use Rattle.source_typing.specs.Operators.{prefixed}
@@ -89,6 +90,8 @@ indexed_judged g a b w h = by a.type (is_integer b.type) w h
   where
     by : (t : StaticType) (i : Bool) → IsValueType t → TypeBelow g.regions.count t → Surely (λ v. IsGoodPlace g.regions.count v) (indexed_of g a.at t i)
     by (Fat r t) true w h = live_judged g.regions.count (is_live g r) a.at t r w h.1 h.0
+    by (Thin n r t) true w h = live_judged g.regions.count (is_live g r) a.at t r w h.1 h.0
+    by (Unique n t) true w h = record { type = w; below = h; seat = tt }
     by _ _ w h = tt
 
 -- ---- addresses
@@ -98,7 +101,7 @@ address_judged : (g : Env) (at : ℕ) (t : StaticType) (s : Seat) → (is_place 
     → SeatBelow g.regions.count s → Surely (λ v. IsGoodValue g v) (address_of at t s)
 address_judged g at t Nowhere w h k = tt
 address_judged g at t (In r) w h k =
-    valued g (record { at = at; type = Thin false r t; seat = Nowhere }) (record { type = w refl; below = (k, h); nowhere = refl })
+    valued g (record { at = at; type = Thin (NeverNull 1) r t; seat = Nowhere }) (record { type = w refl; below = (k, h); nowhere = refl })
 address_judged g at t InBlock w h k =
     valued g (record { at = at; type = Unique false t; seat = Nowhere }) (record { type = w refl; below = h; nowhere = refl })
 
@@ -182,7 +185,7 @@ arrow_live_judged : (g : Env) (x : tree.Name) (at : ℕ) (b : Bool) (r : Region)
 arrow_live_judged g x at true r tag rs h below k = part_judged g at (In r) tag rs x h below k
 arrow_live_judged g x at false r tag rs h below k = tt
 
-thin_arrow : (g : Env) (x : tree.Name) (at : ℕ) (n : Bool) (r : Region) (t : StaticType) → AllGood g.regions.count g.tables → IsObjectType t
+thin_arrow : (g : Env) (x : tree.Name) (at : ℕ) (n : Reach) (r : Region) (t : StaticType) → AllGood g.regions.count g.tables → IsObjectType t
     → TypeBelow g.regions.count t → Below g.regions.count r → Surely (λ v. IsGoodPlace g.regions.count v) (arrow_of g x at (Thin n r t))
 thin_arrow g x at n r Int h w b k = tt
 thin_arrow g x at n r Unsigned h w b k = tt
@@ -214,7 +217,7 @@ unique_arrow g x at n (Key q) h w b = tt
 unique_arrow g x at n (Union tag rs) h w b = tt
 
 -- through a fat pointer as through a thin one
-fat_arrow : (g : Env) (x : tree.Name) (at : ℕ) (r : Region) (t : StaticType) → arrow_of g x at (Fat r t) ≡ arrow_of g x at (Thin true r t)
+fat_arrow : (g : Env) (x : tree.Name) (at : ℕ) (r : Region) (t : StaticType) → arrow_of g x at (Fat r t) ≡ arrow_of g x at (Thin (MayBeNull 1) r t)
 fat_arrow g x at r (Struct tag rs) = refl
 fat_arrow g x at r _ = refl
 
@@ -227,7 +230,7 @@ arrow_judged g x at Void h w b = tt
 arrow_judged g x at Null h w b = tt
 arrow_judged g x at (Thin n r t) h w b = thin_arrow g x at n r t h w b.1 b.0
 arrow_judged g x at (Fat r t) h w b =
-    subst (λ v. Surely (λ w. IsGoodPlace g.regions.count w) v) (sym (fat_arrow g x at r t)) (thin_arrow g x at true r t h w b.1 b.0)
+    subst (λ v. Surely (λ w. IsGoodPlace g.regions.count w) v) (sym (fat_arrow g x at r t)) (thin_arrow g x at (MayBeNull 1) r t h w b.1 b.0)
 arrow_judged g x at (Unique n t) h w b = unique_arrow g x at n t h w b
 arrow_judged g x at (Handle r) h w b = tt
 arrow_judged g x at (Key r) h w b = tt

@@ -42,7 +42,7 @@ use Rattle.accepted_proof.proofs.FoundRegions.{AreAllFound, AreFound, base_argum
 use Rattle.accepted_proof.proofs.good.Names.{MeansGood, found_good}
 use Rattle.accepted_proof.proofs.Owners.{WritesChar, WritesInt, WritesUnsigned}
 use Rattle.accepted_proof.proofs.Sure.{surely_unless}
-use Rattle.accepted_proof.proofs.good.Pointers.{IsWritten, WritesKey, WritesObject, WritesNothing, IsPointed, HasUniqueFat, PointedIfSome, no_pointer}
+use Rattle.accepted_proof.proofs.good.Pointers.{IsWritten, WritesKey, WritesObject, WritesNothing, IsPointed, HasRefused, PointedIfSome, no_pointer}
 use Rattle.accepted_proof.proofs.good.Pointers.{all_pointed, found_region, struct_pointed, union_pointed, handle_pointed}
 
 -- ---- tags
@@ -107,7 +107,7 @@ tag_judged at union (Some OfOther) h = tt
 
 -- an object's type; and `void`, which has no pointers
 object_written : (left_open : Bool) (n : ℕ) (t : TypeName) (b : tree.Base) (o : Option PartialType)
-    → PointedIfSome (HasUniqueFat t.pointers) left_open n (pointed t.pointers (shapes.base_shape b)) o
+    → PointedIfSome (HasRefused t.pointers) left_open n (pointed t.pointers (shapes.base_shape b)) o
     → Surely (λ p. IsWritten left_open n (record { at = t.at; base = b; pointers = t.pointers }) p) (type_built t.at o)
 object_written left_open n t b None h = tt
 object_written left_open n t b (Some p) h = WritesObject (record { object = h.0.object; writes = h.0.writes })

@@ -3,6 +3,7 @@ use Rattle.std.proofs.Common.{◌≡◌, ℕ, Bool, true, false, Option, Some, N
 use Rattle.std.specs.Prelude.{◌+◌, ◌++◌}
 use Rattle.cyc_tree.specs.Tree as tree
 use Rattle.cyc_tree.specs.Tree.{Expression, TypeName}
+use Rattle.source_meaning.specs.Shapes.{single}
 use Rattle.source_meaning.specs.Shapes as shapes
 use Rattle.type_proof.proofs.statements.AliasScope.{aliasing, with_name_is}
 use Rattle.type_proof.proofs.statements.Exchanged.{same_is}
@@ -75,8 +76,8 @@ unique_operand g x h p =
 
 -- the type of an alias is its pointer's, with the next region for the unique one
 pub record IsAliasType (g : Env) (of : TypeName) (n : Bool) (to : StaticType) (v : Verdict StaticType) : Type 0 where
-  pub is : v ≡ Of (Thin n (next_region g) to)
-  pub shape : shapes.settled_by (shapes.written of) (shape_of (Unique n to)) ≡ shape_of (Thin n (next_region g) to)
+  pub is : v ≡ Of (Thin (single n) (next_region g) to)
+  pub shape : shapes.settled_by (shapes.written of) (shape_of (Unique n to)) ≡ shape_of (Thin (single n) (next_region g) to)
 
 wanted_is : (at : ℕ) (w t : StaticType) → faults_of (alias_fits at w t) ≡ [] → (t ≡ w) × (alias_fits at w t ≡ Of w)
 wanted_is at w t e = by (is_same t w) refl e
@@ -89,26 +90,26 @@ wanted_is at w t e = by (is_same t w) refl e
 -- with what is written of it, by the pointer's type
 alias_is : (g : Env) (of : TypeName) (n : Bool) (to : StaticType) (p : PartialType) → IsWritten true (g.regions.count + 1) of p → IsObjectType to
     → TypeBelow g.regions.count to
-    → faults_of (after (settled of.at p (Some (Unique n to))) (alias_fits of.at (Thin n (next_region g) to))) ≡ []
-    → IsAliasType g of n to (after (settled of.at p (Some (Unique n to))) (alias_fits of.at (Thin n (next_region g) to)))
+    → faults_of (after (settled of.at p (Some (Unique n to))) (alias_fits of.at (Thin (single n) (next_region g) to))) ≡ []
+    → IsAliasType g of n to (after (settled of.at p (Some (Unique n to))) (alias_fits of.at (Thin (single n) (next_region g) to)))
 alias_is g of n to p (WritesNothing v e) o b q =
-    absurd (no (subst (λ z. faults_of (after (settled of.at z (Some (Unique n to))) (alias_fits of.at (Thin n (next_region g) to))) ≡ []) e q))
+    absurd (no (subst (λ z. faults_of (after (settled of.at z (Some (Unique n to))) (alias_fits of.at (Thin (single n) (next_region g) to))) ≡ []) e q))
   where
-    no : faults_of (alias_fits of.at (Thin n (next_region g) to) Void) ≡ [] → ⊥
+    no : faults_of (alias_fits of.at (Thin (single n) (next_region g) to) Void) ≡ [] → ⊥
     no e = cc
 alias_is g of n to p (WritesKey w) o b q =
-    absurd (no (subst (λ z. faults_of (after (settled of.at z (Some (Unique n to))) (alias_fits of.at (Thin n (next_region g) to))) ≡ []) w.is q))
+    absurd (no (subst (λ z. faults_of (after (settled of.at z (Some (Unique n to))) (alias_fits of.at (Thin (single n) (next_region g) to))) ≡ []) w.is q))
   where
-    no : faults_of (alias_fits of.at (Thin n (next_region g) to) (Key (or_heap w.region))) ≡ [] → ⊥
+    no : faults_of (alias_fits of.at (Thin (single n) (next_region g) to) (Key (or_heap w.region))) ≡ [] → ⊥
     no e = cc
 alias_is g of n to p (WritesObject w) o b q =
     let m : ℕ = g.regions.count + 1 in
     let s : Option StaticType = Some (Unique n to) in
     let k : Surely (λ t. IsSettled m (shapes.written of) s t) (settled of.at p s) =
     object_settled true m of.at (shapes.written of) p s (λ e. absurd cc) w.object w.writes (o, type_up g.regions.count to b) in
-    let rule : StaticType → Verdict StaticType = alias_fits of.at (Thin n (next_region g) to) in
+    let rule : StaticType → Verdict StaticType = alias_fits of.at (Thin (single n) (next_region g) to) in
     let t = surely_is (λ t. IsSettled m (shapes.written of) s t) (settled of.at p s) k (after_clean (settled of.at p s) rule q) in
-    let f = wanted_is of.at (Thin n (next_region g) to) t.0 (subst (λ z. faults_of (after z rule) ≡ []) t.1 q) in
+    let f = wanted_is of.at (Thin (single n) (next_region g) to) t.0 (subst (λ z. faults_of (after z rule) ≡ []) t.1 q) in
     record {
       is = ap (λ z. after z rule) t.1 ∙ f.1;
       shape = subst (λ z. settled_from (shapes.written of) s ≡ shape_of z) f.0 t.2.shape;
@@ -139,7 +140,7 @@ module _ (g : Env) (h : IsGood g) (at : ℕ) (r : tree.RegionName) (of : TypeNam
       (after_clean (type_in_scope inside of) (rule (operand g p is_unique)) q) in
       let object : IsObjectType to = subst (λ z. IsValueType z) unique k.good.type in
       let below : TypeBelow g.regions.count to = subst (λ z. TypeBelow g.regions.count z) unique k.good.below in
-      let same : type_of_alias g inside of p ≡ after (settled of.at w.0 (Some (Unique n to))) (alias_fits of.at (Thin n (next_region g) to)) =
+      let same : type_of_alias g inside of p ≡ after (settled of.at w.0 (Some (Unique n to))) (alias_fits of.at (Thin (single n) (next_region g) to)) =
       ap (λ z. after z (rule (operand g p is_unique))) w.1
       ∙ (ap (λ z. rule z w.0) k.is
       ∙ ap (λ (t : StaticType). after (settled of.at w.0 (Some t)) (alias_fits of.at (aliased (next_region g) t))) unique) in
@@ -159,7 +160,7 @@ module _ (g : Env) (h : IsGood g) (at : ℕ) (r : tree.RegionName) (of : TypeNam
           let k : GoodOperand g p = unique_operand g p h c.1 in
           let n : Bool = k.held.nullable in
           let to : StaticType = k.held.to in
-          let t : StaticType = Thin n (next_region g) to in
+          let t : StaticType = Thin (single n) (next_region g) to in
           let types : IsAliasType g of n to (type_of_alias g inside of p) =
           type_is k (subst (λ y. faults_of (type_of_alias g y of p) ≡ []) same b.1) in
           let open_is : with_region r (with_name true) g ≡ inside = with_name_is r g in

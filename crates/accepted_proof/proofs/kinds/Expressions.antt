@@ -13,11 +13,11 @@ use Rattle.source_typing.specs.Operators.{applied, counted, prefixed, string_siz
 use Rattle.source_typing.specs.Places.{arrow, assigned, grouped, indexed, member}
 use Rattle.source_typing.specs.Regions.{TheHeap}
 use Rattle.source_typing.specs.Scope.{Env, Value, meant}
-use Rattle.source_typing.specs.Types.{integer_type, is_integer, is_makeable}
+use Rattle.source_typing.specs.Types.{integer_type}
 use Rattle.source_typing.specs.Verdicts.{Faulty, Of, Unjudged, Verdict, after, both}
-use Rattle.std.specs.Prelude.{Bool, true, false, ◌&&◌, length, nat_lt}
+use Rattle.std.specs.Prelude.{Bool, true, false, length, nat_lt}
 use Rattle.accepted_proof.specs.Good.{KnowsKinds, NamesStructs}
-use Rattle.accepted_proof.proofs.kinds.Perhaps.{Perhaps, perhaps_after, perhaps_both, perhaps_first, perhaps_fits, perhaps_made}
+use Rattle.accepted_proof.proofs.kinds.Perhaps.{Perhaps, perhaps_after, perhaps_both, perhaps_first, perhaps_made}
 use Rattle.accepted_proof.proofs.kinds.Phrases.{TargetNames, ValueNames, applied_named, array_named, arrow_named, assigned_named, called_named, counted_named}
 use Rattle.accepted_proof.proofs.kinds.Phrases.{indexed_named, made_named, meant_named, member_named, prefixed_named, target_named, tested_named, union_named}
 use Rattle.accepted_proof.proofs.kinds.Phrases.{variable_named}
@@ -72,10 +72,9 @@ module _ (P : List ℕ → Type 0) where
   suffixes_named g v (Dot f es) k h = suffixes_named g (after v (member g f)) es k (dot_named g f v k h)
   suffixes_named g v (Arrow f es) k h = suffixes_named g (after v (arrow g f)) es k (lead_named g f v k h)
 
-  elements_named : (at : ℕ) (v w : Verdict Value) → Named w → Named (both v w (elements at))
-  elements_named at v w h =
-      perhaps_both (λ a. Unit {0}) (λ a. ValueNames P a) (λ a. ValueNames P a) v w (elements at) (always v) h
-      (λ a b p q. perhaps_fits (λ c. ValueNames P c) (is_integer a.type && is_makeable b.type) at b q)
+  elements_named : (v w : Verdict Value) → Named w → Perhaps (λ p. ValueNames P p.1) (both v w elements)
+  elements_named v w h =
+      perhaps_both (λ a. Unit {0}) (λ a. ValueNames P a) (λ (p : Value × Value). ValueNames P p.1) v w elements (always v) h (λ a b p q. q)
     where
       always : (v : Verdict Value) → Perhaps (λ a. Unit {0}) v
       always (Of a) = tt
@@ -114,10 +113,10 @@ module _ (P : List ℕ → Type 0) where
         perhaps_made (λ a. ValueNames P a) (λ a. ValueNames P a) at (Of (To TheHeap))
         (judge g e) (made at) (expression_named e g k) (λ x a p. made_named P at x a p)
     expression_named (Expression.New at (Array x n e)) g k =
-        perhaps_made (λ a. ValueNames P a) (λ a. ValueNames P a) at (Of (To TheHeap))
-        (both (judge g n) (judge (with_counter x g) e) (elements at)) (array_made at)
-        (elements_named at (judge g n) (judge (with_counter x g) e) (expression_named e (with_counter x g) (counter_known P x g k)))
-        (λ y a p. array_named P at y a p)
+        perhaps_made (λ (p : Value × Value). ValueNames P p.1) (λ a. ValueNames P a) at (Of (To TheHeap))
+        (both (judge g n) (judge (with_counter x g) e) elements) (array_made at)
+        (elements_named (judge g n) (judge (with_counter x g) e) (expression_named e (with_counter x g) (counter_known P x g k)))
+        (λ y p q. array_named P at y p.0 p.1 q)
     expression_named (Expression.NewIn at h (One e)) g k =
         let goal : Verdict Goal = goal_of (is_unique_region h) g (judge g h) in
         perhaps_made (λ a. ValueNames P a) (λ a. ValueNames P a) at goal (judge (inside goal g) e) (made at)
@@ -125,10 +124,10 @@ module _ (P : List ℕ → Type 0) where
     expression_named (Expression.NewIn at h (Array x n e)) g k =
         let goal : Verdict Goal = goal_of (is_unique_region h) g (judge g h) in
         let inner : Env = inside goal g in
-        perhaps_made (λ a. ValueNames P a) (λ a. ValueNames P a) at goal (both (judge inner n) (judge (with_counter x inner) e) (elements at)) (array_made at)
-        (elements_named at (judge inner n) (judge (with_counter x inner) e)
+        perhaps_made (λ (p : Value × Value). ValueNames P p.1) (λ a. ValueNames P a) at goal (both (judge inner n) (judge (with_counter x inner) e) elements) (array_made at)
+        (elements_named (judge inner n) (judge (with_counter x inner) e)
         (expression_named e (with_counter x inner) (counter_known P x inner (inside_known P goal g k))))
-        (λ y a p. array_named P at y a p)
+        (λ y p q. array_named P at y p.0 p.1 q)
     expression_named (Expression.Chain e es) g k = links_named g (judge g e) es (expression_named e g k)
     expression_named (Expression.AllOf e es) g k = tests_named g (judge g e) es (expression_named e g k)
     expression_named (Expression.AnyOf e es) g k = tests_named g (judge g e) es (expression_named e g k)

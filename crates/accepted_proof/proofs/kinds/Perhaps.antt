@@ -77,8 +77,8 @@ perhaps_sound P true v h = h
 perhaps_sound P false v h = tt
 
 -- a making, wherever it is
-pub perhaps_made : (P Q : Value → Type 0) (at : ℕ) (goal : Verdict Goal) (v : Verdict Value) (rule : Goal → Value → Verdict Value) → Perhaps P v
-    → ((x : Goal) (a : Value) → P a → Perhaps Q (rule x a)) → Perhaps Q (with_goal at goal v rule)
+pub perhaps_made : {A : Type 0} (P : A → Type 0) (Q : Value → Type 0) (at : ℕ) (goal : Verdict Goal) (v : Verdict A) (rule : Goal → A → Verdict Value)
+    → Perhaps P v → ((x : Goal) (a : A) → P a → Perhaps Q (rule x a)) → Perhaps Q (with_goal at goal v rule)
 perhaps_made P Q at (Faulty f fs) (Faulty g gs) rule h k = tt
 perhaps_made P Q at (Faulty f fs) Unjudged rule h k = tt
 perhaps_made P Q at (Faulty f fs) (Of a) rule h k = tt

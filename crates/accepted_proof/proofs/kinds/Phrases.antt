@@ -10,7 +10,7 @@ use Rattle.source_typing.specs.Calls.{Target, ToBuiltin, ToFunction, ToStruct, a
 use Rattle.source_typing.specs.Calls.{part_types, target, target_of_tag, typed_result, union_made}
 use Rattle.source_typing.specs.Conversions.{converts}
 use Rattle.source_typing.specs.Faults.{effect_rule, outlives_rule, region_rule, test}
-use Rattle.source_typing.specs.Making.{Goal, NoHandle, To, ToUnique, array_made, made, made_to}
+use Rattle.source_typing.specs.Making.{Goal, NoHandle, To, ToUnique, array_made, array_to, made, made_to}
 use Rattle.source_typing.specs.Operators.{applied_to, common, compared, compared_thin, counted, fat_moved, if_equality, integers_joined, is_equality, is_fat}
 use Rattle.source_typing.specs.Operators.{is_move, on_integers, prefixed, promoted, signed, tested_both}
 use Rattle.source_typing.specs.Places.{address_of, arrow_live, arrow_of, assigned, assigned_in, assigned_type, contents_of, if_copyable, in_live, indexed}
@@ -204,6 +204,8 @@ module _ (P : List ℕ → Type 0) where
     where
       by : (t : StaticType) (i : Bool) → NamesStructs P t → Named (indexed_of g a.at t i)
       by (Fat r t) true h = live_named (is_live g r) a.at t r h
+      by (Thin n r t) true h = live_named (is_live g r) a.at t r h
+      by (Unique n t) true h = h
       by _ _ h = tt
 
   pub part_named : (at : ℕ) (s : Seat) (rs : List Region) (place : ℕ) (x : List ℕ) (ps : List Part) → PartsName P ps
@@ -279,7 +281,10 @@ module _ (P : List ℕ → Type 0) where
       by ToUnique = h
       by NoHandle = tt
 
-  pub array_named : (at : ℕ) (x : Goal) (v : Value) → ValueNames P v → Named (array_made at x v)
-  array_named at (To r) v h = h
-  array_named at ToUnique v h = tt
-  array_named at NoHandle v h = tt
+  pub array_named : (at : ℕ) (x : Goal) (c v : Value) → ValueNames P v → Named (array_made at x (c, v))
+  array_named at x c v h = perhaps_fitting (λ a. ValueNames P a) (is_integer c.type && is_makeable v.type) at v.type (array_to at x) (by x)
+    where
+      by : (x : Goal) → Named (array_to at x v.type)
+      by (To r) = h
+      by ToUnique = tt
+      by NoHandle = tt

@@ -1,10 +1,11 @@
 -- Types as they are written: each struct that one names has a struct's tag, where the tables know which tags are structs'.
-use Rattle.std.proofs.Common.{◌≡◌, ℕ, zero, suc, Bool, true, false, Option, Some, None, List, [], ◌∷◌, refl, sym, subst}
-use Rattle.std.specs.Prelude.{◌&&◌, ◌++◌, ◌||◌, map, not}
+use Rattle.std.proofs.Common.{nat_eq, ◌≡◌, ℕ, zero, suc, Bool, true, false, Option, Some, None, List, [], ◌∷◌, refl, sym, subst}
+use Rattle.std.specs.Prelude.{◌&&◌, ◌++◌, ◌||◌, if◌then◌else◌, map, not}
 use Rattle.cyc_tree.specs.declared.name.Sign.{Sign}
 use Rattle.cyc_tree.specs.declared.name.Sign.TheVariants as sign
 use Rattle.cyc_tree.specs.Tree as tree
 use Rattle.cyc_tree.specs.Tree.{Pointer, TypeName}
+use Rattle.source_meaning.specs.Shapes.{Reach, MayBeNull, NeverNull, may_be_null, number_of}
 use Rattle.source_typing.specs.Declarations.{can_be, fitting, fitting_local, if_sized, local_type, misses_region, set_type, stands_earlier, taken_from}
 use Rattle.source_typing.specs.Declarations.{tags_in_scope, type_in_scope, unset_type}
 use Rattle.source_typing.specs.Extents.{fits_bytes, variable_size}
@@ -12,7 +13,7 @@ use Rattle.source_typing.specs.Faults.{Fault}
 use Rattle.source_typing.specs.Functions.{AllSpotted, Variables, fits_parameter, if_parameter, if_result, parameter_type, read_parameters, result_type}
 use Rattle.source_typing.specs.Functions.{take_spots}
 use Rattle.source_typing.specs.Globals.{count_of, fitting_global, foreign_names, global_type, has_none}
-use Rattle.source_typing.specs.Missing.{as_type, fat_with, filled_from, or_found, outer_region, pointee_of, settled, thin_with, unique_with}
+use Rattle.source_typing.specs.Missing.{alone_with, as_type, fat_with, filled_from, or_found, outer_region, pointee_of, settled, thin_with, unique_with}
 use Rattle.source_typing.specs.Regions.{Region}
 use Rattle.source_typing.specs.Scope.{Env, Value, meant}
 use Rattle.source_typing.specs.Tables.{Entry, OfBuiltin, OfFunction, OfOther, OfTag, OfValue, Tables, Tag, find, has_beginning}
@@ -21,7 +22,7 @@ use Rattle.source_typing.specs.Types.{Char, Fat, Handle, Int, Key, PartialType, 
 use Rattle.source_typing.specs.Types.{is_void, same_bool}
 use Rattle.source_typing.specs.Verdicts.{Faulty, Of, Unjudged, Verdict, after, known}
 use Rattle.source_typing.specs.Written.{Found, Is, IsUnique, Missing, RegionNamed, all_found, as_region, base_of, built, count_fits, counted_type, of_kind}
-use Rattle.source_typing.specs.Written.{pointer_to, pointers_to, spots_of, tag_of, type_built, with_arguments, written, written_on, written_with}
+use Rattle.source_typing.specs.Written.{pointer_to, pointers_to, spots_of, tag_of, thin_to, type_built, with_arguments, written, written_on, written_with}
 use Rattle.accepted_proof.specs.Good.{KnowsKinds, MeansNamed, NamesStructs}
 use Rattle.accepted_proof.proofs.kinds.Perhaps.{Perhaps, perhaps_after, perhaps_fits, perhaps_fitting, perhaps_sound, perhaps_unless}
 use Rattle.accepted_proof.proofs.kinds.Phrases.{meant_named}
@@ -55,18 +56,27 @@ module _ (P : List ℕ → Type 0) where
 
   -- ---- what is built
 
+  if_named : {R : Type 0} (b : Bool) (t : TypeIn R) → NamesStructs P t → IfNamed (if b then Some t else None)
+  if_named true t h = h
+  if_named false t h = tt
+
+  if_not_named : {R : Type 0} (b : Bool) (t : TypeIn R) → NamesStructs P t → IfNamed (if b then None else Some t)
+  if_not_named true t h = tt
+  if_not_named false t h = h
+
+  thin_to_named : (bound : Reach) (f : Found) (t : PartialType) → NamesStructs P t → IfNamed (thin_to bound f t)
+  thin_to_named bound IsUnique t h = if_named (nat_eq (number_of bound) 1) (Unique (may_be_null bound) t) h
+  thin_to_named bound (Is r) t h = if_not_named (nat_eq (number_of bound) 0) (Thin bound (as_region (Is r)) t) h
+  thin_to_named bound Missing t h = if_not_named (nat_eq (number_of bound) 0) (Thin bound (as_region Missing) t) h
+
   pointer_named : (s : Sign) (f : Found) (t : PartialType) → NamesStructs P t → IfNamed (pointer_to s f t)
   pointer_named s f Void h = tt
   pointer_named s f (Key r) h = tt
   pointer_named sign.Fat IsUnique _ h = tt
   pointer_named sign.Fat (Is r) _ h = h
   pointer_named sign.Fat Missing _ h = h
-  pointer_named sign.Nullable IsUnique _ h = h
-  pointer_named sign.Nullable (Is r) _ h = h
-  pointer_named sign.Nullable Missing _ h = h
-  pointer_named sign.NotNull IsUnique _ h = h
-  pointer_named sign.NotNull (Is r) _ h = h
-  pointer_named sign.NotNull Missing _ h = h
+  pointer_named (sign.Nullable count) f t h = thin_to_named (MayBeNull count) f t h
+  pointer_named (sign.NotNull count) f t h = thin_to_named (NeverNull count) f t h
 
   pointers_named : (ps : List Pointer) (fs : List Found) (o : Option PartialType) → IfNamed o → IfNamed (pointers_to ps fs o)
   pointers_named [] fs o h = h
@@ -149,10 +159,14 @@ module _ (P : List ℕ → Type 0) where
 
   -- ---- missing regions
 
-  thin_named : (n : Bool) (f : Found) (o : Option StaticType) → IfNamed o → IfNamed (thin_with n f o)
+  alone_one_named : (one : Bool) (n : Reach) (t : StaticType) → NamesStructs P t → IfNamed (alone_with one n t)
+  alone_one_named true n t h = h
+  alone_one_named false n t h = tt
+
+  thin_named : (n : Reach) (f : Found) (o : Option StaticType) → IfNamed o → IfNamed (thin_with n f o)
   thin_named n f None h = tt
   thin_named n (Is r) (Some t) h = h
-  thin_named n IsUnique (Some t) h = h
+  thin_named n IsUnique (Some t) h = alone_one_named (nat_eq (number_of n) 1) n t h
   thin_named n Missing (Some t) h = h
 
   fat_named : (f : Found) (o : Option StaticType) → IfNamed o → IfNamed (fat_with f o)

@@ -8,6 +8,7 @@ use Rattle.source_lowering.specs.Lowerable.{HasBeginning, IsOperandShape, Takes,
 use Rattle.source_lowering.specs.Lowerable.{TakesValue, TakesWhole}
 use Rattle.source_lowering.specs.Lowered.{Named, static_shape}
 use Rattle.source_lowering.specs.Programs.{named_here, names_behind}
+use Rattle.source_meaning.specs.Shapes.{single}
 use Rattle.source_meaning.specs.Shapes as shapes
 use Rattle.source_meaning.specs.Shapes.{ArrayShape, Shape, settled, settled_by, written}
 use Rattle.source_meaning.specs.Steps.{World}
@@ -207,7 +208,7 @@ module _ (w : World) where
   alias_takes names index g at r u x y scope j k =
       let n : Bool = j.operand.nullable in
       let to : StaticType = j.operand.to in
-      let t : StaticType = Thin n (next_region g) to in
+      let t : StaticType = Thin (single n) (next_region g) to in
       let known : IsKnown w (shape_of to) = subst (λ (z : StaticType). IsKnownValue w z) j.operand.is k.known in
       let word : TakenWord w names (Expression.Variable y) (Unique n to) =
       subst (λ (z : StaticType). TakenAs w names z (Expression.Variable y)) j.operand.is k.value in

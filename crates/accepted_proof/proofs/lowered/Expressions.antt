@@ -7,6 +7,7 @@ use Rattle.cyc_tree.specs.Tree.{One, Suffixes}
 use Rattle.source_lowering.specs.Lowerable.{IsOperandShape, Takes}
 use Rattle.source_lowering.specs.Lowered.{Named, named_shape, number_named, static_shape, valued}
 use Rattle.source_lowering.specs.Pieces.{owner_in}
+use Rattle.source_meaning.specs.Shapes.{NeverNull}
 use Rattle.source_meaning.specs.Calls.{number_type}
 use Rattle.source_meaning.specs.Expressions.{is_unique_region}
 use Rattle.source_meaning.specs.Memory.{IntegerType, AsInt, AsUnsigned, AsChar}
@@ -15,7 +16,7 @@ use Rattle.source_meaning.specs.Shapes.{Shape, ThinShape, UnsignedShape}
 use Rattle.source_meaning.specs.Steps.{World}
 use Rattle.source_typing.specs.Expressions.{judge, judge_all, judge_links, judge_suffixes, judge_tests}
 use Rattle.source_typing.specs.Fixing.{more}
-use Rattle.source_typing.specs.Making.{Goal, To, ToUnique, array_made, elements, goal_of, handled, inside, made, with_counter}
+use Rattle.source_typing.specs.Making.{Goal, To, ToUnique, array_made, goal_of, handled, inside, made, with_counter}
 use Rattle.source_typing.specs.Operators.{applied, counted, is_fat, tested_both}
 use Rattle.source_typing.specs.Places.{grouped, variable}
 use Rattle.source_typing.specs.Regions.{TheHeap}
@@ -23,10 +24,11 @@ use Rattle.source_typing.specs.Scope.{Env, In, Value, meant}
 use Rattle.source_typing.specs.Tables.{Arrayed, Counter, Entry, OfBuiltin, OfFunction, OfOther, OfTag, OfValue, Stored, Unknown}
 use Rattle.source_typing.specs.Types.{Char, Fat, Handle, Null, StaticType, Unsigned, integer_type, shape_of}
 use Rattle.source_typing.specs.Verdicts.{Of, Verdict, both, other_kind}
-use Rattle.source_typing.proofs.Inversion.{after_is, assign_is, both_is, call_is, goal_is, links_first, of_is, prefix_is, suffixes_first, tests_first}
+use Rattle.source_typing.proofs.Inversion.{after_is, array_is, assign_is, both_is, call_is, goal_is, links_first, of_is, prefix_is, suffixes_first, tests_first}
 use Rattle.source_typing.proofs.OperatorsFit.{applied_to_is, counted_is}
 use Rattle.type_proof.proofs.expressions.FatForms.{text_valued}
 use Rattle.type_proof.proofs.expressions.Makings.{Handled, array_handled, handled_is}
+use Rattle.type_proof.proofs.expressions.Single.{no_array_alone}
 use Rattle.type_proof.proofs.expressions.WordRules.{Valued, value_of}
 use Rattle.accepted_proof.proofs.Known.{IsKnownValue, IsWord, known_value}
 use Rattle.accepted_proof.proofs.lowered.Forms.{IsKnownScope, IsTaken, TakenWord, taken_grouped, taken_place, taken_word, valued_type, word_is}
@@ -118,8 +120,8 @@ module _ (w : World) (names : List Named) (g : Env) (scope : IsKnownScope w name
   unique_takes _ q = absurd cc
 
   owned_by : (e h : Expression) (b : Bool) → is_unique_region h ≡ b
-      → ThinShape false (owner_in (is_unique_region h)) (static_shape w names e) ≡ ThinShape false (owner_in b) (static_shape w names e)
-  owned_by e h b q = ap (λ (c : Bool). ThinShape false (owner_in c) (static_shape w names e)) q
+      → ThinShape (NeverNull 1) (owner_in (is_unique_region h)) (static_shape w names e) ≡ ThinShape (NeverNull 1) (owner_in b) (static_shape w names e)
+  owned_by e h b q = ap (λ (c : Bool). ThinShape (NeverNull 1) (owner_in c) (static_shape w names e)) q
 
   made_in_taken : (at : ℕ) (h e : Expression) (b : Bool) → is_unique_region h ≡ b → (x : Goal) (a v : Value) → goal_of b g (judge g h) ≡ Of x
       → ((y : Value) → judge g h ≡ Of y → Is h y) → Is e a → made at x a ≡ Of v → Is (Expression.NewIn at h (One e)) v
@@ -134,19 +136,15 @@ module _ (w : World) (names : List Named) (g : Env) (scope : IsKnownScope w name
       (λ n. (handle.takes, n)) (owned_by e h false shared) (λ z. z)
 
   -- an array isn't made in the unique region
-  array_in_taken : (at : ℕ) (h : Expression) (x : Name) (n e : Expression) (u : Bool) (to : Goal) (c a b v : Value) → goal_of u g (judge g h) ≡ Of to
-      → ((y : Value) → judge g h ≡ Of y → Is h y) → Is n c → ((t : ℕ) → IsTaken w (number_named x.text t ∷ names) e a) → elements at c a ≡ Of b
-      → array_made at to b ≡ Of v → Is (Expression.NewIn at h (Array x n e)) v
-  array_in_taken at h x n e true to c a b v q k i l m p =
-      absurd (never (subst (λ (z : Goal). array_made at z b ≡ Of v) (sym (of_is ToUnique to q)) p))
-    where
-      never : array_made at ToUnique b ≡ Of v → ⊥
-      never z = cc
-  array_in_taken at h x n e false to c a b v q k i l m p =
+  array_in_taken : (at : ℕ) (h : Expression) (x : Name) (n e : Expression) (u : Bool) (to : Goal) (c a v : Value) → goal_of u g (judge g h) ≡ Of to
+      → ((y : Value) → judge g h ≡ Of y → Is h y) → Is n c → ((t : ℕ) → IsTaken w (number_named x.text t ∷ names) e a)
+      → array_made at to (c, a) ≡ Of v → Is (Expression.NewIn at h (Array x n e)) v
+  array_in_taken at h x n e true to c a v q k i l p = absurd (no_array_alone at to c a v q p)
+  array_in_taken at h x n e false to c a v q k i l p =
       let y = after_is (judge g h) (handled g) to q in
-      let d : Handled g (y.0).type to = array_handled g (y.0).at at (y.0).type to b v y.2 p in
+      let d : Handled g (y.0).type to = array_handled g (y.0).at at (y.0).type to c a v y.2 p in
       let handle : TakenWord w names h (y.0).type = word_is w names (y.0).type h (subst (λ u. IsWord u) (sym d.is) tt) (k y.0 y.1).value in
-      array_taken w names (Expression.NewIn at h (Array x n e)) at d.region x n e c a b v i l m (subst (λ (z : Goal). array_made at z b ≡ Of v) d.goal p)
+      array_taken w names (Expression.NewIn at h (Array x n e)) at d.region x n e c a v i l (subst (λ (z : Goal). array_made at z (c, a) ≡ Of v) d.goal p)
       (λ o. (handle.takes, o)) refl (λ z. z)
 
 -- ---- all of them
@@ -203,11 +201,10 @@ module _ (w : World) where
         (subst (λ (y : Goal). made at y z.1 ≡ Of v) (sym (of_is (To TheHeap) z.0 z.2)) z.4) (λ y. y) refl (λ y. y)
     taken_is names g scope (Expression.New at (Array x n e)) v own p =
         let inner : Env = with_counter x g in
-        let z = goal_is at (Of (To TheHeap)) (both (judge g n) (judge inner e) (elements at)) (array_made at) v p in
-        let y = both_is (judge g n) (judge inner e) (elements at) z.1 z.3 in
-        array_taken w names (Expression.New at (Array x n e)) at TheHeap x n e y.0 y.1 z.1 v (taken_is names g scope n y.0 own.0 y.2)
-        (λ m. taken_is (number_named x.text m ∷ names) inner (scope_counter w names g x m scope) e y.1 own.1 y.3) y.4
-        (subst (λ (q : Goal). array_made at q z.1 ≡ Of v) (sym (of_is (To TheHeap) z.0 z.2)) z.4) (λ q. q) refl (λ q. q)
+        let z = array_is at (Of (To TheHeap)) (judge g n) (judge inner e) v p in
+        array_taken w names (Expression.New at (Array x n e)) at TheHeap x n e z.1 z.2 v (taken_is names g scope n z.1 own.0 z.4)
+        (λ m. taken_is (number_named x.text m ∷ names) inner (scope_counter w names g x m scope) e z.2 own.1 z.5)
+        (subst (λ (q : Goal). array_made at q (z.1, z.2) ≡ Of v) (sym (of_is (To TheHeap) z.0 z.3)) z.6) (λ q. q) refl (λ q. q)
     taken_is names g scope (Expression.NewIn at h (One e)) v own p =
         let goal : Verdict Goal = goal_of (is_unique_region h) g (judge g h) in
         let z = goal_is at goal (judge (inside goal g) e) (made at) v p in
@@ -218,11 +215,10 @@ module _ (w : World) where
         let within : Env = inside goal g in
         let inner : Env = with_counter x within in
         let known : IsKnownScope w names within = scope_inside w names goal g scope in
-        let z = goal_is at goal (both (judge within n) (judge inner e) (elements at)) (array_made at) v p in
-        let u = both_is (judge within n) (judge inner e) (elements at) z.1 z.3 in
-        array_in_taken w names g scope at h x n e (is_unique_region h) z.0 u.0 u.1 z.1 v z.2 (λ y q. taken_is names g scope h y own.0 q)
-        (taken_is names within known n u.0 own.1.0 u.2)
-        (λ m. taken_is (number_named x.text m ∷ names) inner (scope_counter w names within x m known) e u.1 own.1.1 u.3) u.4 z.4
+        let z = array_is at goal (judge within n) (judge inner e) v p in
+        array_in_taken w names g scope at h x n e (is_unique_region h) z.0 z.1 z.2 v z.3 (λ y q. taken_is names g scope h y own.0 q)
+        (taken_is names within known n z.1 own.1.0 z.4)
+        (λ m. taken_is (number_named x.text m ∷ names) inner (scope_counter w names within x m known) e z.2 own.1.1 z.5) z.6
     taken_is names g scope (Expression.Chain e NoLinks) v own p = absurd own.0
     taken_is names g scope (Expression.Chain e (MoreLinks o y es)) v own p =
         let f = links_first g (judge g e) (MoreLinks o y es) v p in

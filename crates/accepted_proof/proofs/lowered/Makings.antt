@@ -5,16 +5,17 @@ use Rattle.std.proofs.lemmas.Bool.{and_parts}
 use Rattle.cyc_tree.specs.Tree.{Array, Expression, Name, One}
 use Rattle.source_lowering.specs.Lowerable.{IsOperandShape, IsObject, Takes, TakesDropped, TakesMember, TakesNew, TakesRun, TakesWhole}
 use Rattle.source_lowering.specs.Lowered.{Named, number_named, static_shape}
+use Rattle.source_meaning.specs.Shapes.{NeverNull}
 use Rattle.source_meaning.specs.Shapes as shapes
 use Rattle.source_meaning.specs.Shapes.{FatShape, Owner, ThinShape}
 use Rattle.source_meaning.specs.Steps.{World}
-use Rattle.source_typing.specs.Making.{To, ToUnique, array_made, elements, made, made_to}
+use Rattle.source_typing.specs.Making.{To, ToUnique, array_made, made, made_to}
 use Rattle.source_typing.specs.Regions.{Region}
 use Rattle.source_typing.specs.Scope.{Value}
 use Rattle.source_typing.specs.Types.{Char, Fat, Handle, Int, Key, Null, StaticType, Struct, Thin, Union, Unique, Unsigned, Void, is_integer, is_makeable}
 use Rattle.source_typing.specs.Types.{shape_of}
 use Rattle.source_typing.specs.Verdicts.{Of, after, if_fits}
-use Rattle.source_typing.proofs.Inversion.{fits_is, of_is}
+use Rattle.type_proof.proofs.expressions.Filled.{array_there}
 use Rattle.type_proof.proofs.expressions.Makings.{made_there}
 use Rattle.type_proof.proofs.expressions.WordRules.{Valued, value_of}
 use Rattle.accepted_proof.proofs.Known.{IsKnown, IsKnownValue, IsWord, integer_word, known_object, word_shape}
@@ -84,26 +85,26 @@ module _ (w : World) (names : List Named) where
 
   -- a thin pointer to what is made
   thin_taken : (x e : Expression) (a v : Value) (o : Owner) (t : StaticType) → IsTaken w names e a → is_makeable a.type ≡ true → Valued v t → IsWord t
-      → shape_of t ≡ ThinShape false o (shape_of a.type) → (IsKnown w (shape_of a.type) → IsKnownValue w t) → (TakesNew w names (One e) → Takes w names x)
-      → static_shape w names x ≡ ThinShape false o (static_shape w names e)
+      → shape_of t ≡ ThinShape (NeverNull 1) o (shape_of a.type) → (IsKnown w (shape_of a.type) → IsKnownValue w t) → (TakesNew w names (One e) → Takes w names x)
+      → static_shape w names x ≡ ThinShape (NeverNull 1) o (static_shape w names e)
       → (TakesDropped w names (static_shape w names x) x → TakesRun w names x) → IsTaken w names x v
   thin_taken x e a v o t h m d i to known takes shape run =
       let n : NewTaken e a.type = value_made e a.type m h.known h.value in
-      let stands : StandsAs (ThinShape false o (static_shape w names e)) (ThinShape false o (shape_of a.type)) = ThinAs (λ z. z) n.shape in
+      let stands : StandsAs (ThinShape (NeverNull 1) o (static_shape w names e)) (ThinShape (NeverNull 1) o (shape_of a.type)) = ThinAs (λ z. z) n.shape in
       taken_word w names x v t d.type (no_place v d.seat) i (known n.known)
       (record {
         takes = takes n.takes;
-        shape = stands_from (static_shape w names x) (ThinShape false o (static_shape w names e)) (shape_of t) shape
-            (stands_to (ThinShape false o (static_shape w names e)) (ThinShape false o (shape_of a.type)) (shape_of t) stands (sym to));
+        shape = stands_from (static_shape w names x) (ThinShape (NeverNull 1) o (static_shape w names e)) (shape_of t) shape
+            (stands_to (ThinShape (NeverNull 1) o (static_shape w names e)) (ThinShape (NeverNull 1) o (shape_of a.type)) (shape_of t) stands (sym to));
       }) run
 
   -- a making in a region
   pub making_taken : (x : Expression) (at : ℕ) (r : Region) (e : Expression) (a v : Value) → IsTaken w names e a → made at (To r) a ≡ Of v
-      → (TakesNew w names (One e) → Takes w names x) → static_shape w names x ≡ ThinShape false shapes.Shared (static_shape w names e)
+      → (TakesNew w names (One e) → Takes w names x) → static_shape w names x ≡ ThinShape (NeverNull 1) shapes.Shared (static_shape w names e)
       → (TakesDropped w names (static_shape w names x) x → TakesRun w names x) → IsTaken w names x v
   making_taken x at r e a v h q takes shape run =
-      let d : (is_makeable a.type ≡ true) × Valued v (Thin false r a.type) = made_there (is_makeable a.type) at r a.type v q in
-      thin_taken x e a v shapes.Shared (Thin false r a.type) h d.0 d.1 tt refl (λ k. k) takes shape run
+      let d : (is_makeable a.type ≡ true) × Valued v (Thin (NeverNull 1) r a.type) = made_there (is_makeable a.type) at r a.type v q in
+      thin_taken x e a v shapes.Shared (Thin (NeverNull 1) r a.type) h d.0 d.1 tt refl (λ k. k) takes shape run
 
   made_alone : (c : Bool) (at : ℕ) (t : StaticType) (v : Value) → after (if_fits c at t) (made_to at ToUnique) ≡ Of v
       → (c ≡ true) × Valued v (Unique false t)
@@ -112,7 +113,7 @@ module _ (w : World) (names : List Named) where
 
   -- and in the unique region
   pub unique_making_taken : (x : Expression) (at : ℕ) (e : Expression) (a v : Value) → IsTaken w names e a → made at ToUnique a ≡ Of v
-      → (TakesNew w names (One e) → Takes w names x) → static_shape w names x ≡ ThinShape false shapes.Alone (static_shape w names e)
+      → (TakesNew w names (One e) → Takes w names x) → static_shape w names x ≡ ThinShape (NeverNull 1) shapes.Alone (static_shape w names e)
       → (TakesDropped w names (static_shape w names x) x → TakesRun w names x) → IsTaken w names x v
   unique_making_taken x at e a v h q takes shape run =
       let d : (is_makeable a.type ≡ true) × Valued v (Unique false a.type) = made_alone (is_makeable a.type) at a.type v q in
@@ -120,15 +121,16 @@ module _ (w : World) (names : List Named) where
 
 module _ (w : World) (names : List Named) where
   -- an array in a region: its element is taken whichever temporary has the index
-  pub array_taken : (x : Expression) (at : ℕ) (r : Region) (index : Name) (n e : Expression) (c a b v : Value) → IsTaken w names n c
-      → ((t : ℕ) → IsTaken w (number_named index.text t ∷ names) e a) → elements at c a ≡ Of b → array_made at (To r) b ≡ Of v
+  pub array_taken : (x : Expression) (at : ℕ) (r : Region) (index : Name) (n e : Expression) (c a v : Value) → IsTaken w names n c
+      → ((t : ℕ) → IsTaken w (number_named index.text t ∷ names) e a) → array_made at (To r) (c, a) ≡ Of v
       → (TakesNew w names (Array index n e) → Takes w names x)
       → static_shape w names x ≡ FatShape (static_shape w (number_named index.text 0 ∷ names) e)
       → (TakesDropped w names (static_shape w names x) x → TakesRun w names x) → IsTaken w names x v
-  array_taken x at r index n e c a b v h i p q takes shape run =
-      let z : (is_integer c.type && is_makeable a.type ≡ true) × (Of a ≡ Of b) = fits_is (is_integer c.type && is_makeable a.type) at a b p in
+  array_taken x at r index n e c a v h i p takes shape run =
+      let z : (is_integer c.type && is_makeable a.type ≡ true) × Valued v (Fat r a.type) =
+      array_there (is_integer c.type && is_makeable a.type) at r a.type v p in
       let fits : (is_integer c.type ≡ true) × (is_makeable a.type ≡ true) = and_parts (is_integer c.type) (is_makeable a.type) z.0 in
-      let d : Valued v (Fat r a.type) = value_of at (Fat r a.type) v (subst (λ (y : Value). array_made at (To r) y ≡ Of v) (sym (of_is a b z.1)) q) in
+      let d : Valued v (Fat r a.type) = z.1 in
       let count : TakenWord w names n c.type = word_is w names c.type n (integer_word c.type fits.0) h.value in
       let one : NewTaken w (number_named index.text 0 ∷ names) e a.type = each fits.1 0 in
       taken_word w names x v (Fat r a.type) d.type (no_place v d.seat) tt one.known

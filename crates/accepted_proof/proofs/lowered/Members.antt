@@ -14,7 +14,7 @@ use Rattle.source_typing.specs.Tables.{argument}
 use Rattle.source_typing.specs.Types.{Fat, StaticType, Struct, Thin, Unique, is_integer, shape_of}
 use Rattle.source_typing.specs.Verdicts.{Of, Verdict, both}
 use Rattle.source_typing.proofs.Inversion.{both_is, of_is, suffixes_first}
-use Rattle.source_typing.proofs.PlacesFit.{ArrowTo, HasPart, MemberOf, Spans, arrow_is, indexed_is, member_is}
+use Rattle.source_typing.proofs.PlacesFit.{ArrowTo, HasPart, MemberOf, PointsTo, arrow_is, indexed_is, member_is}
 use Rattle.type_proof.proofs.invariant.Sound.{shape_renamed}
 use Rattle.accepted_proof.proofs.Known.{IsKnown, IsKnownValue, integer_word, known_object, known_value}
 use Rattle.accepted_proof.proofs.lowered.Forms.{IsKnownScope, IsTaken, KnownMember, TakenPlace, TakenWord, taken_place, word_is}
@@ -69,7 +69,7 @@ module _ (w : World) (names : List Named) (g : Env) (scope : IsKnownScope w name
   object_reached s v h = known_object w s (known_stands w s (shape_of v.type) h.shape h.known)
 
   -- what a subscript is behind leads to elements
-  element_reached : (t : StaticType) (s : Shape) (v : Value) → StandsAs s (shape_of t) → IsKnownValue w t → Spans g t v
+  element_reached : (t : StaticType) (s : Shape) (v : Value) → StandsAs s (shape_of t) → IsKnownValue w t → PointsTo g t v
       → IsOperandShape s × Reached (pointee s) v
   element_reached (Fat r t) s v q k h = (
     operand_stands s (FatShape (shape_of t)) q tt,
@@ -78,6 +78,24 @@ module _ (w : World) (names : List Named) (g : Env) (scope : IsKnownScope w name
           (ap (λ (u : StaticType). shape_of u) (sym h.1.0));
       known = subst (λ (u : StaticType). IsKnown w (shape_of u)) (sym h.1.0) k;
       place = ap (λ (s : Seat). is_place s) h.1.1;
+    },
+  )
+  element_reached (Thin n r t) s v q k h = (
+    operand_stands s (shape_of (Thin n r t)) q tt,
+    record {
+      shape = stands_to (pointee s) (shape_of t) (shape_of v.type) (pointee_stands s (shape_of (Thin n r t)) q)
+          (ap (λ (u : StaticType). shape_of u) (sym h.1.0));
+      known = subst (λ (u : StaticType). IsKnown w (shape_of u)) (sym h.1.0) k;
+      place = ap (λ (s : Seat). is_place s) h.1.1;
+    },
+  )
+  element_reached (Unique n t) s v q k h = (
+    operand_stands s (shape_of (Unique n t)) q tt,
+    record {
+      shape = stands_to (pointee s) (shape_of t) (shape_of v.type) (pointee_stands s (shape_of (Unique n t)) q)
+          (ap (λ (u : StaticType). shape_of u) (sym h.0));
+      known = subst (λ (u : StaticType). IsKnown w (shape_of u)) (sym h.0) k;
+      place = ap (λ (s : Seat). is_place s) h.1;
     },
   )
   element_reached _ s v q k h = absurd h
@@ -102,7 +120,7 @@ module _ (w : World) (names : List Named) (g : Env) (scope : IsKnownScope w name
       let x : a ≡ y.0 = of_is a y.0 y.2 in
       let d = indexed_is g y.0 y.1 z.0 y.4 in
       let m = element_reached a.type s z.0 h.shape (known_value w a.type h.known)
-      (subst (λ (c : Value). Spans g c.type z.0) (sym x) d.1) in
+      (subst (λ (c : Value). PointsTo g c.type z.0) (sym x) d.1) in
       let rest = members_taken es z.0 v (pointee s) m.1 i.1 (subst (λ (y : Verdict Value). judge_suffixes g y es ≡ Of v) z.1 p) in
       ((m.0, (index_taken e y.1 d.0 (i.0 y.1 y.3), (object_reached (pointee s) z.0 m.1, rest.0))), rest.1)
   members_taken (Dot f es) a v s h i p =
@@ -125,8 +143,10 @@ module _ (w : World) (names : List Named) (g : Env) (scope : IsKnownScope w name
   arrow_word _ f v h = absurd h
 
   -- so is what a subscript is behind
-  span_word : (t : StaticType) (v : Value) → Spans g t v → Rattle.accepted_proof.proofs.Known.IsWord t
+  span_word : (t : StaticType) (v : Value) → PointsTo g t v → Rattle.accepted_proof.proofs.Known.IsWord t
   span_word (Fat r t) v h = tt
+  span_word (Thin n r t) v h = tt
+  span_word (Unique n t) v h = tt
   span_word _ v h = absurd h
 
   suffixes_taken : (e : Expression) (es : Suffixes) (a v : Value) → IsTaken w names e a → IndicesTaken es → judge_suffixes g (Of a) es ≡ Of v
@@ -138,7 +158,7 @@ module _ (w : World) (names : List Named) (g : Env) (scope : IsKnownScope w name
       let y = both_is (Of a) (judge g x) (indexed g) z.0 z.1 in
       let same : a ≡ y.0 = of_is a y.0 y.2 in
       let d = indexed_is g y.0 y.1 z.0 y.4 in
-      let spans : Spans g a.type z.0 = subst (λ (c : Value). Spans g c.type z.0) (sym same) d.1 in
+      let spans : PointsTo g a.type z.0 = subst (λ (c : Value). PointsTo g c.type z.0) (sym same) d.1 in
       let k : TakenWord w names e a.type = word_is w names a.type e (span_word a.type z.0 spans) h.value in
       let m = element_reached a.type (static_shape w names e) z.0 k.shape h.known spans in
       let rest = members_taken es z.0 v (pointee (static_shape w names e)) m.1 i.1

@@ -9,6 +9,7 @@ use Rattle.cyc_tree.specs.declared.expression.Prefix.TheVariants as prefix
 use Rattle.cyc_tree.specs.Tree.{Expression}
 use Rattle.source_lowering.specs.Lowerable.{IsGivenShape, IsOperandShape, Takes, TakesAssigned, TakesPlace, TakesRun, TakesWhole}
 use Rattle.source_lowering.specs.Lowered.{Named, static_shape}
+use Rattle.source_meaning.specs.Shapes.{MayBeNull, NeverNull, Reach}
 use Rattle.source_meaning.specs.Memory.{AsInt, IntegerType}
 use Rattle.source_meaning.specs.Operators.{operator_shape}
 use Rattle.source_meaning.specs.Shapes as shapes
@@ -241,8 +242,8 @@ module _ (w : World) (names : List Named) where
           (no_place v (value_of at (Unique false a.type) v q).seat) tt p.known (record { takes = p.takes; shape = ThinAs (λ y. refl) p.shape }) (λ y. y)
       by (In r) z q =
           let p : TakenPlace w names e a.type = h.place (ap (λ (s : Seat). is_place s) z) in
-          taken_word w names (Expression.Prefixed at prefix.AddressOf e) v (Thin false r a.type) (value_of at (Thin false r a.type) v q).type
-          (no_place v (value_of at (Thin false r a.type) v q).seat) tt p.known (record { takes = p.takes; shape = ThinAs (λ y. y) p.shape }) (λ y. y)
+          taken_word w names (Expression.Prefixed at prefix.AddressOf e) v (Thin (NeverNull 1) r a.type) (value_of at (Thin (NeverNull 1) r a.type) v q).type
+          (no_place v (value_of at (Thin (NeverNull 1) r a.type) v q).seat) tt p.known (record { takes = p.takes; shape = ThinAs (λ y. y) p.shape }) (λ y. y)
 
   pub prefixed_taken : (g : Env) (at : ℕ) (o : Prefix) (e : Expression) (a v : Value) → IsTaken w names e a
       → prefixed g at o a ≡ Of v → IsTaken w names (Expression.Prefixed at o e) v

@@ -1,8 +1,9 @@
 -- The shape that an expression has without a run is that of its type, but that a pointer may be shared where its type is unique: `&` of a place in a unique
 -- block gives one, where nothing gets to it.
-use Rattle.std.proofs.Common.{◌≡◌, Bool, false, refl, sym, subst}
+use Rattle.std.proofs.Common.{◌≡◌, false, refl, sym, subst}
 use Rattle.source_lowering.specs.Lowerable.{IsGivenShape, IsOperandShape, IsThinShape, IsWordShape}
 use Rattle.source_lowering.specs.Lowered.{valued}
+use Rattle.source_meaning.specs.Shapes.{Reach}
 use Rattle.source_meaning.specs.Memory.{is_alone}
 use Rattle.source_meaning.specs.Shapes.{
   Alone,
@@ -22,7 +23,7 @@ use Rattle.accepted_proof.proofs.Known.{IsKnown, known_target}
 
 pub data StandsAs : Shape → Shape → Type 0 where
   Exactly : {s : Shape} → StandsAs s s
-  ThinAs : {b : Bool} {o q : Owner} {s t : Shape} → (is_alone q ≡ false → is_alone o ≡ false) → StandsAs s t → StandsAs (ThinShape b o s) (ThinShape b q t)
+  ThinAs : {b : Reach} {o q : Owner} {s t : Shape} → (is_alone q ≡ false → is_alone o ≡ false) → StandsAs s t → StandsAs (ThinShape b o s) (ThinShape b q t)
   FatAs : {s t : Shape} → StandsAs s t → StandsAs (FatShape s) (FatShape t)
 
 pub stands_same : (s t : Shape) → s ≡ t → StandsAs s t

@@ -7,30 +7,8 @@ use Rattle.cyc_tree.specs.Tree.{Pointer, TypeName}
 use Rattle.source_lowering.specs.Lowerable as lowering
 use Rattle.source_lowering.specs.Lowerable.{GivesNothing, GivesWord, HasBeginning, IsKnownIn, IsOperandShape, IsObjectBase, IsTarget, TakesResult}
 use Rattle.source_lowering.specs.Taken.{HasFirst, IsIntType, IsVoidType}
-use Rattle.source_meaning.specs.Shapes.{
-  Alone,
-  ArrayShape,
-  CharShape,
-  FatShape,
-  HandleShape,
-  IntShape,
-  KeyShape,
-  Shape,
-  Shared,
-  StructShape,
-  ThinShape,
-  UnionShape,
-  UnsignedShape,
-  VoidShape,
-  base_shape,
-  has_tag,
-  owner_of,
-  pointed,
-  settled,
-  settled_by,
-  signed_shape,
-  written,
-}
+use Rattle.source_meaning.specs.Shapes.{MayBeNull, NeverNull, single}
+use Rattle.source_meaning.specs.Shapes.{Alone, ArrayShape, CharShape, FatShape, HandleShape, IntShape, KeyShape, Shape, StructShape, ThinShape, UnionShape, UnsignedShape, VoidShape, base_shape, has_tag, owner_of, pointed, settled, settled_by, signed_shape, written}
 use Rattle.source_meaning.specs.Steps.{World}
 use Rattle.type_proof.specs.Entries.{IsObjectType, IsPlain}
 use Rattle.source_typing.specs.Faults.{Fault}
@@ -155,8 +133,8 @@ reached_known w _ o h = absurd o
 
 module _ (w : World) where
   signed_reached : (x : Sign) (r : Option tree.RegionName) (s : Shape) → IsReached w (settled s) → IsReached w (settled (signed_shape x (owner_of r) s))
-  signed_reached sign.Nullable r s h = h
-  signed_reached sign.NotNull r s h = h
+  signed_reached (sign.Nullable count) r s h = h
+  signed_reached (sign.NotNull count) r s h = h
   signed_reached sign.Fat r s h = h
 
   all_reached : (ps : List Pointer) (s : Shape) → IsReached w (settled s) → IsReached w (settled (pointed ps s))
@@ -210,8 +188,8 @@ module _ (w : World) where
 
   signed_under : (x : Sign) (r : Option tree.RegionName) (s : Shape) → IsKnown w (settled (signed_shape x (owner_of r) s))
       → IsKnown w (settled s)
-  signed_under sign.Nullable r s h = h
-  signed_under sign.NotNull r s h = h
+  signed_under (sign.Nullable count) r s h = h
+  signed_under (sign.NotNull count) r s h = h
   signed_under sign.Fat r s h = h
 
   known_under : (ps : List Pointer) (s : Shape) → IsKnown w (settled (pointed ps s)) → IsKnown w (settled s)
@@ -328,9 +306,10 @@ pub begins_first : (g : Tables) (u : StaticType) → IsObjectType u → has_begi
 begins_first g Int o e = tt
 begins_first g Unsigned o e = tt
 begins_first g Char o e = tt
-begins_first g (Thin b r t) o e = subst (λ z. HasFirst (ThinShape z Shared (shape_of t))) (sym e) tt
+begins_first g (Thin (MayBeNull count) r t) o e = tt
+begins_first g (Thin (NeverNull count) r t) o e = absurd cc
 begins_first g (Fat r t) o e = tt
-begins_first g (Unique b t) o e = subst (λ z. HasFirst (ThinShape z Alone (shape_of t))) (sym e) tt
+begins_first g (Unique b t) o e = subst (λ z. HasFirst (ThinShape (single z) Alone (shape_of t))) (sym e) tt
 begins_first g (Struct tag rs) o e = tt
 begins_first g (Union tag rs) o e = absurd cc
 begins_first g (Handle r) o e = absurd cc

@@ -21,7 +21,7 @@ abbrev key : TypeName
 key = typed (tree.Key region) []
 
 abbrev inside : TypeName
-inside = typed tree.Int (pointer Nullable (Some region) ∷ [])
+inside = typed tree.Int (pointer (Nullable 1) (Some region) ∷ [])
 
 abbrev at : Expression → Expression
 at e = Expression.Prefixed 0 Dereference e

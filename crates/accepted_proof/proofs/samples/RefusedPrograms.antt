@@ -15,16 +15,16 @@ abbrev int : TypeName
 int = typed tree.Int []
 
 abbrev pointing : TypeName
-pointing = typed tree.Int ((pointer sign.Nullable None) ∷ [])
+pointing = typed tree.Int ((pointer (sign.Nullable 1) None) ∷ [])
 
 abbrev into : String → TypeName
-into r = typed tree.Int ((pointer sign.Nullable (Some (tree.Named (named r)))) ∷ [])
+into r = typed tree.Int ((pointer (sign.Nullable 1) (Some (tree.Named (named r)))) ∷ [])
 
 abbrev never_null : tree.RegionName → TypeName
-never_null r = typed tree.Int ((pointer sign.NotNull (Some r)) ∷ [])
+never_null r = typed tree.Int ((pointer (sign.NotNull 1) (Some r)) ∷ [])
 
 abbrev unique : TypeName
-unique = typed tree.Int ((pointer sign.Nullable (Some (tree.Unique 0))) ∷ [])
+unique = typed tree.Int ((pointer (sign.Nullable 1) (Some (tree.Unique 0))) ∷ [])
 
 abbrev without_effect : tree.Function → tree.Function
 without_effect f = record f { effect = Some [] }

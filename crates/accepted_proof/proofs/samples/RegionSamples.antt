@@ -23,10 +23,10 @@ abbrev region_r : ℕ → tree.RegionName
 region_r at = tree.Named (named at (codes "r"))
 
 abbrev to_int : ℕ → tree.TypeName
-to_int at = record { at = at; base = tree.Int; pointers = record { sign = sign.Nullable; region = None } ∷ [] }
+to_int at = record { at = at; base = tree.Int; pointers = record { sign = sign.Nullable 1; region = None } ∷ [] }
 
 abbrev to_int_in : ℕ → tree.TypeName
-to_int_in at = record { at = at; base = tree.Int; pointers = record { sign = sign.Nullable; region = Some (region_r (at + 5)) } ∷ [] }
+to_int_in at = record { at = at; base = tree.Int; pointers = record { sign = sign.Nullable 1; region = Some (region_r (at + 5)) } ∷ [] }
 
 -- int *`r make(region_t<`r> h, int x) { return rnew(h) x; }
 -- int main() { region<`r> h; int *`r p = make(h, 5); int *q = new 2; return *p + *q; }

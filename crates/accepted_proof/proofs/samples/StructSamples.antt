@@ -36,7 +36,7 @@ abbrev struct_type : ℕ → tree.TypeName
 struct_type at = record { at = at; base = tree.Struct (name_at at s_name) []; pointers = [] }
 
 abbrev to_struct : ℕ → tree.TypeName
-to_struct at = record (struct_type at) { pointers = record { sign = sign.Nullable; region = None } ∷ [] }
+to_struct at = record (struct_type at) { pointers = record { sign = sign.Nullable 1; region = None } ∷ [] }
 
 abbrev named_x : ℕ → Expression
 named_x at = Expression.Variable (name_at at x_name)
@@ -92,7 +92,7 @@ abbrev region_at : ℕ → ℕ → tree.RegionName
 region_at at letter = tree.Named (record { at = at; text = letter ∷ [] })
 
 abbrev pointer_in : ℕ → tree.Base → tree.RegionName → tree.TypeName
-pointer_in at base r = record { at = at; base = base; pointers = record { sign = sign.Nullable; region = Some r } ∷ [] }
+pointer_in at base r = record { at = at; base = base; pointers = record { sign = sign.Nullable 1; region = Some r } ∷ [] }
 
 abbrev struct_in : ℕ → tree.RegionName → tree.RegionName → tree.TypeName
 struct_in at q r = pointer_in at (tree.Struct (name_at (at + 7) s_name) (q ∷ [])) r
@@ -160,7 +160,7 @@ its_last_value = refl
 -- ---- a name that is no tag, in a type
 
 abbrev to_tag : ℕ → List ℕ → tree.TypeName
-to_tag at x = record { at = at; base = tree.Struct (record { at = at + 7; text = x }) []; pointers = record { sign = sign.Nullable; region = None } ∷ [] }
+to_tag at x = record { at = at; base = tree.Struct (record { at = at + 7; text = x }) []; pointers = record { sign = sign.Nullable 1; region = None } ∷ [] }
 
 -- int f(struct t *p) { return 0; }
 abbrev taking : ℕ → List ℕ → List ℕ → tree.Function

@@ -22,10 +22,10 @@ abbrev int_type : ℕ → tree.TypeName
 int_type at = record { at = at; base = tree.Int; pointers = [] }
 
 abbrev to_union : ℕ → tree.TypeName
-to_union at = record { at = at; base = tree.Union (named (at + 6) (codes "u")) []; pointers = record { sign = sign.Nullable; region = None } ∷ [] }
+to_union at = record { at = at; base = tree.Union (named (at + 6) (codes "u")) []; pointers = record { sign = sign.Nullable 1; region = None } ∷ [] }
 
 abbrev to_struct : ℕ → tree.TypeName
-to_struct at = record { at = at; base = tree.Struct (named (at + 7) (codes "s")) []; pointers = record { sign = sign.Nullable; region = None } ∷ [] }
+to_struct at = record { at = at; base = tree.Struct (named (at + 7) (codes "s")) []; pointers = record { sign = sign.Nullable 1; region = None } ∷ [] }
 
 abbrev make : ℕ → List ℕ → Expression → Expression
 make at member e = Expression.New at (One (Expression.MakeUnion (named (at + 4) (codes "u")) (named (at + 6) member) e))

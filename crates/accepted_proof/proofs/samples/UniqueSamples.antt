@@ -15,16 +15,16 @@ use Rattle.source_typing.specs.Faults.{copy_rule, fault}
 
 -- int *`U, int *`r, and int *, which takes its region from an initializer
 abbrev unique : TypeName
-unique = typed tree.Int (pointer Nullable (Some (tree.Unique 0)) ∷ [])
+unique = typed tree.Int (pointer (Nullable 1) (Some (tree.Unique 0)) ∷ [])
 
 abbrev aliased : TypeName
-aliased = typed tree.Int (pointer Nullable (Some (tree.Named (named "r"))) ∷ [])
+aliased = typed tree.Int (pointer (Nullable 1) (Some (tree.Named (named "r"))) ∷ [])
 
 abbrev left_open : TypeName
-left_open = typed tree.Int (pointer Nullable None ∷ [])
+left_open = typed tree.Int (pointer (Nullable 1) None ∷ [])
 
 abbrev to_struct : TypeName
-to_struct = typed (tree.Struct (named "b") []) (pointer Nullable None ∷ [])
+to_struct = typed (tree.Struct (named "b") []) (pointer (Nullable 1) None ∷ [])
 
 abbrev made : Expression → Expression
 made e = Expression.NewIn 0 (Expression.UniqueRegion 0) (One e)

@@ -17,7 +17,8 @@ use Rattle.source_meaning.specs.Places.{bound_to}
 use Rattle.source_lowering.proofs.values.Integers.{key_moved}
 use Rattle.source_lowering.proofs.bounds.Nodes.{expression_count, declaration_count, region_count}
 use Rattle.source_lowering.proofs.bounds.Costs.{Costs, no_costs, both_cost, at_most, does_one, does_then}
-use Rattle.source_lowering.proofs.bounds.ValueCosts.{put_local_costs}
+use Rattle.source_lowering.proofs.bounds.ValueCosts.{put_local_costs, to_fat_costs}
+use Rattle.source_lowering.specs.Operators.{to_fat_code}
 use Rattle.source_lowering.proofs.bounds.PartCosts.{conversion_costs}
 use Rattle.source_lowering.proofs.bounds.Counted.{one_node}
 use Rattle.source_lowering.proofs.bounds.ExpressionCosts.{expression_costs}
@@ -26,6 +27,15 @@ use Rattle.source_lowering.proofs.bounds.Taken.{found_less, taken_by}
 use Rattle.source_lowering.proofs.bounds.NameCosts.{alias_costs, moved_costs}
 
 -- ---- declarations
+
+-- a value is converted and put into a local: what takes most to convert is one word
+converted_put : (w : World) (t p d index : ℕ) (to from : Shape) → d + 4 ≤ t
+    → Costs t p 0 11 (conversion_code w to from d ++ put_local to d 0 index)
+converted_put w t p d index (FatShape to) from h =
+    at_most t p 8 11 _ (omega arith) (both_cost t p 0 4 0 4 (to_fat_code from d) _ (to_fat_costs from t p d (omega (arith, h)))
+    (put_local_costs (FatShape to) t p d 0 index h))
+converted_put w t p d index to from h =
+    at_most t p 9 11 _ (omega arith) (both_cost t p 0 8 0 1 _ _ (conversion_costs w t p d to from h) (does_one t p _ (omega (arith, h))))
 
 -- a declaration leaves one operation to the end of its region
 pub record IsDeclared (t p n : ℕ) (code : List core.Statement) : Type 0 where
@@ -63,9 +73,8 @@ value_bounded w names s e d index own t p h f g = by s h
         let l = a.less in
         let n = one_node e in
         record {
-          operations = a.operations + (4 + 4);
-          costs = both_cost t p 0 a.operations 0 (4 + 4) _ _ a.costs (both_cost t p 0 4 0 4 _ _ (conversion_costs w t p d of (static_shape w names e)
-              (omega (arith, f, n))) (put_local_costs of t p d 0 index (omega (arith, f, n))));
+          operations = a.operations + 11;
+          costs = both_cost t p 0 a.operations 0 11 _ _ a.costs (converted_put w t p d index of (static_shape w names e) (omega (arith, f, n)));
           less = omega (arith, l);
         }
 

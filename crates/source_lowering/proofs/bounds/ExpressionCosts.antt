@@ -3,7 +3,7 @@ use Rattle.std.proofs.Common.{ℕ, suc, ◌+◌, ◌*◌, ◌%◌, ◌≤◌, Li
 use Rattle.cyc_tree.specs.declared.expression.Prefix.TheVariants as prefix
 use Rattle.cyc_tree.specs.Tree.{Expression, Expressions, NoExpressions, MoreExpressions, Links, NoLinks, MoreLinks, Suffixes, NoSuffixes, Index, Dot, Arrow}
 use Rattle.cyc_tree.specs.Tree.{Made, One, Array}
-use Rattle.source_meaning.specs.Shapes.{Shape, Part, part_shape, parts_of, pointee}
+use Rattle.source_meaning.specs.Shapes.{Shape, Part, part_shape, parts_of}
 use Rattle.source_meaning.specs.Sizes.{rounded_up}
 use Rattle.source_meaning.specs.Steps.{World}
 use Rattle.source_meaning.specs.Operators.{operator_shape}
@@ -177,9 +177,9 @@ mutual
       let a = expression_costs w names value t p d own h.1.0 (omega (arith, f)) (omega (arith, g)) in
       let b = stores_costs w names place t p d (own + length (expression_values w names value)) h.0 (omega (arith, f, n)) (omega (arith, g)) in
       let l = a.less in let k = b.less in
-      one_cheap t p (tokens_of place + (1 + tokens_of value)) (a.operations + (4 + b.operations)) _
-      (both_cost t p 0 a.operations 0 (4 + b.operations) _ _ a.costs
-      (both_cost t p 0 4 0 b.operations _ _ (conversion_costs w t p d (static_shape w names place) (static_shape w names value) (omega (arith, f, n))) b.costs))
+      one_cheap t p (tokens_of place + (1 + tokens_of value)) (a.operations + (8 + b.operations)) _
+      (both_cost t p 0 a.operations 0 (8 + b.operations) _ _ a.costs
+      (both_cost t p 0 8 0 b.operations _ _ (conversion_costs w t p d (static_shape w names place) (static_shape w names value) (omega (arith, f, n))) b.costs))
       (omega (arith, l, k))
   expression_costs w names _ t p d own h f g = absurd h
 
@@ -191,9 +191,9 @@ mutual
   suffixes_costs w names NoSuffixes left t p m n m' n' own taken h g e k one = more_left t p m n m' n' left (omega (arith, e)) (omega (arith, k)) one
   suffixes_costs w names (Index index others) left t p m n m' n' own taken h g e k one =
       let first = own + length (suffix_values w names others) in
-      suffixes_costs w names others (element_at w (pointee left.shape) (λ d. expression_code w names index d first) left.value) t p
+      suffixes_costs w names others (element_at w left.shape (λ d. expression_code w names index d first) left.value) t p
       (m + (1 + expression_count index)) (n + (2 + tokens_of index)) m' n' own taken h.1.1.1 (omega (arith, g)) (omega (arith, e)) (omega (arith, k))
-      (element_left w (pointee left.shape) (λ d. expression_code w names index d first) left.value t p m n (expression_count index) (tokens_of index) one.enough
+      (element_left w left.shape (λ d. expression_code w names index d first) left.value t p m n (expression_count index) (tokens_of index) one.enough
       (λ d f. expression_costs w names index t p d first h.1.0 (omega (arith, f, taken)) (omega (arith, g))) one.value)
   suffixes_costs w names (Dot f others) left t p m n m' n' own taken h g e k one =
       suffixes_costs w names others (member_at w left.shape left.pointer left.cells left.bytes f.text) t p (m + 1) (n + 2) m' n' own taken h.1
@@ -212,10 +212,10 @@ mutual
   primary_costs w names NoSuffixes s value pointer primary t p m n own taken enough h g as_value as_place = absurd h
   primary_costs w names (Index index others) s value pointer primary t p m n own taken enough h g as_value as_place =
       let first = own + length (suffix_values w names others) in
-      suffixes_costs w names others (element_at w (pointee s) (λ d. expression_code w names index d first) value) t p
+      suffixes_costs w names others (element_at w s (λ d. expression_code w names index d first) value) t p
       (m + (1 + expression_count index)) (n + (2 + tokens_of index)) (m + (1 + (expression_count index + suffix_count others)))
       (n + (2 + (tokens_of index + suffix_tokens others))) own taken h.1.1.1 (omega (arith, g)) (omega arith) (omega arith)
-      (element_left w (pointee s) (λ d. expression_code w names index d first) value t p m n (expression_count index) (tokens_of index) enough
+      (element_left w s (λ d. expression_code w names index d first) value t p m n (expression_count index) (tokens_of index) enough
       (λ d r. expression_costs w names index t p d first h.1.0 (omega (arith, r, taken)) (omega (arith, g))) (as_value h.0))
   primary_costs w names (Dot f others) s value pointer primary t p m n own taken enough h g as_value as_place =
       suffixes_costs w names others (member_at w s pointer 0 0 f.text) t p (m + 1) (n + 2) (m + (1 + suffix_count others)) (n + (2 + suffix_tokens others)) own
@@ -238,8 +238,8 @@ mutual
       (omega (arith, g)) in
       let l = a.less in let k = b.less in
       record {
-        operations = a.operations + (4 + b.operations);
-        costs = both_cost t p 0 a.operations 0 (4 + b.operations) _ _ a.costs (both_cost t p 0 4 0 b.operations _ _
+        operations = a.operations + (8 + b.operations);
+        costs = both_cost t p 0 a.operations 0 (8 + b.operations) _ _ a.costs (both_cost t p 0 8 0 b.operations _ _
             (conversion_costs w t p d s (static_shape w names e) (omega (arith, f, n))) b.costs);
         less = omega (arith, l, k);
       }

@@ -53,10 +53,10 @@ pub union_costs : (w : World) (s from : Shape) (t p d own number n : ℕ) (value
 union_costs w s from t p d own number n value h a =
     let l = a.less in let few = words_few s in
     record {
-      operations = 1 + (a.operations + (4 + (2 + 3)));
-      costs = both_cost t p 0 1 0 (a.operations + (4 + (2 + 3))) (Do (OwnAddress d own) ∷ []) _ (does_one t p _ (omega (arith, h)))
-          (both_cost t p 0 a.operations 0 (4 + (2 + 3)) value _ a.costs
-          (both_cost t p 0 4 0 (2 + 3) _ _ (conversion_costs w t p (d + 1) s from h)
+      operations = 1 + (a.operations + (8 + (2 + 3)));
+      costs = both_cost t p 0 1 0 (a.operations + (8 + (2 + 3))) (Do (OwnAddress d own) ∷ []) _ (does_one t p _ (omega (arith, h)))
+          (both_cost t p 0 a.operations 0 (8 + (2 + 3)) value _ a.costs
+          (both_cost t p 0 8 0 (2 + 3) _ _ (conversion_costs w t p (d + 1) s from h)
           (both_cost t p 0 2 0 3 (tag_store d (d + 1 + words_in s) number) _
           (tag_store_costs t p d (d + 1 + words_in s) number (omega (arith, h)) (omega (arith, h, few)))
           (held_stores_costs s t p d (d + 1) (omega (arith, h)) (omega (arith, h))))));
@@ -74,8 +74,8 @@ member_costs w s from t p d cells bytes n whole word for_whole for_word takes as
     as_a_word of takes =
         let a = as_word takes in let l = a.less in
         record {
-          operations = a.operations + (4 + 3);
-          costs = both_cost t p 0 a.operations 0 (4 + 3) _ _ a.costs (both_cost t p 0 4 0 3 _ _ (conversion_costs w t p (d + 1) of from h)
+          operations = a.operations + (8 + 3);
+          costs = both_cost t p 0 a.operations 0 (8 + 3) _ _ a.costs (both_cost t p 0 8 0 3 _ _ (conversion_costs w t p (d + 1) of from h)
               (kept_costs of t p d (d + 1) cells bytes (omega (arith, h)) (omega (arith, h))));
           less = omega (arith, l);
         }

@@ -1,6 +1,7 @@
 -- What the code takes that reads a thin pointer or a key by its name, and an alias of a pointer.
-use Rattle.std.proofs.Common.{ℕ, suc, ◌≤◌, List, ◌++◌, true, false, Option, Some, None, arith, max}
+use Rattle.std.proofs.Common.{ℕ, suc, ◌≤◌, List, ◌++◌, Option, Some, None, arith, max}
 use Rattle.cyc_tree.specs.Tree.{Expression, Name}
+use Rattle.source_meaning.specs.Shapes.{MayBeNull, NeverNull}
 use Rattle.source_meaning.specs.Places.{bound_to}
 use Rattle.source_meaning.specs.Steps.{Entity, Fixed, Variable, World}
 use Rattle.source_meaning.specs.Shapes.{
@@ -72,8 +73,8 @@ moved_costs t p d None None h below k = nothing t p 2
 -- it is converted to a word, and that is stored
 thin_converted : (w : World) (t p d : ℕ) (to from : Shape) → IsWordShape to → IsThinShape from → suc d ≤ t → Costs t p 0 4 (conversion_code w to from d)
 thin_converted w t p d CharShape (ThinShape a o s) h g less = does_few t p 4 (Narrow d d) (omega (arith, less)) (omega arith)
-thin_converted w t p d (ThinShape true q of) (ThinShape a o s) h g less = nothing t p 4
-thin_converted w t p d (ThinShape false q of) (ThinShape a o s) h g less = check_costs t p d (ThinShape a o s) less
+thin_converted w t p d (ThinShape (MayBeNull count) q of) (ThinShape a o s) h g less = nothing t p 4
+thin_converted w t p d (ThinShape (NeverNull count) q of) (ThinShape a o s) h g less = check_costs t p d (ThinShape a o s) less
 thin_converted w t p d IntShape (ThinShape a o s) h g less = nothing t p 4
 thin_converted w t p d UnsignedShape (ThinShape a o s) h g less = nothing t p 4
 thin_converted w t p d HandleShape (ThinShape a o s) h g less = nothing t p 4

@@ -4,6 +4,7 @@ use Rattle.std.proofs.lemmas.Bool.{false≢true}
 use Rattle.std.specs.Prelude.{bytes_eq, codes, if◌then◌else◌}
 use Rattle.cyc_tree.specs.declared.expression.Operator.{Operator}
 use Rattle.cyc_tree.specs.declared.expression.Operator.TheVariants as operator
+use Rattle.source_meaning.specs.Shapes.{Reach, MayBeNull, NeverNull}
 use Rattle.source_meaning.specs.Shapes.{Shape, IntShape, CharShape, VoidShape, ThinShape, FatShape, StructShape, has_tag}
 use Rattle.source_meaning.specs.Memory.{IntegerType}
 use Rattle.source_meaning.specs.Steps.{Entity, Variable, Fixed, World, Routine}
@@ -61,16 +62,16 @@ narrow_costs : (t p d : ℕ) (from : Shape) → d + 4 ≤ t → Costs t p 0 1 (n
 narrow_costs t p d CharShape h = nothing t p 1
 narrow_costs t p d _ h = does_one t p (Narrow d d) (omega (arith, h))
 
-thinned_costs : (w : World) (may_be_null : Bool) (to from : Shape) (t p d : ℕ) → d + 4 ≤ t → Costs t p 0 4 (thinned_code w may_be_null to from d)
+thinned_costs : (w : World) (may_be_null : Reach) (to from : Shape) (t p d : ℕ) → d + 4 ≤ t → Costs t p 0 8 (thinned_code w may_be_null to from d)
 thinned_costs w may_be_null to (FatShape of) t p d h = to_thin_costs w may_be_null to t p d (omega (arith, h))
-thinned_costs w false to from t p d h = check_costs t p d from (omega (arith, h))
-thinned_costs w true to from t p d h = nothing t p 4
+thinned_costs w (NeverNull count) to from t p d h = at_most t p 4 8 _ (omega arith) (check_costs t p d from (omega (arith, h)))
+thinned_costs w (MayBeNull count) to from t p d h = nothing t p 8
 
-pub conversion_costs : (w : World) (t p d : ℕ) (to from : Shape) → d + 4 ≤ t → Costs t p 0 4 (conversion_code w to from d)
-conversion_costs w t p d CharShape from h = at_most t p 1 4 _ (omega arith) (narrow_costs t p d from h)
+pub conversion_costs : (w : World) (t p d : ℕ) (to from : Shape) → d + 4 ≤ t → Costs t p 0 8 (conversion_code w to from d)
+conversion_costs w t p d CharShape from h = at_most t p 1 8 _ (omega arith) (narrow_costs t p d from h)
 conversion_costs w t p d (ThinShape may_be_null owner to) from h = thinned_costs w may_be_null to from t p d h
-conversion_costs w t p d (FatShape to) from h = to_fat_costs from t p d (omega (arith, h))
-conversion_costs w t p d _ from h = nothing t p 4
+conversion_costs w t p d (FatShape to) from h = at_most t p 4 8 _ (omega arith) (to_fat_costs from t p d (omega (arith, h)))
+conversion_costs w t p d _ from h = nothing t p 8
 
 applied_small : (o : Operator) (s u : IntegerType) (d t : ℕ) → d + 4 ≤ t → operation_temporaries (applied_to o s u d d (d + 1)) ≤ t
 applied_small operator.BitOr s u d t h = omega (arith, h)

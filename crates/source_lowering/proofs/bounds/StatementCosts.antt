@@ -1,6 +1,9 @@
 -- What the code of statements takes: locals by those that are declared, operations by the size of the text.
 use Rattle.std.proofs.Common.{ℕ, suc, ◌+◌, ◌*◌, ◌≤◌, List, [], ◌∷◌, ◌++◌, length, Bool, Some, None, arith, max}
 use Rattle.cyc_tree.specs.Tree.{Statement, BlockItems, NoItems, Declare, Execute, Clauses, NoClauses, MoreClauses, Case, Default}
+use Rattle.source_meaning.specs.Shapes.{FatShape}
+use Rattle.source_lowering.specs.Lowered.{conversion_code}
+use Rattle.source_lowering.proofs.bounds.ValueCosts.{to_fat_costs}
 use Rattle.source_meaning.specs.Shapes.{Shape, Part, part_shape}
 use Rattle.source_meaning.specs.Steps.{World}
 use Rattle.core_meaning.specs.Core as core
@@ -54,6 +57,34 @@ pub record IsBounded (t p l n : ℕ) (code : List core.Statement) : Type 0 where
   pub less : operations ≤ 8 * n
 
 -- the way out, behind the regions that are left
+-- a result is converted and given back: what takes most to convert is one word
+record ReturnedCosts (w : World) (t p d : ℕ) (to from : Shape) : Type 0 where
+  converts : ℕ
+  returns : ℕ
+  converting : Costs t p 0 converts (conversion_code w to from d)
+  returning : Costs t p 0 returns (Return (results_in to d) ∷ [])
+  few : converts + returns ≤ 10
+
+returned_costs : (w : World) (t p d : ℕ) (to from : Shape) → d + 4 ≤ t → ReturnedCosts w t p d to from
+returned_costs w t p d (FatShape to) from h = record {
+  converts = 4;
+  returns = 4;
+  converting = to_fat_costs from t p d (omega (arith, h));
+  returning =
+      (let few = results_few (FatShape to) in let last = results_last (FatShape to) d in let many = results_many (FatShape to) d in
+      one_costs t p 0 4 (Return (results_in (FatShape to) d)) (omega (arith, last, few, h)) (omega arith) (omega arith) (omega (arith, many)));
+  few = omega arith;
+}
+returned_costs w t p d to from h = record {
+  converts = 8;
+  returns = 2;
+  converting = conversion_costs w t p d to from h;
+  returning =
+      (let few = results_few to in let last = results_last to d in
+      one_costs t p 0 2 (Return (results_in to d)) (omega (arith, last, few, h)) (omega arith) (omega arith) (omega arith));
+  few = omega arith;
+}
+
 leaves : (t p : ℕ) (opened : List Bool) (all count o : ℕ) (s : core.Statement) → all ≤ t → o ≤ 8 → Costs t p 0 o (s ∷ [])
     → IsBounded t p 0 (1 + count) (leaving_code opened all count ++ (s ∷ []))
 leaves t p opened all count o s h less c =
@@ -221,14 +252,13 @@ mutual
   statement_bounded w result names r own (Statement.Return at (Some e)) t p h f g =
       let n = one_node e in
       let a = expression_costs w names e t p r.all own h (omega (arith, f)) (omega (arith, g)) in
-      let few = results_few result in let last = results_last result r.all in let many = results_many result r.all in
-      let b = leaves t p r.opened r.all r.all 4 (Return (results_in result r.all)) (omega (arith, f)) (omega arith)
-      (one_costs t p 0 4 (Return (results_in result r.all)) (omega (arith, last, few, f, n)) (omega arith) (omega arith) (omega (arith, many))) in
-      let l = a.less in let k = b.less in
+      let b = returned_costs w t p r.all result (static_shape w names e) (omega (arith, f, n)) in
+      let l = a.less in let k = b.few in
       record {
-        operations = a.operations + (4 + b.operations);
-        costs = both_cost t p 0 a.operations 0 (4 + b.operations) _ _ a.costs
-            (both_cost t p 0 4 0 b.operations _ _ (conversion_costs w t p r.all result (static_shape w names e) (omega (arith, f, n))) b.costs);
+        operations = a.operations + (b.converts + (r.all + b.returns));
+        costs = both_cost t p 0 a.operations 0 (b.converts + (r.all + b.returns)) _ _ a.costs
+            (both_cost t p 0 b.converts 0 (r.all + b.returns) _ _ b.converting
+            (both_cost t p 0 r.all 0 b.returns _ _ (leaving_costs r.opened r.all r.all t p (omega (arith, f))) b.returning));
         less = omega (arith, l, k);
       }
   statement_bounded w result names r own (Statement.FreeKey at key) t p h f g =

@@ -1,12 +1,14 @@
 -- What the code of members and elements takes.
 use Rattle.std.proofs.Common.{ℕ, zero, suc, ◌+◌, ◌*◌, ◌≤◌, List, ◌++◌, arith}
+use Rattle.source_lowering.specs.Members.{subscript_code}
+use Rattle.source_lowering.proofs.bounds.ValueCosts.{subscript_costs}
 use Rattle.source_meaning.specs.Shapes.{Shape, pointee}
 use Rattle.source_meaning.specs.Steps.{World}
 use Rattle.core_meaning.specs.Core.{Statement}
-use Rattle.source_lowering.specs.Members.{loads_code, stores_code, reach_code, index_code, offset_code, Left, member_at, member_behind, element_at, pointer_to}
+use Rattle.source_lowering.specs.Members.{loads_code, stores_code, reach_code, offset_code, Left, member_at, member_behind, element_at, pointer_to}
 use Rattle.source_lowering.specs.Members.{store_to}
 use Rattle.source_lowering.proofs.bounds.Costs.{Costs, both_cost, does_one, nothing}
-use Rattle.source_lowering.proofs.bounds.ValueCosts.{loads_costs, kept_costs, reach_costs, index_costs}
+use Rattle.source_lowering.proofs.bounds.ValueCosts.{loads_costs, kept_costs, reach_costs}
 use Rattle.source_lowering.proofs.bounds.PartCosts.{IsCheap, ArePassed}
 use Rattle.source_lowering.proofs.bounds.PrefixCosts.{IsPointed}
 
@@ -66,30 +68,30 @@ arrow_left w left f t p m n enough value =
     })
 
 -- an element of what a value leads to
-pub element_left : (w : World) (to : Shape) (index value : ℕ → List Statement) (t p m n k j : ℕ) → 1 ≤ m
+pub element_left : (w : World) (from : Shape) (index value : ℕ → List Statement) (t p m n k j : ℕ) → 1 ≤ m
     → ((d : ℕ) → d + 4 * k ≤ t → IsCheap t p j (index d)) → ((d : ℕ) → d + 4 * m ≤ t → IsCheap t p n (value d))
-    → IsLeft t p (m + (1 + k)) (n + (2 + j)) (element_at w to index value)
-element_left w to index value t p m n k j enough indexed valued = record {
+    → IsLeft t p (m + (1 + k)) (n + (2 + j)) (element_at w from index value)
+element_left w from index value t p m n k j enough indexed valued = record {
   enough = omega (arith, enough);
   pointer = reached;
   value = λ d g.
       let a = reached d g in let l = a.less in
       record {
         operations = a.operations + 3;
-        costs = both_cost t p 0 a.operations 0 3 (index d ++ (value (d + 1) ++ index_code w to d)) (loads_code to d 0 0) a.costs
-            (loads_costs to t p d 0 0 (omega (arith, g, enough)));
+        costs = both_cost t p 0 a.operations 0 3 (index d ++ (value (d + 1) ++ subscript_code w from d)) (loads_code (pointee from) d 0 0) a.costs
+            (loads_costs (pointee from) t p d 0 0 (omega (arith, g, enough)));
         less = omega (arith, l);
       };
 }
   where
-    reached : (d : ℕ) → d + 4 * (m + (1 + k)) ≤ t → IsReached t p (n + (2 + j)) (index d ++ (value (d + 1) ++ index_code w to d))
+    reached : (d : ℕ) → d + 4 * (m + (1 + k)) ≤ t → IsReached t p (n + (2 + j)) (index d ++ (value (d + 1) ++ subscript_code w from d))
     reached d g =
         let a = indexed d (omega (arith, g)) in let l = a.less in
         let b = valued (d + 1) (omega (arith, g)) in let r = b.less in
         record {
           operations = a.operations + (b.operations + 5);
           costs = both_cost t p 0 a.operations 0 (b.operations + 5) (index d) _ a.costs
-              (both_cost t p 0 b.operations 0 5 (value (d + 1)) (index_code w to d) b.costs (index_costs w to t p d (omega (arith, g, enough))));
+              (both_cost t p 0 b.operations 0 5 (value (d + 1)) (subscript_code w from d) b.costs (subscript_costs w from t p d (omega (arith, g, enough))));
           less = omega (arith, l, r);
         }
 

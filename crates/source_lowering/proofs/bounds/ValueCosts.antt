@@ -1,8 +1,13 @@
 -- What the code of values takes, of one word or of three: loads and stores, checks, conversions, operators and variables.
-use Rattle.std.proofs.Common.{ℕ, suc, ◌+◌, ◌≤◌, [], ◌∷◌, length, true, false, Bool, Option, Some, arith}
+use Rattle.std.proofs.Common.{ℕ, suc, ◌+◌, ◌≤◌, [], ◌∷◌, length, Option, Some, arith}
 use Rattle.cyc_words.specs.declared.faults.Kind.TheVariants.{ArrayBounds, NullException}
 use Rattle.cyc_tree.specs.declared.expression.Operator.{Operator}
 use Rattle.cyc_tree.specs.declared.expression.Operator.TheVariants as operator
+use Rattle.std.proofs.Common.{◌%◌, ◌^◌}
+use Rattle.source_lowering.specs.Operators.{enough_code}
+use Rattle.source_meaning.specs.Shapes.{count_of, pointee}
+use Rattle.source_lowering.specs.Members.{bound_code, subscript_code}
+use Rattle.source_meaning.specs.Shapes.{Reach, MayBeNull, NeverNull}
 use Rattle.source_meaning.specs.Shapes.{Shape, ThinShape, FatShape, ArrayShape}
 use Rattle.source_meaning.specs.Memory.{Scalar, Wide}
 use Rattle.source_meaning.specs.Steps.{World}
@@ -10,7 +15,7 @@ use Rattle.source_meaning.specs.Conversions.{cells_of}
 use Rattle.core_meaning.specs.Core as core
 use Rattle.core_meaning.specs.Core.{Do, If, Raise, Constant, Apply, LocalAddress, DataAddress, Element, Load, Store, NoStatements, MoreStatements}
 use Rattle.source_lowering.specs.Layouts.{extent_of}
-use Rattle.source_lowering.specs.Members.{all_of, null_check, check_code, words_in, part_at, loads_code, stores_code, bounds_code, raised, reached_code}
+use Rattle.source_lowering.specs.Members.{all_of, null_check, check_code, words_in, part_at, loads_code, stores_code, bounds_code, raised}
 use Rattle.source_lowering.specs.Members.{element_code, reach_code, index_code, tag_load, tag_store, held_loads, held_stores}
 use Rattle.source_lowering.specs.Lowered.{stored_code, get_local, load_global, put_local, store_global, turned_code, to_fat_code, to_thin_code, compared_code}
 use Rattle.source_lowering.specs.Lowered.{null_code, fat_code, count_code, text_code}
@@ -71,8 +76,8 @@ check_one t p d h =
     one_costs t p 0 1 (If d NoStatements (MoreStatements (Raise NullException) NoStatements)) (omega (arith, h)) (omega arith) (omega arith) (omega arith)
 
 pub check_costs : (t p d : ℕ) (s : Shape) → suc d ≤ t → Costs t p 0 4 (check_code s d)
-check_costs t p d (ThinShape true owner to) h = at_most t p 1 4 _ (omega arith) (check_one t p d h)
-check_costs t p d (ThinShape false owner to) h = nothing t p 4
+check_costs t p d (ThinShape (MayBeNull count) owner to) h = at_most t p 1 4 _ (omega arith) (check_one t p d h)
+check_costs t p d (ThinShape (NeverNull count) owner to) h = nothing t p 4
 check_costs t p d _ h = nothing t p 4
 
 -- the choice between the exceptions is one, and each of them none
@@ -92,20 +97,46 @@ pub index_costs : (w : World) (to : Shape) (t p d : ℕ) → d + 4 ≤ t → Cos
 index_costs w to t p d h =
     does_then t p 4 (Apply core.Add (d + 3) (d + 3) d) _ (omega (arith, h)) (element_costs w to t p d (d + 1) (omega (arith, h)) (omega (arith, h)))
 
+pub bound_costs : (w : World) (bound : Reach) (to : Shape) (t p d : ℕ) → d + 4 ≤ t → Costs t p 0 4 (bound_code w bound to d)
+bound_costs w bound to t p d h =
+    does_then t p 3 (Constant (d + 2) (count_of bound)) _ (omega (arith, h)) (does_then t p 2 (Apply core.LessUnsigned (d + 2) d (d + 2)) _ (omega (arith, h))
+    (both_cost t p 0 1 0 1 (If (d + 2) NoStatements (raised ArrayBounds) ∷ []) _
+    (one_costs t p 0 1 (If (d + 2) NoStatements (raised ArrayBounds)) (omega (arith, h)) (omega arith) (omega arith) (omega arith))
+    (does_one t p (Element d (d + 1) d (length (cells_of w to)) (extent_of w to).size) (omega (arith, h)))))
+
+pub subscript_costs : (w : World) (s : Shape) (t p d : ℕ) → d + 4 ≤ t → Costs t p 0 5 (subscript_code w s d)
+subscript_costs w (ThinShape (MayBeNull count) owner to) t p d h =
+    both_cost t p 0 1 0 4 (null_check (d + 1)) _ (check_one t p (d + 1) (omega (arith, h))) (bound_costs w (MayBeNull count) to t p d h)
+subscript_costs w (ThinShape (NeverNull count) owner to) t p d h = at_most t p 4 5 _ (omega arith) (bound_costs w (NeverNull count) to t p d h)
+subscript_costs w s t p d h = index_costs w (pointee s) t p d h
+
 -- ---- conversions
 
 pub to_fat_costs : (from : Shape) (t p d : ℕ) → d + 3 ≤ t → Costs t p 0 4 (to_fat_code from d)
-to_fat_costs (ThinShape false owner to) t p d h = at_most t p 2 4 _ (omega arith) (bounds_costs t p d 1 h)
-to_fat_costs (ThinShape true owner to) t p d h =
-    does_then t p 3 (core.IsNull (d + 1) d) _ (omega (arith, h)) (does_then t p 2 (Constant (d + 2) 1) _ (omega (arith, h))
-    (does_then t p 1 (Apply core.Xor (d + 1) (d + 2) (d + 1)) _ (omega (arith, h)) (does_one t p (Constant (d + 2) 0) (omega (arith, h)))))
+to_fat_costs (ThinShape (NeverNull count) owner to) t p d h = at_most t p 2 4 _ (omega arith) (bounds_costs t p d (count % 2 ^ 32) h)
+to_fat_costs (ThinShape (MayBeNull count) owner to) t p d h =
+    both_cost t p 0 3 0 1 (If d (all_of (Do (Constant (d + 1) (count % 2 ^ 32)) ∷ [])) (all_of (Do (Constant (d + 1) 0) ∷ [])) ∷ []) _
+    (one_costs t p 0 3 (If d (all_of (Do (Constant (d + 1) (count % 2 ^ 32)) ∷ [])) (all_of (Do (Constant (d + 1) 0) ∷ []))) (omega (arith, h)) (omega arith)
+    (omega arith) (omega arith))
+    (does_one t p (Constant (d + 2) 0) (omega (arith, h)))
 to_fat_costs _ t p d h = nothing t p 4
 
-pub to_thin_costs : (w : World) (may_be_null : Bool) (to : Shape) (t p d : ℕ) → d + 3 ≤ t → Costs t p 0 4 (to_thin_code w may_be_null to d)
-to_thin_costs w false to t p d h = element_costs w to t p d d (omega (arith, h)) h
-to_thin_costs w true to t p d h =
-    one_costs t p 0 4 (If d (all_of (Do (Apply core.LessUnsigned (d + 1) (d + 2) (d + 1)) ∷ reached_code w to d d (raised ArrayBounds))) NoStatements)
-    (omega (arith, h)) (omega arith) (omega arith) (omega arith)
+enough_costs : (w : World) (count : ℕ) (to : Shape) (t p d : ℕ) → d + 4 ≤ t → Costs t p 0 7 (enough_code w count to d)
+enough_costs w count to t p d h =
+    does_then t p 6 (Apply core.LessUnsigned (d + 3) (d + 2) (d + 1)) _ (omega (arith, h))
+    (both_cost t p 0 1 0 5 (If (d + 3) NoStatements (raised ArrayBounds) ∷ []) _
+    (one_costs t p 0 1 (If (d + 3) NoStatements (raised ArrayBounds)) (omega (arith, h)) (omega arith) (omega arith) (omega arith))
+    (does_then t p 4 (Apply core.Subtract (d + 1) (d + 1) (d + 2)) _ (omega (arith, h)) (does_then t p 3 (Constant (d + 3) count) _ (omega (arith, h))
+    (does_then t p 2 (Apply core.LessUnsigned (d + 1) (d + 1) (d + 3)) _ (omega (arith, h))
+    (both_cost t p 0 1 0 1 (If (d + 1) (raised ArrayBounds) NoStatements ∷ []) _
+    (one_costs t p 0 1 (If (d + 1) (raised ArrayBounds) NoStatements) (omega (arith, h)) (omega arith) (omega arith) (omega arith))
+    (does_one t p (Element d d (d + 2) (length (cells_of w to)) (extent_of w to).size) (omega (arith, h))))))))
+
+pub to_thin_costs : (w : World) (may_be_null : Reach) (to : Shape) (t p d : ℕ) → d + 4 ≤ t → Costs t p 0 8 (to_thin_code w may_be_null to d)
+to_thin_costs w (NeverNull count) to t p d h =
+    both_cost t p 0 1 0 7 (null_check d) _ (check_one t p d (omega (arith, h))) (enough_costs w (count % 2 ^ 32) to t p d h)
+to_thin_costs w (MayBeNull count) to t p d h =
+    one_costs t p 0 8 (If d (all_of (enough_code w (count % 2 ^ 32) to d)) NoStatements) (omega (arith, h)) (omega arith) (omega arith) (omega arith)
 
 -- ---- operators
 

@@ -84,9 +84,9 @@ assigned_costs w names s place value t p d own h f g = by s h
         let b = stores_costs w names place t p d (own + length (expression_values w names value)) h.0 (omega (arith, f, n)) (omega (arith, g)) in
         let l = a.less in let k = b.less in
         record {
-          operations = a.operations + (4 + b.operations);
-          costs = both_cost t p 0 a.operations 0 (4 + b.operations) _ _ a.costs
-              (both_cost t p 0 4 0 b.operations _ _ (conversion_costs w t p d (static_shape w names place) (static_shape w names value)
+          operations = a.operations + (8 + b.operations);
+          costs = both_cost t p 0 a.operations 0 (8 + b.operations) _ _ a.costs
+              (both_cost t p 0 8 0 b.operations _ _ (conversion_costs w t p d (static_shape w names place) (static_shape w names value)
               (omega (arith, f, n))) b.costs);
           less = omega (arith, l, k);
         }

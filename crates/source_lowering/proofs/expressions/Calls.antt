@@ -1,6 +1,7 @@
 -- Calls: arguments, and the program's own functions.
 use Rattle.std.proofs.Common.{◌≡◌, ℕ, zero, suc, ◌+◌, ◌<◌, ◌≤◌, ◌⊎◌, inl, inr, ⊎_elim, List, [], ◌∷◌, ◌++◌, length, Some, refl, sym, ap, ◌∙◌, subst, arith}
 use Rattle.std.specs.Prelude.{slice_get}
+use Rattle.source_meaning.specs.Shapes.{count_of}
 use Rattle.source_meaning.specs.Shapes.{
   Shape,
   IntShape,
@@ -153,7 +154,7 @@ shown_many w m c IntShape v cs h o = ap length o.shown
 shown_many w m c UnsignedShape v cs h o = ap length o.shown
 shown_many w m c CharShape v cs h o = ap length o.shown
 shown_many w m c VoidShape v cs h o = absurd o
-shown_many w m c (ThinShape b owner to) v cs h o = ⊎_elim (λ (z : ANull b v cs). ap length z.shown) (λ (z : APointer w m c owner to v cs). ap length z.shown) o
+shown_many w m c (ThinShape b owner to) v cs h o = ⊎_elim (λ (z : ANull b v cs). ap length z.shown) (λ (z : APointer w m c (count_of b) owner to v cs). ap length z.shown) o
 shown_many w m c (FatShape to) v cs h o =
     ⊎_elim (λ (z : AFatNull v cs). ap length z.shown) (λ (z : AFat w m c to (size_of w to) v cs). ap length z.shown) o
 shown_many w m c HandleShape v cs h o = ap length o.shown

@@ -5,6 +5,8 @@ use Rattle.std.proofs.lemmas.Bool.Decides.{nat_tests}
 use Rattle.cyc_words.specs.Events.{SourceEnding}
 use Rattle.step_trees.specs.Trees.{Stops}
 use Rattle.cyc_words.specs.declared.faults.Kind.TheVariants.{NullException, ArrayBounds}
+use Rattle.std.specs.Prelude.{◌-◌}
+use Rattle.source_lowering.specs.Memories.{LeadsAll}
 use Rattle.source_meaning.specs.Shapes.{Shape, FatShape}
 use Rattle.source_meaning.specs.Memory as source
 use Rattle.source_meaning.specs.Memory.{Scalar, Wide, Spot, Span}
@@ -23,7 +25,7 @@ use Rattle.source_lowering.specs.Layouts.{extent_of}
 use Rattle.source_lowering.specs.Lowered.{put, all_of}
 use Rattle.source_lowering.specs.Simulation.{at, IsTakenObject, Leads, AFatNull, AFat, Shown, Point, SameAt, Next, contents_in}
 use Rattle.source_lowering.proofs.Runs.{stops_same}
-use Rattle.source_lowering.proofs.memory.Members.{FirstPart, first_part_of, first_reached}
+use Rattle.source_lowering.proofs.memory.Members.{beyond_on, FirstPart, first_part_of, first_reached}
 use Rattle.source_lowering.proofs.values.Values.{put_temp}
 use Rattle.source_lowering.proofs.values.Tests.{two_words}
 
@@ -113,10 +115,10 @@ element_reached w to c t p byte i s otherwise rest next pointer index first =
 -- ---- both do the same
 
 -- what comes after: a pointer to the element is in its temporary
-pub record ElementGoesOn (p : Point) (n t q : ℕ) (to : Shape) (m : source.Memory) (c : Config) (s : Spot → source.Memory → steps.Step)
+pub record ElementGoesOn (p : Point) (n t q left : ℕ) (to : Shape) (m : source.Memory) (c : Config) (s : Spot → source.Memory → steps.Step)
     (k : Config → core_steps.Step) : Type 0 where
   pub go : (spot : Spot) (byte : ℕ) → IsTakenObject p.world to → Leads p.world m c.memory to spot byte
-      → SameAt p n (s spot m) (k (with_temp t (Pointer (at spot) byte) (with_temp (q + 1) (Word 1) c)))
+      → LeadsAll p.world m c.memory to left spot byte → SameAt p n (s spot m) (k (with_temp t (Pointer (at spot) byte) (with_temp (q + 1) (Word 1) c)))
 
 -- the current element
 abbrev pub element_spot : World → Shape → Span → Spot
@@ -133,9 +135,23 @@ element_there w m c to v cs z less =
     let leads = z.leads z.span.index less in
     record { leads = leads; first = first_part_of w c to (at (element_spot w to z.span)) (z.byte + z.span.index * (extent_of w to).size) z.lies.cells leads.1 }
 
+-- so are those behind it
+pub rest_led : (w : World) (m : source.Memory) (c : core.Memory) (to : Shape) (v : Scalar) (cs : List Content) → (z : AFat w m c to (size_of w to) v cs)
+    → z.span.index < z.span.count
+    → LeadsAll w m c to (z.span.count - z.span.index) (element_spot w to z.span) (z.byte + z.span.index * (extent_of w to).size)
+rest_led w m c to v cs z less i few =
+    let cells : ℕ = length (cells_of w to) in
+    let size : ℕ = size_of w to in
+    let here : source.beyond (element_spot w to z.span) (i * cells) ≡ source.beyond z.span.first ((z.span.index + i) * cells) =
+    beyond_on z.span.first (z.span.index * cells) (i * cells) ((z.span.index + i) * cells) (omega arith) in
+    let there : z.byte + (z.span.index + i) * size ≡ z.byte + z.span.index * size + i * size = omega arith in
+    subst (λ a. Leads w m c to a (z.byte + z.span.index * size + i * size)) (sym here)
+    (subst (λ b. Leads w m c to (source.beyond z.span.first ((z.span.index + i) * cells)) b) there (z.leads (z.span.index + i) (omega (arith, less, few))))
+
 pub element_same : (p : Point) (n t q : ℕ) (to : Shape) (v : Scalar) (m : source.Memory) (c : Config) (s : Spot → source.Memory → steps.Step)
     (rest : Statements) (next : Next) → Shown p.world m c.memory (FatShape to) v (contents_in q (FatShape to) c.temps)
-    → (AFat p.world m c.memory to (size_of p.world to) v (contents_in q (FatShape to) c.temps) → ElementGoesOn p n t q to m c s (meaning.statements rest next))
+    → ((z : AFat p.world m c.memory to (size_of p.world to) v (contents_in q (FatShape to) c.temps)) → z.span.index < z.span.count
+    → ElementGoesOn p n t q (z.span.count - z.span.index) to m c s (meaning.statements rest next))
     → SameAt p n (accessed (length (cells_of p.world to)) v s m) (meaning.statements (put (element_code p.world to t q) rest) next c)
 element_same p n t q to v m c s rest next shown goes = ⊎_elim null some shown
   where
@@ -190,4 +206,5 @@ element_same p n t q to v m c s rest next shown goes = ⊎_elim null some shown
             rw e
             (subst (λ u. SameAt p n (s (element_spot p.world to z.span) m) u)
             (sym (element_reached p.world to c t q z.byte z.span.index (at z.span.first) otherwise rest next three.pointer three.index one.first))
-            ((goes z).go (element_spot p.world to z.span) (z.byte + z.span.index * bytes) z.lies one.leads))
+            ((goes z less).go (element_spot p.world to z.span) (z.byte + z.span.index * bytes) z.lies one.leads
+            (rest_led p.world m c.memory to v (contents_in q (FatShape to) c.temps) z less)))

@@ -3,6 +3,7 @@ use Rattle.std.proofs.Common.{◌≡◌, ℕ, List, [], ◌∷◌, ◌++◌, Boo
 use Rattle.std.specs.Prelude.{bytes_eq, if◌then◌else◌}
 use Rattle.cyc_tree.specs.Tree.{Expression, Expressions, NoExpressions, MoreExpressions, Links, NoLinks, MoreLinks, Suffixes, NoSuffixes, Index, Dot, Arrow}
 use Rattle.cyc_tree.specs.Tree.{Made, One, Array}
+use Rattle.source_meaning.specs.Shapes.{NeverNull}
 use Rattle.source_meaning.specs.Shapes.{Shape, Shared, StructShape, UnionShape, ThinShape, FatShape, Part, parts_of}
 use Rattle.source_meaning.specs.Steps.{Entity, World}
 use Rattle.source_meaning.specs.Operators.{operator_shape}
@@ -61,7 +62,7 @@ mutual
       same_linked w others ls ks (operator_shape operator left (static_shape w ks operand)) same
 
   pub same_new : (w : World) (owner : Owner) (new : Made) (ls ks : List Named) → SameNames ls ks → new_shape w ls owner new ≡ new_shape w ks owner new
-  same_new w owner (One value) ls ks same = ap (λ z. ThinShape false owner z) (same_shape w value ls ks same)
+  same_new w owner (One value) ls ks same = ap (λ z. ThinShape (NeverNull 1) owner z) (same_shape w value ls ks same)
   same_new w owner (Array index count element) ls ks same =
       ap (λ z. FatShape z) (same_shape w element (number_named index.text 0 ∷ ls) (number_named index.text 0 ∷ ks) (refl, (refl, same)))
 

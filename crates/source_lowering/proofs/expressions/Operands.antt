@@ -260,7 +260,7 @@ operands_same p n d o sa sb u v m0 c0 m c s rest next taken1 taken2 shown1 shown
             (λ z f.
             subst (λ y. SameAt p n (result (Thin None) v m) (meaning.statements (put (operator_code o y sb d) rest) next c)) (sym a.shape_is)
             (subst (λ y. SameAt p n (result (Thin None) v m)
-            (meaning.statements (put (operator_code o (ThinShape a.may_be_null a.owner a.to) y d) rest) next c)) (sym b.shape_is)
+            (meaning.statements (put (operator_code o (ThinShape a.bound a.owner a.to) y d) rest) next c)) (sym b.shape_is)
             (null_compared p n d (d + 1) o sa sb sb v m0 c0 m c s rest next (λ y. need (operators.operated m o (Thin None) y)) (λ q then. refl) fat fits later
             kept goes)))
             (λ t byte z lies leads.

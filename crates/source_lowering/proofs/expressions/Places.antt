@@ -1,10 +1,12 @@
 -- Places and the pointers to them: a variable, `*e`, what is read and stored there, and `&e`.
-use Rattle.std.proofs.Common.{◌≡◌, ℕ, ◌+◌, inl, inr, ⊎_elim, List, [], ◌∷◌, ◌++◌, length, Bool, true, false, Some, None, refl, sym, ap, ◌∙◌, subst, arith, ◌≤◌}
+use Rattle.std.proofs.Common.{◌≡◌, ℕ, ◌+◌, inl, inr, ⊎_elim, List, [], ◌∷◌, ◌++◌, length, true, Some, None, refl, sym, ap, ◌∙◌, subst, arith, ◌≤◌}
 use Rattle.std.specs.Prelude.{slice_get}
 use Rattle.step_trees.specs.Trees.{Stops}
 use Rattle.std.proofs.lemmas.Bool.{false≢true}
 use Rattle.cyc_words.specs.declared.faults.Kind.TheVariants.{NullException}
 use Rattle.cyc_words.specs.Events.{SourceEnding}
+use Rattle.source_lowering.proofs.memory.LayoutsKept.{one_led}
+use Rattle.source_meaning.specs.Shapes.{Reach, MayBeNull, NeverNull, may_be_null}
 use Rattle.source_meaning.specs.Shapes.{
   Owner,
   Shared,
@@ -206,17 +208,17 @@ variable_placed p n d name locals words globals structs =
 -- ---- `*e`
 
 -- NULL raises where a pointer may be it
-null_raises : (p : Point) (n d : ℕ) (b : Bool) (q : Owner) (to : Shape) (c : Config) (rest : Statements) (next : Next) → b ≡ true → c.temps d ≡ Null
+pub null_raises : (p : Point) (n d : ℕ) (b : Reach) (q : Owner) (to : Shape) (c : Config) (rest : Statements) (next : Next) → may_be_null b ≡ true → c.temps d ≡ Null
     → SameAt p n (Stops (SourceEnding.Raised NullException)) (meaning.statements (put (check_code (ThinShape b q to) d) rest)
     next c)
-null_raises p n d true q to c rest next allowed null = rw null (stops_same p.world p.program n (SourceEnding.Raised NullException))
-null_raises p n d false q to c rest next allowed null = absurd (false≢true allowed)
+null_raises p n d (MayBeNull count) q to c rest next allowed null = rw null (stops_same p.world p.program n (SourceEnding.Raised NullException))
+null_raises p n d (NeverNull count) q to c rest next allowed null = absurd (false≢true allowed)
 
 -- another pointer passes
-spot_passes : (d byte : ℕ) (b : Bool) (q : Owner) (to : Shape) (t : core.Spot) (c : Config) (rest : Statements) (next : Next) → c.temps d ≡ Pointer t byte
+pub spot_passes : (d byte : ℕ) (b : Reach) (q : Owner) (to : Shape) (t : core.Spot) (c : Config) (rest : Statements) (next : Next) → c.temps d ≡ Pointer t byte
     → meaning.statements (put (check_code (ThinShape b q to) d) rest) next c ≡ meaning.statements rest next c
-spot_passes d byte true q to t c rest next temp = rw temp refl
-spot_passes d byte false q to t c rest next temp = refl
+spot_passes d byte (MayBeNull count) q to t c rest next temp = rw temp refl
+spot_passes d byte (NeverNull count) q to t c rest next temp = refl
 
 pub contents_reached : (p : Point) (n d : ℕ) (e : Sense) (shape : Shape) (code : List Statement) → Agrees p n d e shape code
     → PlacedAs p n d (pointee shape) (e.look >>= one >>= λ q. accessed (length (cells_of p.world (pointee shape))) q) (code ++ reach_code p.world shape d)
@@ -233,10 +235,10 @@ contents_reached p n d e shape code agrees = record {
             (λ v o.
             subst (λ z. SameAt p n (accessed cells v s m1) (meaning.statements (put (reach_code p.world z d) rest) next c1)) (sym o.shape_is)
             (thin_same p.world p.program n shape m1 c1.memory v (c1.temps d) (λ u. accessed cells u s)
-            (meaning.statements (put (check_code (ThinShape o.may_be_null o.owner o.to) d) rest) next c1) o
-            (λ x b. null_raises p n d o.may_be_null o.owner o.to c1 rest next b x)
+            (meaning.statements (put (check_code (ThinShape o.bound o.owner o.to) d) rest) next c1) o
+            (λ x b. null_raises p n d o.bound o.owner o.to c1 rest next b x)
             (λ t byte x full leads.
-            subst (λ z. SameAt p n (s t m1) z) (sym (spot_passes d byte o.may_be_null o.owner o.to (at t) c1 rest next x))
+            subst (λ z. SameAt p n (s t m1) z) (sym (spot_passes d byte o.bound o.owner o.to (at t) c1 rest next x))
             ((subst (λ z. PlaceGoesOn p n d m c (pointee z) s (meaning.statements rest next)) o.shape_is goes).go m1 c1 t byte fits1 later1 kept1 x
             full leads))))
             (λ birth x shape_is. stuck_same p.world p.program n _)
@@ -244,8 +246,8 @@ contents_reached p n d e shape code agrees = record {
             (λ v o.
             subst (λ z. SameAt p n (accessed (length (cells_of p.world (pointee z))) v s m1) (meaning.statements (put (reach_code p.world z d) rest) next c1))
             (sym o.shape_is)
-            (element_same p n d d o.to v m1 c1 s rest next o.shown (λ z. record {
-              go = λ t byte lies leads.
+            (element_same p n d d o.to v m1 c1 s rest next o.shown (λ z less. record {
+              go = λ t byte lies leads all.
                   let here : Config = with_temp (d + 1) (Word 1) c1 in
                   (subst (λ z. PlaceGoesOn p n d m c (pointee z) s (meaning.statements rest next)) o.shape_is goes).go m1
                   (with_temp d (Pointer (at t) byte) here) t byte
@@ -280,15 +282,15 @@ pointee_taken (ArrayShape count of) h = tt
 
 pub address_agrees : (p : Point) (n d : ℕ) (e : Sense) (shape : Shape) (code : List Statement) → e.shape ≡ shape → IsTarget shape
     → PlacedAs p n d shape e.place code
-    → Agrees p n d (value_sense (ThinShape false Shared e.shape) (e.place >>= λ t. give (Thin (Some t) ∷ []))) (ThinShape false Shared shape) code
+    → Agrees p n d (value_sense (ThinShape (NeverNull 1) Shared e.shape) (e.place >>= λ t. give (Thin (Some t) ∷ []))) (ThinShape (NeverNull 1) Shared shape) code
 address_agrees p n d e shape code same taken placed = record {
-  shape_is = ap (λ z. ThinShape false Shared z) same;
+  shape_is = ap (λ z. ThinShape (NeverNull 1) Shared z) same;
   taken = taken;
   looks = gives;
   values = gives;
 }
   where
-    gives : GivesAs p n d (ThinShape false Shared shape) (e.place >>= λ t. give (Thin (Some t) ∷ [])) code
+    gives : GivesAs p n d (ThinShape (NeverNull 1) Shared shape) (e.place >>= λ t. give (Thin (Some t) ∷ [])) code
     gives = record {
       same = λ m c s rest next fits goes.
           placed.same m c (λ t. s (Thin (Some t) ∷ [])) rest next fits (record {
@@ -304,20 +306,22 @@ address_agrees p n d e shape code same taken placed = record {
                     shown = ap (λ z. z ∷ []) temp;
                     lies = word;
                     leads = leads;
+                    few = omega arith;
+                    elements = one_led p.world m1 c1.memory shape t byte leads;
                     owned = tt;
                   });
                 }));
           });
     }
 
-pub null_agrees : (p : Point) (n d : ℕ) → Agrees p n d (value_sense (ThinShape true Shared VoidShape) (give (Thin None ∷ [])))
-    (ThinShape true Shared VoidShape) (Do (NullPointer d) ∷ [])
+pub null_agrees : (p : Point) (n d : ℕ) → Agrees p n d (value_sense (ThinShape (MayBeNull 1) Shared VoidShape) (give (Thin None ∷ [])))
+    (ThinShape (MayBeNull 1) Shared VoidShape) (Do (NullPointer d) ∷ [])
 null_agrees p n d = record { shape_is = refl; taken = tt; looks = gives; values = gives }
   where
-    gives : GivesAs p n d (ThinShape true Shared VoidShape) (give (Thin None ∷ [])) (Do (NullPointer d) ∷ [])
+    gives : GivesAs p n d (ThinShape (MayBeNull 1) Shared VoidShape) (give (Thin None ∷ [])) (Do (NullPointer d) ∷ [])
     gives = record {
       same = λ m c s rest next fits goes.
-          put_value p n d m c m c (ThinShape true Shared VoidShape) (Thin None ∷ []) Null s (meaning.statements rest next) fits
+          put_value p n d m c m c (ThinShape (MayBeNull 1) Shared VoidShape) (Thin None ∷ []) Null s (meaning.statements rest next) fits
           (later_self (within p) m c.memory) (λ k h. refl) refl
           (inl (record { value = Thin None; alone = refl; shown = inl (record { allowed = refl; value = refl; shown = refl }) })) goes;
     }

@@ -1,5 +1,6 @@
 -- Handles, and what `new` and `rnew` make: the handle is there, the value is evaluated, then a block is asked for, and the value is stored to it.
 use Rattle.std.proofs.Common.{◌≡◌, ℕ, ◌+◌, ◌≤◌, inl, List, [], ◌∷◌, ◌++◌, false, refl, sym, ap, subst, arith, Bool, true}
+use Rattle.source_meaning.specs.Shapes.{NeverNull}
 use Rattle.source_meaning.specs.Shapes.{HandleShape, Shape, IntShape, UnsignedShape, CharShape, VoidShape, ThinShape, FatShape, KeyShape, StructShape, UnionShape, ArrayShape}
 use Rattle.source_meaning.specs.Memory as source
 use Rattle.source_meaning.specs.Memory.{HandleOf}
@@ -119,21 +120,21 @@ pub made_agrees : (p : Point) (n d own : ℕ) (unique : Bool) (to : steps.Act Ma
     → TakesMember shape takes_whole takes → AreNumbered p.owned own (values_by shape whole_values word_values) → GivesTo p n d unique to code
     → (takes_whole → AreNumbered p.owned own whole_values → IsWholeAs p n (d + 1) own e shape whole)
     → (takes → AreNumbered p.owned own word_values → Agrees p n (d + 1) e shape word)
-    → Agrees p n d (made p.world to (owner_in unique) e) (ThinShape false (owner_in unique) shape) (code ++ new_code_by p.world unique shape d whole word)
+    → Agrees p n d (made p.world to (owner_in unique) e) (ThinShape (NeverNull 1) (owner_in unique) shape) (code ++ new_code_by p.world unique shape d whole word)
 made_agrees p n d own unique to e shape whole_values word_values code whole word takes_whole takes unions structs object less h numbered handle structs_as words_as =
     by shape object h numbered structs_as words_as
   where
     -- the handle, and then what is made there
     after : (z : Shape) → IsObject p.world.unions p.world.structs z → e.shape ≡ z → MakesAs p n d unique z (made_act p.world e) (new_code_by p.world unique z d whole word)
-        → Agrees p n d (made p.world to (owner_in unique) e) (ThinShape false (owner_in unique) z) (code ++ new_code_by p.world unique z d whole word)
+        → Agrees p n d (made p.world to (owner_in unique) e) (ThinShape (NeverNull 1) (owner_in unique) z) (code ++ new_code_by p.world unique z d whole word)
     after z o shape_is makes = record {
-      shape_is = ap (λ x. ThinShape false (owner_in unique) x) shape_is;
+      shape_is = ap (λ x. ThinShape (NeverNull 1) (owner_in unique) x) shape_is;
       taken = object_target p.world.unions p.world.structs z o;
       looks = gives;
       values = gives;
     }
       where
-        gives : GivesAs p n d (ThinShape false (owner_in unique) z) (to >>= made_act p.world e) (code ++ new_code_by p.world unique z d whole word)
+        gives : GivesAs p n d (ThinShape (NeverNull 1) (owner_in unique) z) (to >>= made_act p.world e) (code ++ new_code_by p.world unique z d whole word)
         gives = record {
           same = λ m c s rest next fits goes.
               subst (λ x. SameAt p n (to (λ maker. made_act p.world e maker s) m) (meaning.statements x next c))
@@ -145,7 +146,7 @@ made_agrees p n d own unique to e shape whole_values word_values code whole word
         }
 
     goal : Shape → Type 0
-    goal z = Agrees p n d (made p.world to (owner_in unique) e) (ThinShape false (owner_in unique) z) (code ++ new_code_by p.world unique z d whole word)
+    goal z = Agrees p n d (made p.world to (owner_in unique) e) (ThinShape (NeverNull 1) (owner_in unique) z) (code ++ new_code_by p.world unique z d whole word)
 
     by : (z : Shape) → IsObject p.world.unions p.world.structs z → TakesMember z takes_whole takes
         → AreNumbered p.owned own (values_by z whole_values word_values)

@@ -1,6 +1,8 @@
 -- A value that was evaluated is stored to a block that is asked for: a value of one cell to that, and a struct or a union by a copy of its unnamed value.
 use Rattle.std.proofs.Common.{◌≡◌, ℕ, suc, ◌+◌, ◌≤◌, inl, inr, List, [], ◌∷◌, ◌++◌, Bool, true, false, Some, refl, sym, ap, ◌∙◌, subst, arith}
 use Rattle.std.specs.Prelude.{slice_get}
+use Rattle.source_lowering.proofs.memory.LayoutsKept.{one_led}
+use Rattle.source_meaning.specs.Shapes.{NeverNull}
 use Rattle.source_meaning.specs.Shapes.{Owner, Shape, ThinShape}
 use Rattle.source_meaning.specs.Memory as source
 use Rattle.source_meaning.specs.Memory.{Holds, Scalar, Spot, Thin, blank_object, is_live, next_spot}
@@ -71,7 +73,7 @@ made_act w e to = e.value >>= λ vs. stored_act w e.shape to vs
 pub record MakesAs (p : Point) (n d : ℕ) (unique : Bool) (shape : Shape) (act : Maker → steps.Act (List Scalar)) (code : List Statement) : Type 0 where
   pub same : (m0 : source.Memory) (c0 : Config) (m : source.Memory) (c : Config) (to : Maker) (s : List Scalar → source.Memory → steps.Step)
       (rest : Statements) (next : Next) → SameState p m c → GrownAt p m0 c0 m c → AreKept d c0 c → IsMaker unique to d c
-      → GoesOn p n d m0 c0 (ThinShape false (owner_in unique) shape) s (meaning.statements rest next)
+      → GoesOn p n d m0 c0 (ThinShape (NeverNull 1) (owner_in unique) shape) s (meaning.statements rest next)
       → SameAt p n (act to s m) (meaning.statements (put code rest) next c)
 
 -- a handle stays in its temporary
@@ -85,7 +87,7 @@ maker_kept true (InRegion r) d c c1 e h = absurd h
 pointer_given : (p : Point) (n d : ℕ) (m0 : source.Memory) (c0 : Config) (owner : Owner) (shape : Shape) (m : source.Memory) (c : Config) (t : Spot)
     (s : List Scalar → source.Memory → steps.Step) (k : Config → core_steps.Step) → AreStructs p.world.unions p.world.structs
     → IsObject p.world.unions p.world.structs shape → SameState p m c → GrownAt p m0 c0 m c → AreKept d c0 c → c.temps d ≡ Pointer (at t) 0
-    → Leads p.world m c.memory shape t 0 → IsOwned owner c.memory t 0 → GoesOn p n d m0 c0 (ThinShape false owner shape) s k
+    → Leads p.world m c.memory shape t 0 → IsOwned owner c.memory t 0 → GoesOn p n d m0 c0 (ThinShape (NeverNull 1) owner shape) s k
     → SameAt p n (s (Thin (Some t) ∷ []) m) (k c)
 pointer_given p n d m0 c0 owner shape m c t s k structs object fits later kept temp leads owned goes =
     goes.go m c (Thin (Some t) ∷ []) fits later kept (inl (record {
@@ -98,6 +100,8 @@ pointer_given p n d m0 c0 owner shape m c t s k structs object fits later kept t
         shown = ap (λ z. z ∷ []) temp;
         lies = lies_here p.world shape structs object;
         leads = leads;
+        few = omega arith;
+        elements = one_led p.world m c.memory shape t 0 leads;
         owned = owned;
       });
     }))
@@ -108,7 +112,7 @@ value_there_stored : (p : Point) (n d e : ℕ) (unique : Bool) (to : Maker) (sha
     (c : Config) (vs : List Scalar) (s : List Scalar → source.Memory → steps.Step) (rest : Statements) (next : Next) → AreUnions p.world.unions
     → AreStructs p.world.unions p.world.structs → IsValueShape shape → d + 1 + words_in shape ≤ e → SameState p m c → GrownAt p m0 c0 m c → AreKept d c0 c
     → IsMaker unique to d c → AValue p.world m c.memory shape vs (contents_in (d + 1) shape c.temps)
-    → GoesOn p n d m0 c0 (ThinShape false (owner_in unique) shape) s (meaning.statements rest next)
+    → GoesOn p n d m0 c0 (ThinShape (NeverNull 1) (owner_in unique) shape) s (meaning.statements rest next)
     → SameAt p n (stored_act p.world shape to vs s m)
     (meaning.statements (put (request_code p.world unique shape d e) (put (stores_code shape d (d + 1) 0 0) rest)) next c)
 value_there_stored p n d e unique to shape m0 c0 m c vs s rest next unions structs is_value below fits later kept maker v goes =
@@ -198,7 +202,7 @@ whole_stored : (p : Point) (n d value : ℕ) (unique : Bool) (to : Maker) (shape
     → IsObject p.world.unions p.world.structs shape → slice_get p.owned value ≡ Some shape → SameState p m c → GrownAt p m0 c0 m c → AreKept d c0 c
     → IsMaker unique to d c → c.temps (d + 1) ≡ Pointer (own_spot p.own value 0) 0
     → AllShown p.world m c.memory (own_spot p.own value 0) (cells_of p.world shape) vs
-    → GoesOn p n d m0 c0 (ThinShape false (owner_in unique) shape) s (meaning.statements rest next)
+    → GoesOn p n d m0 c0 (ThinShape (NeverNull 1) (owner_in unique) shape) s (meaning.statements rest next)
     → SameAt p n (stored_act p.world shape to vs s m)
     (meaning.statements (put (request_code p.world unique shape d (d + 2))
     (put (Do (Copy d (d + 1) (layout_of p.world shape)) ∷ []) rest)) next c)

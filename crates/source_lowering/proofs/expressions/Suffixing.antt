@@ -1,6 +1,8 @@
 -- Suffixes: what they lead to lies at a distance from a pointer.
 use Rattle.std.proofs.Common.{◌≡◌, ℕ, ◌+◌, List, ◌++◌, length, refl, sym, ap, subst}
 use Rattle.cyc_tree.specs.Tree.{Suffixes, NoSuffixes, Index, Dot, Arrow}
+use Rattle.source_lowering.specs.Members.{subscript_code}
+use Rattle.source_meaning.specs.Shapes.{bound_in}
 use Rattle.source_meaning.specs.Shapes.{Shape, part_shape, pointee}
 use Rattle.source_meaning.specs.Sizes.{cells_before}
 use Rattle.source_meaning.specs.Memory as source
@@ -28,7 +30,6 @@ use Rattle.source_lowering.specs.Lowered.{
   expression_code,
   suffixed_code,
 }
-use Rattle.source_lowering.specs.Members.{index_code}
 use Rattle.source_lowering.specs.Lowerable.{IsObject, IsOperandShape, AreStructs, TakesMembers, TakesSuffixes}
 use Rattle.source_lowering.specs.Simulation.{Point}
 use Rattle.source_lowering.proofs.values.Integers.{object_value}
@@ -88,25 +89,25 @@ arrow_same p n e left f structs agrees object =
 -- `a[b]`
 pub element_same : (p : Point) (n : ℕ) (a b : Sense) (sa sb : Shape) (ca cb : ℕ → List Statement) → ((d : ℕ) → Agrees p n d a sa (ca d))
     → ((d : ℕ) → Agrees p n d b sb (cb d)) → IsObject p.world.unions p.world.structs (pointee sa)
-    → MemberAs p n (indexed p.world a b) (element_at p.world (pointee sa) cb ca)
+    → MemberAs p n (indexed p.world a b) (element_at p.world sa cb ca)
 element_same p n a b sa sb ca cb x y object =
     subst (λ z. MemberAs p n (place_sense p.world (pointee z)
-    (b.look >>= one >>= integer >>= λ k. a.look >>= one >>= indexed_span k >>= λ q. accessed (length (cells_of p.world (pointee z))) q))
-    (element_at p.world (pointee sa) cb ca)) (sym (x 0).shape_is)
+    (b.look >>= one >>= integer >>= λ k. a.look >>= one >>= indexed_span (bound_in z) k >>= λ q. accessed (length (cells_of p.world (pointee z))) q))
+    (element_at p.world sa cb ca)) (sym (x 0).shape_is)
     (record {
       shape_is = refl;
       object = object;
       reached = here;
-      value = λ single d. reached_value p n d 0 0 (pointee sa) _ (cb d ++ (ca (d + 1) ++ index_code p.world (pointee sa) d))
+      value = λ single d. reached_value p n d 0 0 (pointee sa) _ (cb d ++ (ca (d + 1) ++ subscript_code p.world sa d))
           (object_value p.world.unions p.world.structs (pointee sa) object single) (here d);
       given = λ s m. refl;
       looked = λ s m. refl;
     })
   where
     here : (d : ℕ) → ReachedAs p n d 0 0 (pointee sa)
-        (b.look >>= one >>= integer >>= λ k. a.look >>= one >>= indexed_span k >>= λ q. accessed (length (cells_of p.world (pointee sa))) q)
-        (cb d ++ (ca (d + 1) ++ index_code p.world (pointee sa) d))
-    here d = placed_reached p n d (pointee sa) _ (cb d ++ (ca (d + 1) ++ index_code p.world (pointee sa) d))
+        (b.look >>= one >>= integer >>= λ k. a.look >>= one >>= indexed_span (bound_in sa) k >>= λ q. accessed (length (cells_of p.world (pointee sa))) q)
+        (cb d ++ (ca (d + 1) ++ subscript_code p.world sa d))
+    here d = placed_reached p n d (pointee sa) _ (cb d ++ (ca (d + 1) ++ subscript_code p.world sa d))
         (indexed_placed p n d a b sa sb (ca (d + 1)) (cb d) (x (d + 1)) (y d))
 
 -- further suffixes on what they lead to
@@ -118,8 +119,8 @@ further_same NoSuffixes scope p n names e left own world structs h indices so_fa
 further_same (Index index others) scope p n names e left own world structs h indices so_far =
     let to = pointee left.shape in
     let code : ℕ → List Statement = λ d. expression_code p.world names index d (own + length (suffix_values p.world names others)) in
-    further_same others scope p n names (indexed scope.world e (sense index scope)) (element_at p.world to code left.value) own world structs h.1.1.1 indices.1
-    (subst (λ z. MemberAs p n (indexed z e (sense index scope)) (element_at p.world to code left.value)) (sym world)
+    further_same others scope p n names (indexed scope.world e (sense index scope)) (element_at p.world left.shape code left.value) own world structs h.1.1.1 indices.1
+    (subst (λ z. MemberAs p n (indexed z e (sense index scope)) (element_at p.world left.shape code left.value)) (sym world)
     (element_same p n e (sense index scope) left.shape (static_shape p.world names index) left.value code (so_far.value h.0) indices.0 h.1.1.0))
 further_same (Dot f others) scope p n names e left own world structs h indices so_far =
     let more = member_at p.world left.shape left.pointer left.cells left.bytes f.text in
@@ -136,7 +137,7 @@ pub suffixes_shape : (suffixes : Suffixes) (w : World) (names : List Named) (lef
     → (suffixed_code w names suffixes left own).shape ≡ suffixed_shape w suffixes left.shape
 suffixes_shape NoSuffixes w names left own = refl
 suffixes_shape (Index index others) w names left own =
-    suffixes_shape others w names (element_at w (pointee left.shape)
+    suffixes_shape others w names (element_at w left.shape
     (λ d. expression_code w names index d (own + length (suffix_values w names others))) left.value) own
 suffixes_shape (Dot f others) w names left own =
     suffixes_shape others w names (member_at w left.shape left.pointer left.cells left.bytes f.text) own
@@ -152,9 +153,9 @@ pub suffixes_same : (suffixes : Suffixes) (scope : Scope) (p : Point) (n : ℕ) 
 suffixes_same NoSuffixes scope p n names e shape value pointer for_value for_place own world structs agrees placed h indices = absurd h
 suffixes_same (Index index others) scope p n names e shape value pointer for_value for_place own world structs agrees placed h indices =
     let code : ℕ → List Statement = λ d. expression_code p.world names index d (own + length (suffix_values p.world names others)) in
-    further_same others scope p n names (indexed scope.world e (sense index scope)) (element_at p.world (pointee shape) code value) own world structs h.1.1.1
+    further_same others scope p n names (indexed scope.world e (sense index scope)) (element_at p.world shape code value) own world structs h.1.1.1
     indices.1
-    (subst (λ z. MemberAs p n (indexed z e (sense index scope)) (element_at p.world (pointee shape) code value)) (sym world)
+    (subst (λ z. MemberAs p n (indexed z e (sense index scope)) (element_at p.world shape code value)) (sym world)
     (element_same p n e (sense index scope) shape (static_shape p.world names index) value code (agrees h.0) indices.0 h.1.1.0))
 suffixes_same (Dot f others) scope p n names e shape value pointer for_value for_place own world structs agrees placed h indices =
     let more = member_at p.world shape pointer 0 0 f.text in

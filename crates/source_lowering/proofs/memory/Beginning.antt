@@ -2,6 +2,7 @@
 use Rattle.std.proofs.Common.{◌≡◌, ℕ, zero, suc, ◌+◌, ◌≤◌, List, [], ◌∷◌, Bool, true, false, Some, None, refl, sym, ap, ◌∙◌, subst, arith, eq-eqb}
 use Rattle.std.proofs.Common.{◌++◌}
 use Rattle.std.specs.Prelude.{map, slice_get}
+use Rattle.source_meaning.specs.Shapes.{MayBeNull, NeverNull}
 use Rattle.source_meaning.specs.Shapes.{
   Shape,
   IntShape,
@@ -66,8 +67,8 @@ first_of : (shape : Shape) → IsWordShape shape → HasFirst shape → IsFirst 
 first_of IntShape word h = record { content = Word 0; fits = refl; does = λ d next c. refl; part = refl }
 first_of UnsignedShape word h = record { content = Word 0; fits = refl; does = λ d next c. refl; part = refl }
 first_of CharShape word h = record { content = Word 0; fits = refl; does = λ d next c. refl; part = refl }
-first_of (ThinShape true owner to) word h = record { content = Null; fits = refl; does = λ d next c. refl; part = refl }
-first_of (ThinShape false owner to) word h = absurd h
+first_of (ThinShape (MayBeNull count) owner to) word h = record { content = Null; fits = refl; does = λ d next c. refl; part = refl }
+first_of (ThinShape (NeverNull count) owner to) word h = absurd h
 first_of VoidShape word h = absurd h
 first_of (FatShape to) word h = absurd word
 first_of HandleShape word h = absurd h

@@ -24,6 +24,7 @@ use Rattle.std.proofs.Common.{
   subst,
   arith,
 }
+use Rattle.source_meaning.specs.Shapes.{count_of}
 use Rattle.source_meaning.specs.Shapes.{
   Shape,
   IntShape,
@@ -115,13 +116,13 @@ plain_of w CharShape h = record {
   };
 }
 plain_of w VoidShape h = absurd h
-plain_of w (ThinShape may_be_null owner to) h =
+plain_of w (ThinShape bound owner to) h =
     record {
       cells = refl;
       layout = refl;
       one = λ m c v cs o.
-          ⊎_elim (λ (z : ANull may_be_null v cs). record { word = Null; is = z.shown; fits = refl })
-          (λ (z : APointer w m c owner to v cs). record { word = Pointer (at z.spot) z.byte; is = z.shown; fits = refl }) o;
+          ⊎_elim (λ (z : ANull bound v cs). record { word = Null; is = z.shown; fits = refl })
+          (λ (z : APointer w m c (count_of bound) owner to v cs). record { word = Pointer (at z.spot) z.byte; is = z.shown; fits = refl }) o;
     }
 plain_of w (FatShape to) h = absurd h
 plain_of w HandleShape h = record {

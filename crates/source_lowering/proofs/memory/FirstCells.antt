@@ -1,7 +1,8 @@
 -- What each cell of an object begins with, in the source and in Core.
-use Rattle.std.proofs.Common.{◌≡◌, inl, ℕ, zero, suc, List, [], ◌∷◌, true, false, Option, Some, None, refl, sym, ap, ◌∙◌, subst, arith}
+use Rattle.std.proofs.Common.{◌≡◌, inl, ℕ, zero, suc, List, [], ◌∷◌, false, Option, Some, None, refl, sym, ap, ◌∙◌, subst, arith}
 use Rattle.std.specs.Prelude.{map, slice_get}
 use Rattle.std.proofs.lemmas.Option.{none-some}
+use Rattle.source_meaning.specs.Shapes.{MayBeNull, NeverNull}
 use Rattle.source_meaning.specs.Shapes.{
   Shape,
   IntShape,
@@ -36,8 +37,8 @@ first_free IntShape = refl
 first_free UnsignedShape = refl
 first_free CharShape = refl
 first_free VoidShape = refl
-first_free (ThinShape true owner to) = refl
-first_free (ThinShape false owner to) = refl
+first_free (ThinShape (MayBeNull count) owner to) = refl
+first_free (ThinShape (NeverNull count) owner to) = refl
 first_free (FatShape to) = refl
 first_free HandleShape = refl
 first_free KeyShape = refl
@@ -60,8 +61,8 @@ first_shown w m c s v h e = by s h e
     by IntShape h e = record { word = 0; value = sym (held (Integer AsInt 0) e); shown = refl; small = omega arith }
     by UnsignedShape h e = record { word = 0; value = sym (held (Integer AsUnsigned 0) e); shown = refl; small = omega arith }
     by CharShape h e = record { word = 0; value = sym (held (Integer AsChar 0) e); shown = refl; small = omega arith }
-    by (ThinShape true owner to) h e = inl (record { allowed = refl; value = sym (held (Thin None) e); shown = refl })
-    by (ThinShape false owner to) h e = absurd (none source.Blank refl e)
+    by (ThinShape (MayBeNull count) owner to) h e = inl (record { allowed = refl; value = sym (held (Thin None) e); shown = refl })
+    by (ThinShape (NeverNull count) owner to) h e = absurd (none source.Blank refl e)
     by VoidShape h e = absurd h
     by (FatShape to) h e = inl (record { word = 0; value = sym (held (Wide None) e); shown = refl; small = omega arith })
     by HandleShape h e = absurd (none source.Blank refl e)

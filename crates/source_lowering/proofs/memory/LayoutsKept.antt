@@ -1,5 +1,11 @@
 -- Layouts and regions that are kept: where a pointer leads is so then, and what a value shows.
 use Rattle.std.proofs.Common.{ℕ, ◌+◌, ◌<◌, ◌≤◌, inl, inr, ⊎_elim, suc, List, [], ◌∷◌, arith}
+use Rattle.source_lowering.specs.Memories.{LeadsAll}
+use Rattle.std.proofs.Common.{◌≡◌, zero, suc}
+use Rattle.std.proofs.Common.{◌*◌}
+use Rattle.std.proofs.Common.{length}
+use Rattle.std.proofs.Common.{subst}
+use Rattle.source_meaning.specs.Shapes.{count_of}
 use Rattle.source_meaning.specs.Shapes.{
   Owner,
   Shared,
@@ -83,13 +89,15 @@ member_kept w m m' c c' UnsignedShape v cs l h = h
 member_kept w m m' c c' CharShape v cs l h = h
 member_kept w m m' c c' VoidShape v cs l h = h
 member_kept w m m' c c' (ThinShape n o to) v cs l h =
-    ⊎_elim (λ x. inl x) (λ (p : APointer w m c o to v cs). inr (record {
+    ⊎_elim (λ x. inl x) (λ (p : APointer w m c (count_of n) o to v cs). inr (record {
       spot = p.spot;
       byte = p.byte;
       value = p.value;
       shown = p.shown;
       lies = p.lies;
       leads = leads_kept w m m' c c' to p.spot p.byte l p.leads;
+      few = p.few;
+      elements = λ k less. leads_kept w m m' c c' to _ _ l (p.elements k less);
       owned = owned_kept m m' c c' o p.spot p.byte l p.owned;
     })) h
 member_kept w m m' c c' (FatShape to) v cs l h =
@@ -131,3 +139,14 @@ shown_kept w m m' c c' (UnionShape tag) v cs l h = record {
   shown = h.shown;
 }
 shown_kept w m m' c c' (ArrayShape count of) v cs l h = member_kept w m m' c c' (ArrayShape count of) v cs l h
+
+-- one object is one element, the first
+pub one_led : (w : World) (m : source.Memory) (c : core.Memory) (to : Shape) (t : Spot) (byte : ℕ) → Leads w m c to t byte → LeadsAll w m c to 1 t byte
+one_led w m c to t byte leads zero less =
+    let first : t ≡ source.beyond t (0 * length (cells_of w to)) = λ i. record t { cell = none i } in
+    let here : byte ≡ byte + 0 * size_of w to = omega arith in
+    subst (λ z. Leads w m c to z (byte + 0 * size_of w to)) first (subst (λ z. Leads w m c to t z) here leads)
+  where
+    none : t.cell ≡ t.cell + 0 * length (cells_of w to)
+    none = omega arith
+one_led w m c to t byte leads (suc i) less = absurd (omega (arith, less))

@@ -1,5 +1,5 @@
 -- Shapes that compare as the same are equal.
-use Rattle.std.proofs.Common.{◌≡◌, ℕ, List, Bool, true, false, nat_eq, refl, sym, ap}
+use Rattle.std.proofs.Common.{◌≡◌, ℕ, List, true, nat_eq, refl, ap}
 use Rattle.std.specs.Prelude.{◌&&◌, bytes_eq}
 use Rattle.std.proofs.lemmas.Bool.{eqb-true, and_parts}
 use Rattle.std.proofs.lemmas.Slice.Eq.{bytes_eq-Decides}
@@ -20,15 +20,19 @@ use Rattle.source_meaning.specs.Shapes.{
   StructShape,
   UnionShape,
   ArrayShape,
-  same_bool,
+  Reach,
+  MayBeNull,
+  NeverNull,
+  same_bound,
   same_owner,
   same_shape,
 }
 
-bools_same : (a b : Bool) → same_bool a b ≡ true → a ≡ b
-bools_same true b e = sym e
-bools_same false true e = absurd (cc e)
-bools_same false false e = refl
+bounds_same : (a b : Reach) → same_bound a b ≡ true → a ≡ b
+bounds_same (MayBeNull j) (MayBeNull k) e = ap MayBeNull (eqb-true j k e)
+bounds_same (MayBeNull j) (NeverNull k) e = absurd (cc e)
+bounds_same (NeverNull j) (MayBeNull k) e = absurd (cc e)
+bounds_same (NeverNull j) (NeverNull k) e = ap NeverNull (eqb-true j k e)
 
 owners_same : (a b : Owner) → same_owner a b ≡ true → a ≡ b
 owners_same Shared Shared e = refl
@@ -45,9 +49,9 @@ shapes_same UnsignedShape UnsignedShape e = refl
 shapes_same CharShape CharShape e = refl
 shapes_same VoidShape VoidShape e = refl
 shapes_same (ThinShape m o s) (ThinShape n q t) e =
-    let p = and_parts (same_bool m n) (same_owner o q && same_shape s t) e in
+    let p = and_parts (same_bound m n) (same_owner o q && same_shape s t) e in
     let q' = and_parts (same_owner o q) (same_shape s t) p.1 in
-    let a = bools_same m n p.0 in
+    let a = bounds_same m n p.0 in
     let b = owners_same o q q'.0 in
     let c = shapes_same s t q'.1 in
     λ i. ThinShape (a i) (b i) (c i)

@@ -5,6 +5,8 @@ use Rattle.std.specs.Prelude.{◌||◌, map, slice_get}
 use Rattle.std.proofs.lemmas.Bool.{or_right}
 use Rattle.std.proofs.lemmas.Option.{none-some}
 use Rattle.std.proofs.lemmas.List.{append-nil}
+use Rattle.source_meaning.specs.Shapes.{count_of}
+use Rattle.source_meaning.specs.Shapes.{Reach}
 use Rattle.source_meaning.specs.Shapes.{
   Owner,
   Shape,
@@ -78,14 +80,14 @@ birth_fits : (fat : Bool) (which : ℕ → Scalar) (v : Scalar) (cs : List Conte
 birth_fits true which v cs o = subst (FitFirst (words_behind true)) (sym o.shown) (refl, tt)
 birth_fits false which v cs o = subst (FitFirst (words_behind false)) (sym o.shown) (refl, tt)
 
-thin_fits : (w : World) (m : source.Memory) (c : core.Memory) (fat b : Bool) (owner : Owner) (to : Shape) (v : Scalar) (cs : List Content)
+thin_fits : (w : World) (m : source.Memory) (c : core.Memory) (fat : Bool) (b : Reach) (owner : Owner) (to : Shape) (v : Scalar) (cs : List Content)
     → ShownMember w m c (ThinShape b owner to) v cs → FitFirst (words_behind fat) cs
 thin_fits w m c true b owner to v cs o =
     ⊎_elim (λ (z : ANull b v cs). subst (FitFirst (words_behind true)) (sym z.shown) (refl, tt))
-    (λ (z : APointer w m c owner to v cs). subst (FitFirst (words_behind true)) (sym z.shown) (refl, tt)) o
+    (λ (z : APointer w m c (count_of b) owner to v cs). subst (FitFirst (words_behind true)) (sym z.shown) (refl, tt)) o
 thin_fits w m c false b owner to v cs o =
     ⊎_elim (λ (z : ANull b v cs). subst (FitFirst (words_behind false)) (sym z.shown) (refl, tt))
-    (λ (z : APointer w m c owner to v cs). subst (FitFirst (words_behind false)) (sym z.shown) (refl, tt)) o
+    (λ (z : APointer w m c (count_of b) owner to v cs). subst (FitFirst (words_behind false)) (sym z.shown) (refl, tt)) o
 
 pub member_fits : (w : World) (m : source.Memory) (c : core.Memory) (fat : Bool) (s : Shape) (v : Scalar) (cs : List Content) → (is_fat s ≡ true → fat ≡ true)
     → ShownMember w m c s v cs → FitFirst (words_behind fat) cs

@@ -8,7 +8,7 @@ use Rattle.source_meaning.specs.Memory as source
 use Rattle.source_meaning.specs.Memory.{Scalar, Wide}
 use Rattle.source_meaning.specs.Steps.{World}
 use Rattle.source_meaning.specs.Conversions.{cells_of}
-use Rattle.source_meaning.specs.Places.{string_at}
+use Rattle.source_meaning.specs.Places.{literal_string}
 use Rattle.source_meaning.specs.Strings.{Literal, program_strings}
 use Rattle.source_meaning.specs.Programs.{global_shape, global_object, globals_from, heap_spot, strings_from, world_of}
 use Rattle.core_meaning.specs.Memory as core
@@ -51,7 +51,7 @@ laid_out_as w initial (ThinShape b owner to) = record { layout = refl; count = r
 laid_out_as w initial (FatShape to) = by initial
   where
     by : (z : Initial) → IsLaidOut w (FatShape to) (global_datum w z (FatShape to))
-    by (Initial.Given (tree.Text place bytes)) = given (string_at w.strings place)
+    by (Initial.Given (tree.Text place bytes)) = given (literal_string w.strings place bytes)
       where
         given : (found : Option Scalar) → IsLaidOut w (FatShape to) (text_datum w (FatShape to) found)
         given (Some (Wide (Some span))) = record { layout = refl; count = refl }
@@ -80,7 +80,7 @@ global_made w initial s ds c k h = local_made w s c (core.Born 0) k (λ cell j p
 -- what stands for a constant: a fat pointer is a string or NULL
 abbrev pub fat_contents : World → tree.Constant → List core.Content
 fat_contents w (tree.Text place bytes) =
-    let found = string_at w.strings place in text_content found 0 ∷ text_content found 1 ∷ text_content found 2 ∷ []
+    let found = literal_string w.strings place bytes in text_content found 0 ∷ text_content found 1 ∷ text_content found 2 ∷ []
 fat_contents w x = firsts_of (pieces_of (FatShape CharShape))
 
 abbrev pub constant_contents : World → tree.Constant → Shape → List core.Content
@@ -157,7 +157,7 @@ is_stored w c (Initial.Given x) s ds k h object e = by s (constant_is_value w x 
     )
 
     fat : (y : tree.Constant) (to : Shape) → HasDatum y (FatShape to) → PartsHold c (at (heap_spot k)) 0 (constant_contents w y (FatShape to))
-    fat (tree.Text place bytes) to f = given (string_at w.strings place) f
+    fat (tree.Text place bytes) to f = given (literal_string w.strings place bytes) f
       where
         given : (found : Option Scalar) → ((j : ℕ) → c.parts (at (heap_spot k)) j ≡ datum_parts (text_datum w (FatShape to) found ∷ ds) 0 0 j)
             → PartsHold c (at (heap_spot k)) 0 (text_content found 0 ∷ text_content found 1 ∷ text_content found 2 ∷ [])

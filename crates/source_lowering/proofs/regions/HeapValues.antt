@@ -1,9 +1,10 @@
 -- What the cells of globals and strings hold at the start, in the source and in Core.
-use Rattle.std.proofs.Common.{◌≡◌, ℕ, zero, suc, ◌+◌, List, [], ◌∷◌, length, map, true, false, Some, None, refl, sym, ap, ◌∙◌, subst, ◌++◌, arith, ◌<◌, Bool}
+use Rattle.std.proofs.Common.{◌≡◌, ℕ, zero, suc, ◌+◌, List, [], ◌∷◌, length, map, false, Some, None, refl, sym, ap, ◌∙◌, subst, ◌++◌, arith, ◌<◌, Bool}
 use Rattle.std.proofs.Common.{Option}
 use Rattle.std.specs.Prelude.{◌*◌, slice_get}
 use Rattle.cyc_tree.specs.Tree as tree
 use Rattle.cyc_tree.specs.Tree.{Initial, Item}
+use Rattle.source_meaning.specs.Shapes.{MayBeNull, NeverNull}
 use Rattle.source_meaning.specs.Shapes.{
   Shape,
   IntShape,
@@ -84,16 +85,16 @@ constant_is_value w (tree.Negative place value suffix) s h object = word_value s
 constant_is_value w (tree.Character place byte) s h object = word_value s (integer_word s h)
 constant_is_value w (tree.Text place bytes) s h object = string_is_value s h object
   where
-    string_is_value : (z : Shape) → IsString z → IsObject w.unions w.structs z → IsValueShape z
-    string_is_value (ThinShape true owner CharShape) g o = o
+    string_is_value : (z : Shape) → IsString bytes z → IsObject w.unions w.structs z → IsValueShape z
+    string_is_value (ThinShape (MayBeNull count) owner CharShape) g o = o
     string_is_value (FatShape CharShape) g o = o
     string_is_value _ g o = absurd g
 constant_is_value w (tree.Null place) s h object = nullable_value s h object
   where
     nullable_value : (z : Shape) → IsNullable z → IsObject w.unions w.structs z → IsValueShape z
-    nullable_value (ThinShape true owner to) g o = o
+    nullable_value (ThinShape (MayBeNull count) owner to) g o = o
     nullable_value (FatShape to) g o = o
-    nullable_value (ThinShape false owner to) g o = absurd g
+    nullable_value (ThinShape (NeverNull count) owner to) g o = absurd g
     nullable_value IntShape g o = absurd g
     nullable_value UnsignedShape g o = absurd g
     nullable_value CharShape g o = absurd g

@@ -17,14 +17,14 @@ use Rattle.source_lowering.specs.Programs.{program_code}
 
 -- int *`U
 abbrev unique : TypeName
-unique = typed tree.Int (pointer Nullable (Some (tree.Unique 0)) ∷ [])
+unique = typed tree.Int (pointer (Nullable 1) (Some (tree.Unique 0)) ∷ [])
 
 -- let alias<`r> int *`r x = p; and one that is never NULL
 abbrev lends : Declaration
-lends = tree.Alias 0 (tree.Named (named "r")) (typed tree.Int (pointer Nullable (Some (tree.Named (named "r"))) ∷ [])) (named "x") (named "p")
+lends = tree.Alias 0 (tree.Named (named "r")) (typed tree.Int (pointer (Nullable 1) (Some (tree.Named (named "r"))) ∷ [])) (named "x") (named "p")
 
 abbrev lends_some : Declaration
-lends_some = tree.Alias 0 (tree.Named (named "r")) (typed tree.Int (pointer NotNull (Some (tree.Named (named "r"))) ∷ [])) (named "x") (named "p")
+lends_some = tree.Alias 0 (tree.Named (named "r")) (typed tree.Int (pointer (NotNull 1) (Some (tree.Named (named "r"))) ∷ [])) (named "x") (named "p")
 
 -- int main() {
 --   int *`U p = rnew(unique_region) 3; while (1) { let alias<`r> int *`r x = p; *x = 4; break; } int s = *p; ufree(p); return s;

@@ -1,7 +1,7 @@
 -- The bounds on the frames of a few functions.
 use Rattle.std.proofs.Common.{◌≡◌, ℕ, ◌+◌, ◌*◌, Some, None, List, [], ◌∷◌, refl}
 use Rattle.cyc_tree.specs.declared.expression.Operator.TheVariants.{Add}
-use Rattle.cyc_tree.specs.declared.name.Sign.TheVariants.{Fat}
+use Rattle.cyc_tree.specs.declared.name.Sign.TheVariants.{Fat, Nullable}
 use Rattle.cyc_tree.specs.Tree as tree
 use Rattle.cyc_tree.specs.Tree.{Array, Arrow, BlockItems, Case, Default, Expression, Initializer, Member, MoreClauses, MoreExpressions, MoreLinks, NoClauses}
 use Rattle.cyc_tree.specs.Tree.{NoExpressions, NoItems, NoLinks, NoSuffixes, Program, Statement, TypeName}
@@ -50,6 +50,9 @@ of_int = typed tree.Int []
 
 abbrev of_nothing : TypeName
 of_nothing = typed tree.Void []
+
+abbrev of_key : TypeName
+of_key = typed (tree.Key (tree.Named (named "r"))) []
 
 abbrev one : Expression → tree.Expressions
 one e = MoreExpressions e NoExpressions
@@ -100,3 +103,15 @@ union_bound : bound_of of_int (member of_int (named "n") ∷ []) (
     (MoreClauses 0 Default ((Statement.Return 0 (Some (number 0))) ▸ NoItems) NoClauses))) ▸
     (Statement.Return 0 (Some (number 1))) ▸ NoItems) ≡ 128 + 16 * (1 + 2 + 1 + (3 + 2) + 3 + 2 + 2 + 2)
 union_bound = refl
+
+-- int f() { int *`U p = NULL; p = NULL; return 0; }: 1 for the assignment, which gives no value
+alone_bound : bound_of of_int [] (
+    (tree.Local (typed tree.Int (pointer (Nullable 1) (Some (tree.Unique 0)) ∷ [])) (named "p") (Initializer.Value (Expression.Null 0))) ▹
+    (Statement.Run (Expression.Assign (variable "p") (Expression.Null 0))) ▸
+    (Statement.Return 0 (Some (number 0))) ▸ NoItems) ≡ 128 + 16 * (1 + 2 + (1 + 2 + 2) + 2)
+alone_bound = refl
+
+-- void f(uregion_key_t<`r> k, uregion_key_t<`r> j) { k = j; }: likewise
+key_bound : bound_of of_nothing (member of_key (named "k") ∷ member of_key (named "j") ∷ [])
+    ((Statement.Run (Expression.Assign (variable "k") (variable "j"))) ▸ NoItems) ≡ 128 + 16 * (2 + (1 + 2 + 2))
+key_bound = refl

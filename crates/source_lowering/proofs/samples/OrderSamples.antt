@@ -1,8 +1,8 @@
 -- In which order the locals of blocks are declared, by their numbers.
-use Rattle.std.proofs.Common.{◌≡◌, Some, [], ◌∷◌, refl}
+use Rattle.std.proofs.Common.{◌≡◌, [], ◌∷◌, refl}
 use Rattle.cyc_tree.specs.Tree as tree
 use Rattle.cyc_tree.specs.Tree.{BlockItems, Case, Clauses, Declaration, Default, Initializer, MoreClauses, NoClauses, NoItems, Name, Statement}
-use Rattle.source_meaning.proofs.Trees.{named, number, typed, variable, ◌▸◌, ◌▹◌}
+use Rattle.source_meaning.proofs.Trees.{named, typed, variable, ◌▸◌, ◌▹◌}
 use Rattle.source_lowering.specs.Order.{declared_in, items_order, statement_order}
 
 -- int ..;

@@ -101,10 +101,10 @@ all_forms_taken = record {
 -- ---- pointers
 
 abbrev pub nullable : List tree.Pointer
-nullable = (record { sign = Nullable; region = None }) ∷ []
+nullable = (record { sign = Nullable 1; region = None }) ∷ []
 
 abbrev not_null : List tree.Pointer
-not_null = (record { sign = NotNull; region = None }) ∷ []
+not_null = (record { sign = NotNull 1; region = None }) ∷ []
 
 abbrev pub contents_of : Expression → Expression
 contents_of e = Expression.Prefixed 0 Dereference e

@@ -27,7 +27,7 @@ put e = Statement.Run (Expression.Call (named "putchar") (MoreExpressions e NoEx
 abbrev text_forms : Program
 text_forms =
     tree.GlobalItem (record { of = typed tree.Char fat; name = named "s"; initial = Initial.Given (Constant.Text 1 (104 ∷ 105 ∷ [])) }) ∷
-    tree.GlobalItem (record { of = typed tree.Char (pointer Nullable None ∷ []); name = named "t"; initial = Initial.Given (Constant.Text 2 (99 ∷ [])) }) ∷
+    tree.GlobalItem (record { of = typed tree.Char (pointer (Nullable 1) None ∷ []); name = named "t"; initial = Initial.Given (Constant.Text 2 (99 ∷ [])) }) ∷
     tree.FunctionItem (function (typed tree.Int []) (named "main") [] (
     (tree.Local (typed tree.Char fat) (named "u") (Initializer.Value (Expression.Text 3 (97 ∷ 98 ∷ [])))) ▹
     (Statement.Run (Expression.Assign (element (variable "u") (number 1)) (contents_of (variable "t")))) ▸
@@ -48,7 +48,7 @@ text_forms_taken = record {
   items = (
     (record { base = tt; known = tt }, tt),
     (
-      (record { base = tt; known = tt }, tt),
+      (record { base = tt; known = tt }, omega arith),
       (
         record {
           result = GivesWord (record { base = tt; word = tt });

@@ -16,10 +16,10 @@ use Rattle.source_lowering.specs.Programs.{program_code}
 
 -- int *`U, and int *, which is unique by its initializer
 abbrev unique : TypeName
-unique = typed tree.Int (record { sign = Nullable; region = Some (tree.Unique 0) } ∷ [])
+unique = typed tree.Int (record { sign = Nullable 1; region = Some (tree.Unique 0) } ∷ [])
 
 abbrev open_pointer : TypeName
-open_pointer = typed tree.Int (record { sign = Nullable; region = None } ∷ [])
+open_pointer = typed tree.Int (record { sign = Nullable 1; region = None } ∷ [])
 
 -- int main() {
 --   int *`U p = rnew(unique_region) 3; int *q = rnew(unique_region) 4; p :=: q; *p = 5; int *`U r = p; ufree(r); int s = *q; ufree(q); return s;

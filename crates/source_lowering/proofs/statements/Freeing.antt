@@ -4,6 +4,8 @@ use Rattle.std.proofs.lemmas.Bool.{false≢true}
 use Rattle.cyc_words.specs.Events as events
 use Rattle.cyc_words.specs.Events.{SourceEnding}
 use Rattle.step_trees.specs.Trees.{Says, Stops}
+use Rattle.source_meaning.specs.Shapes.{count_of}
+use Rattle.source_meaning.specs.Shapes.{Reach}
 use Rattle.source_meaning.specs.Shapes.{
   Owner,
   Shared,
@@ -67,7 +69,7 @@ abbrev owner_in : Owner → Shape → Owner
 owner_in o (ThinShape b q to) = q
 owner_in o s = o
 
-variable_taken : (w : World) (s : Shape) (spot : Spot) (b : Bool) (to : Shape) → (entity_sense w (Some (Variable s spot))).shape ≡ ThinShape b Alone to
+variable_taken : (w : World) (s : Shape) (spot : Spot) (b : Reach) (to : Shape) → (entity_sense w (Some (Variable s spot))).shape ≡ ThinShape b Alone to
     → IsTakenBy w (Some (Variable s spot))
 variable_taken w (ThinShape a q of) spot b to e =
     let alone : q ≡ Alone = ap (owner_in q) e in
@@ -83,7 +85,7 @@ variable_taken w (StructShape tag) spot b to e = absurd (cc e)
 variable_taken w (UnionShape tag) spot b to e = absurd (cc e)
 variable_taken w (ArrayShape count of) spot b to e = absurd (cc e)
 
-entity_taken : (w : World) (e : Option Entity) (b : Bool) (to : Shape) → (entity_sense w e).shape ≡ ThinShape b Alone to → IsTakenBy w e
+entity_taken : (w : World) (e : Option Entity) (b : Reach) (to : Shape) → (entity_sense w e).shape ≡ ThinShape b Alone to → IsTakenBy w e
 entity_taken w None b to e = inl (λ next m. refl)
 entity_taken w (Some (Fixed s v)) b to e = inl (λ next m. refl)
 entity_taken w (Some (Variable s spot)) b to e = variable_taken w s spot b to e
@@ -148,7 +150,7 @@ block_same p n d r m c next rest after a temp single go = by (is_live m (source.
         (says_same p.world p.program n _ _ (next steps.Falls (source_freed m r)) (meaning.statements rest after (with_memory (core_freed c.memory r) c))
         (BothVisible (events.UniqueFree r)) go)
 
-pub freed_same : (p : Point) (n : ℕ) (result : Shape) (e : Option Entity) (b : Bool) (to : Shape) (code : List Statement)
+pub freed_same : (p : Point) (n : ℕ) (result : Shape) (e : Option Entity) (b : Reach) (to : Shape) (code : List Statement)
     → Agrees p n p.regions.all (entity_sense p.world e) (ThinShape b Alone to) code
     → RunsAs p n (suc p.frame) result (freed_act e) (code ++ unique_free p.regions.all)
 freed_same p n result e b to code agrees = record {
@@ -171,7 +173,7 @@ freed_same p n result e b to code agrees = record {
             (λ (z : ANull b v.value (c1.temps d ∷ [])).
             subst (λ u. SameAt p n (pointer_freed u (λ y. next steps.Falls) m1) then) (sym z.value)
             (subst (λ u. SameAt p n (next steps.Falls m1) u) (sym (null_passes d c1 rest after (null_is (c1.temps d) b v.value z))) (ways.falls m1 c1 o)))
-            (λ (z : APointer p.world m1 c1.memory Alone to v.value (c1.temps d ∷ [])).
+            (λ (z : APointer p.world m1 c1.memory (count_of b) Alone to v.value (c1.temps d ∷ [])).
             let r : ℕ = z.owned.birth in
             let there : c1.temps d ≡ Pointer (record { region = core.Born r; object = 0; cell = 0 }) 0 =
             pointer_is p.world m1 c1.memory Alone to (c1.temps d) v.value z ∙ ap (λ s. Pointer (at s) z.byte) z.owned.first ∙

@@ -22,8 +22,8 @@ IsOpen (UnionShape tag) = Unit {0}
 IsOpen _ = ⊥
 
 signed_open : (s : Sign) (o : Owner) (to : Shape) → IsOpen to → IsOpen (signed_shape s o to)
-signed_open Nullable o to h = h
-signed_open NotNull o to h = h
+signed_open (Nullable count) o to h = h
+signed_open (NotNull count) o to h = h
 signed_open Fat o to h = h
 
 pointed_open : (ps : List Pointer) (s : Shape) → IsOpen s → IsOpen (pointed ps s)

@@ -1,5 +1,7 @@
 -- Values of any shape, in one temporary or in three: by what each is.
 use Rattle.std.proofs.Common.{◌≡◌, ℕ, ◌+◌, Bool, true, false, Some, None, ◌<◌, ◌⊎◌, inl, inr, ⊎_elim, List, [], ◌∷◌, refl, sym, ap, subst}
+use Rattle.source_meaning.specs.Shapes.{count_of}
+use Rattle.source_meaning.specs.Shapes.{may_be_null}
 use Rattle.source_meaning.specs.Shapes.{Shape, IntShape, UnsignedShape, CharShape, VoidShape, ThinShape, FatShape, HandleShape, KeyShape, StructShape}
 use Rattle.source_meaning.specs.Shapes.{UnionShape, ArrayShape}
 use Rattle.source_meaning.specs.Memory as source
@@ -93,13 +95,13 @@ one_same w fs n shape m c vs d temps s k taken given go_word go_thin go_handle g
 -- NULL, or a pointer to a place
 pub thin_same : (w : World) (fs : Program) (n : ℕ) (shape : Shape) (m : source.Memory) (c : core.Memory) (v : Scalar) (x : Content)
     (s : Scalar → source.Memory → steps.Step) (k : core_steps.Step) (o : IsThin w m c shape v x)
-    → (x ≡ Null → o.may_be_null ≡ true → Same w fs n (s (Thin None) m) k)
+    → (x ≡ Null → may_be_null o.bound ≡ true → Same w fs n (s (Thin None) m) k)
     → ((t : Spot) (byte : ℕ) → x ≡ Pointer (at t) byte → IsTakenObject w o.to → Leads w m c o.to t byte → Same w fs n (s (Thin (Some t)) m) k)
     → Same w fs n (s v m) k
 thin_same w fs n shape m c v x s k o go_null go_spot =
     ⊎_elim
-    (λ (z : ANull o.may_be_null v (x ∷ [])). subst (λ u. Same w fs n (s u m) k) (sym z.value) (go_null (null_is x o.may_be_null v z) z.allowed))
-    (λ (z : APointer w m c o.owner o.to v (x ∷ [])).
+    (λ (z : ANull o.bound v (x ∷ [])). subst (λ u. Same w fs n (s u m) k) (sym z.value) (go_null (null_is x o.bound v z) z.allowed))
+    (λ (z : APointer w m c (count_of o.bound) o.owner o.to v (x ∷ [])).
     subst (λ u. Same w fs n (s u m) k) (sym z.value) (go_spot z.spot z.byte (pointer_is w m c o.owner o.to x v z) z.lies z.leads))
     o.shown
 

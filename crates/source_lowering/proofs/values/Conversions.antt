@@ -1,5 +1,6 @@
 -- A value in a temporary is converted to another shape.
-use Rattle.std.proofs.Common.{◌≡◌, Bool, true, false, ℕ, List, [], ◌++◌, refl, sym, subst, arith}
+use Rattle.std.proofs.Common.{◌≡◌, ℕ, List, [], ◌++◌, refl, sym, subst, arith}
+use Rattle.source_meaning.specs.Shapes.{Reach}
 use Rattle.source_meaning.specs.Shapes.{Owner, Shape, IntShape, UnsignedShape, CharShape, VoidShape, ThinShape, FatShape, HandleShape, KeyShape, StructShape}
 use Rattle.source_meaning.specs.Shapes.{UnionShape, ArrayShape}
 use Rattle.source_meaning.specs.Memory.{AsInt, AsUnsigned}
@@ -14,7 +15,7 @@ use Rattle.source_lowering.proofs.Runs.{stuck_same, put_all}
 use Rattle.source_lowering.proofs.values.Integers.{IsTaken}
 use Rattle.source_lowering.proofs.expressions.Variables.{Agrees}
 use Rattle.source_lowering.proofs.values.ThinConversions.{stuck_thin, thin_converts, stuck_handle, stuck_key, handle_converts, key_converts}
-use Rattle.source_lowering.proofs.values.FatConversions.{stuck_fat, never_null, maybe_null, fat_stays}
+use Rattle.source_lowering.proofs.values.FatConversions.{stuck_fat, to_thin, fat_stays}
 use Rattle.source_lowering.proofs.values.Widening.{widened}
 use Rattle.source_lowering.proofs.values.NumberConversions.{ConvertsAs, stuck_converts, kept_converts, low_converts, char_converts, void_converts}
 use Rattle.source_lowering.proofs.values.Values.{over}
@@ -26,10 +27,9 @@ unsigned_void : UnsignedShape ≡ VoidShape → ⊥
 unsigned_void e = cc e
 
 -- a fat pointer becomes a thin one
-thinned : (p : Point) (n d : ℕ) (b : Bool) (o : Owner) (to from : Shape)
+thinned : (p : Point) (n d : ℕ) (b : Reach) (o : Owner) (to from : Shape)
     → ConvertsAs p n d (ThinShape b o to) (FatShape from) (to_thin_code p.world b to d)
-thinned p n d true o to from = maybe_null p n d o to from
-thinned p n d false o to from = never_null p n d o to from
+thinned p n d b o to from = to_thin p n d b o to from
 
 pub conversion_same : (p : Point) (n d : ℕ) (to from : Shape) → IsTaken to → IsTaken from → ConvertsAs p n d to from (conversion_code p.world to from d)
 conversion_same p n d IntShape IntShape f g = kept_converts p n d AsInt IntShape g refl (λ u word s m. refl) (λ s m k e. absurd (int_void e))

@@ -7,19 +7,38 @@ use Rattle.std.proofs.lemmas.Bool.Decides.{nat_tests}
 use Rattle.cyc_words.specs.Events.{SourceEnding}
 use Rattle.cyc_words.specs.declared.faults.Kind.TheVariants.{ArrayBounds}
 use Rattle.step_trees.specs.Trees.{Stops}
+use Rattle.std.proofs.Common.{◌≤◌, ◌^◌, ◌%◌}
+use Rattle.cyc_words.specs.declared.faults.Kind.TheVariants.{NullException}
+use Rattle.std.specs.Prelude.{◌-◌, nat_le, if◌then◌else◌}
+use Rattle.std.proofs.lemmas.Bool.{le-leb}
+use Rattle.source_lowering.proofs.values.Operators.{modulo_small}
+use Rattle.std.proofs.Common.{◌⊎◌}
+use Rattle.source_lowering.proofs.memory.Members.{FirstPart, first_reached}
+use Rattle.source_meaning.specs.Shapes.{count_of}
+use Rattle.source_meaning.specs.Steps.{give, raise}
+use Rattle.cyc_words.specs.Words.{difference_of}
+use Rattle.core_meaning.specs.Words as words
+use Rattle.core_meaning.specs.Core.{Constant, Element, If, Subtract}
+use Rattle.core_meaning.specs.Operations.{does}
+use Rattle.source_lowering.specs.Operators.{enough_code}
+use Rattle.source_lowering.specs.Memories.{LeadsAll}
+use Rattle.source_lowering.proofs.values.Tests.{two_words}
+use Rattle.source_lowering.proofs.values.Values.{other_temp}
+use Rattle.source_lowering.proofs.memory.Loading.{after_temp}
+use Rattle.source_meaning.specs.Shapes.{Reach, MayBeNull, NeverNull}
 use Rattle.source_meaning.specs.Shapes.{Owner, Shared, Alone, Unsaid, Shape, VoidShape, ThinShape, FatShape, goes_to, same_shape}
 use Rattle.source_meaning.specs.Memory as source
 use Rattle.source_meaning.specs.Memory.{Scalar, Thin, Wide, Spot, Span}
 use Rattle.source_meaning.specs.Steps as steps
 use Rattle.source_meaning.specs.Steps.{World}
-use Rattle.source_meaning.specs.Conversions.{cells_of, size_of, converted, accessed}
+use Rattle.source_meaning.specs.Conversions.{cells_of, size_of, converted, accessed, fat_to_thin}
 use Rattle.core_meaning.specs.Memory as core
 use Rattle.core_meaning.specs.Memory.{Content, Word, Null, Pointer}
 use Rattle.core_meaning.specs.Core.{Apply, LessUnsigned, Statement, Do, Statements, NoStatements}
 use Rattle.core_meaning.specs.Steps as core_steps
 use Rattle.core_meaning.specs.Steps.{Config, with_temp}
 use Rattle.core_meaning.specs.Meaning as meaning
-use Rattle.source_lowering.specs.Members.{raised, reached_code, element_code}
+use Rattle.source_lowering.specs.Members.{raised}
 use Rattle.source_lowering.specs.Layouts.{extent_of}
 use Rattle.source_lowering.specs.Lowered.{put, to_thin_code}
 use Rattle.source_lowering.specs.Simulation.{at, Leads, AFatNull, AFat, IsOwned, IsTakenObject, Point, SameState, SameAt, Next, AreKept, GrownAt, AValue, ANothing, Given}
@@ -28,8 +47,8 @@ use Rattle.source_lowering.proofs.Runs.{stuck_same, stops_same}
 use Rattle.source_lowering.proofs.memory.SameShapes.{shapes_same}
 use Rattle.source_lowering.proofs.values.Values.{put_temp, kept_temp, temp_fits, over}
 use Rattle.source_lowering.proofs.values.NumberConversions.{ConvertsAs}
-use Rattle.source_lowering.proofs.expressions.Elements.{AreThree, three_are, tested, compared, otherwise_done, element_reached, element_spot, element_there, ElementGoesOn}
-use Rattle.source_lowering.proofs.expressions.Elements.{element_same}
+use Rattle.source_lowering.proofs.expressions.Elements.{AreThree, three_are, element_spot, element_there}
+use Rattle.source_lowering.proofs.expressions.Elements.{rest_led}
 
 -- ---- values
 
@@ -56,30 +75,32 @@ owned_fat Unsaid from c e t byte = tt
 no_span : (span : Span) → Wide None ≡ Wide (Some span) → ⊥
 no_span span e = cc e
 
--- a pointer to an object is given on
-spot_goes : (p : Point) (n d : ℕ) (b : Bool) (o : Owner) (to : Shape) (m0 : source.Memory) (c0 : Config) (m : source.Memory) (c : Config) (t : Spot)
+-- a pointer to so many elements is given on
+spot_goes : (p : Point) (n d : ℕ) (b : Reach) (o : Owner) (to : Shape) (m0 : source.Memory) (c0 : Config) (m : source.Memory) (c : Config) (t : Spot)
     (byte : ℕ) (s : List Scalar → source.Memory → steps.Step) (k : Config → core_steps.Step) → SameState p m c → GrownAt p m0 c0 m c → AreKept d c0 c
-    → c.temps d ≡ Pointer (at t) byte → IsTakenObject p.world to → Leads p.world m c.memory to t byte → IsOwned o c.memory t byte
+    → c.temps d ≡ Pointer (at t) byte → IsTakenObject p.world to → Leads p.world m c.memory to t byte → count_of b < 2 ^ 32
+    → LeadsAll p.world m c.memory to (count_of b) t byte → IsOwned o c.memory t byte
     → GoesOn p n d m0 c0 (ThinShape b o to) s k → SameAt p n (s (Thin (Some t) ∷ []) m) (k c)
-spot_goes p n d b o to m0 c0 m c t byte s k fits later kept temp lies leads owned goes =
+spot_goes p n d b o to m0 c0 m c t byte s k fits later kept temp lies leads few elements owned goes =
     goes.go m c (Thin (Some t) ∷ []) fits later kept (inl (record {
       value = Thin (Some t);
       alone = refl;
-      shown = inr (record { spot = t; byte = byte; value = refl; shown = ap (λ z. z ∷ []) temp; lies = lies; leads = leads; owned = owned });
+      shown = inr (record {
+        spot = t;
+        byte = byte;
+        value = refl;
+        shown = ap (λ z. z ∷ []) temp;
+        lies = lies;
+        leads = leads;
+        few = few;
+        elements = elements;
+        owned = owned;
+      });
     }))
 
--- the element is in the pointer's temporary, and the test's result behind it
-element_goes : (p : Point) (n d : ℕ) (b : Bool) (o : Owner) (to : Shape) (m0 : source.Memory) (c0 : Config) (m : source.Memory) (c : Config)
-    (s : List Scalar → source.Memory → steps.Step) (k : Config → core_steps.Step) → SameState p m c → GrownAt p m0 c0 m c → AreKept d c0 c
-    → ((t : Spot) (byte : ℕ) → IsOwned o c.memory t byte) → GoesOn p n d m0 c0 (ThinShape b o to) s k → ElementGoesOn p n d d to m c (λ t. s (Thin (Some t) ∷ [])) k
-element_goes p n d b o to m0 c0 m c s k fits later kept owned goes = record {
-  go = λ t byte lies leads.
-      let here : Config = with_temp (d + 1) (Word 1) c in
-      spot_goes p n d b o to m0 c0 m (with_temp d (Pointer (at t) byte) here) t byte s k
-      (temp_fits p m here d (Pointer (at t) byte) (temp_fits p m c (d + 1) (Word 1) fits (over goes.above (omega arith))) goes.above) later
-      (kept_temp d d (Pointer (at t) byte) c0 here (omega arith) (kept_temp d (d + 1) (Word 1) c0 c (omega arith) kept))
-      (put_temp d (Pointer (at t) byte) here) lies leads (owned t byte) goes;
-}
+-- the source goes on where enough are left
+abbrev pub if_left : (count left : ℕ) → (Spot → source.Memory → steps.Step) → Spot → source.Memory → steps.Step
+if_left count left s t m = (if nat_le count left then give t else raise ArrayBounds) s m
 
 -- the source is stuck at each fat pointer
 pub stuck_fat : (p : Point) (n d : ℕ) (to from : Shape) (code : List Statement)
@@ -101,132 +122,257 @@ stuck_fat p n d to from code stuck = record {
 
 -- ---- fat to thin
 
--- where the place never holds NULL
-pub never_null : (p : Point) (n d : ℕ) (o : Owner) (to from : Shape) → ConvertsAs p n d (ThinShape false o to) (FatShape from) (to_thin_code p.world false to d)
-never_null p n d o to from = record {
-  same = λ m0 c0 m c vs s rest next fits later kept given goes.
-      let v = fat_value p.world m c.memory from vs (contents_in d (FatShape from) c.temps) given in
-      let step : core_steps.Step = meaning.statements (put (element_code p.world to d d) rest) next c in
-      let goes_on : goes_to o (FatShape from) ≡ true → ElementGoesOn p n d d to m c (λ t. s (Thin (Some t) ∷ [])) (meaning.statements rest next) =
-      λ free. element_goes p n d false o to m0 c0 m c s (meaning.statements rest next) fits later kept (owned_fat o from c.memory free) goes in
-      subst (λ z. SameAt p n (converted p.world (ThinShape false o to) (FatShape from) z s m) step) (sym v.alone)
-      (⊎_elim
-      (λ (z : AFatNull v.value (contents_in d (FatShape from) c.temps)).
-      subst (λ u. SameAt p n (converted p.world (ThinShape false o to) (FatShape from) (u ∷ []) s m) step) (sym z.value)
-      (element_same p n d d to (Wide None) m c (λ t. s (Thin (Some t) ∷ [])) rest next
-      (inl (record { word = z.word; value = refl; shown = z.shown; small = z.small })) (λ y. absurd (no_span y.span y.value))))
-      (λ (z : AFat p.world m c.memory from (size_of p.world from) v.value (contents_in d (FatShape from) c.temps)).
-      subst (λ u. SameAt p n (converted p.world (ThinShape false o to) (FatShape from) (u ∷ []) s m) step) (sym z.value)
-      (checked (goes_to o (FatShape from) && same_shape to from) refl m c z.span s rest next
-      (subst (λ u. AFat p.world m c.memory from (size_of p.world from) u (contents_in d (FatShape from) c.temps)) z.value z) goes_on))
-      v.shown);
-}
-  where
-    checked : (b : Bool) → (goes_to o (FatShape from) && same_shape to from) ≡ b → (m : source.Memory) (c : Config) (span : Span)
-        (s : List Scalar → source.Memory → steps.Step) (rest : Statements) (next : Next)
-        → AFat p.world m c.memory from (size_of p.world from) (Wide (Some span)) (contents_in d (FatShape from) c.temps)
-        → (goes_to o (FatShape from) ≡ true → ElementGoesOn p n d d to m c (λ t. s (Thin (Some t) ∷ [])) (meaning.statements rest next))
-        → SameAt p n (converted p.world (ThinShape false o to) (FatShape from) (Wide (Some span) ∷ []) s m)
-        (meaning.statements (put (element_code p.world to d d) rest) next c)
-    checked false e m c span s rest next z goes_on = rw e (stuck_same p.world p.program n _)
-    checked true e m c span s rest next z goes_on =
-        let same : from ≡ to = sym (shapes_same to from ((and_parts (goes_to o (FatShape from)) (same_shape to from) e).1)) in
-        rw e
-        (element_same p n d d to (Wide (Some span)) m c (λ t. s (Thin (Some t) ∷ [])) rest next
-        (inr (subst (λ y. AFat p.world m c.memory y (size_of p.world y) (Wide (Some span)) (contents_in d (FatShape to) c.temps)) same z))
-        (λ y. goes_on (and_parts (goes_to o (FatShape from)) (same_shape to from) e).0))
+-- ---- enough elements
 
--- where it may be NULL, NULL stays, and the element of another one has to be there
-abbrev kept_code : World → Shape → ℕ → List Statement
-kept_code w to d = Do (Apply LessUnsigned (d + 1) (d + 2) (d + 1)) ∷ reached_code w to d d (raised ArrayBounds)
+-- what Core has then
+abbrev below_there : Config → (d : ℕ) → Config
+below_there c d = with_temp (d + 3) (Word 1) c
+
+abbrev left_there : Config → (d i k count : ℕ) → Config
+left_there c d i k count = with_temp (d + 3) (Word count) (with_temp (d + 1) (Word (difference_of k i)) (below_there c d))
+
+abbrev pub enough_there : Config → (d i k count : ℕ) → Config
+enough_there c d i k count = with_temp (d + 1) (Word 0) (left_there c d i k count)
+
+enough_fits : (p : Point) (m : source.Memory) (c : Config) (d i k count : ℕ) → SameState p m c → p.regions.all ≤ d → SameState p m (enough_there c d i k count)
+enough_fits p m c d i k count fits above =
+    temp_fits p m (left_there c d i k count) (d + 1) (Word 0) (temp_fits p m (with_temp (d + 1) (Word (difference_of k i)) (below_there c d)) (d + 3) (Word count)
+    (temp_fits p m (below_there c d) (d + 1) (Word (difference_of k i)) (temp_fits p m c (d + 3) (Word 1) fits (over above (omega arith)))
+    (over above (omega arith))) (over above (omega arith))) (over above (omega arith))
+
+enough_kept : (c0 c : Config) (d i k count : ℕ) → AreKept d c0 c → AreKept d c0 (enough_there c d i k count)
+enough_kept c0 c d i k count kept =
+    kept_temp d (d + 1) (Word 0) c0 (left_there c d i k count) (omega arith)
+    (kept_temp d (d + 3) (Word count) c0 (with_temp (d + 1) (Word (difference_of k i)) (below_there c d)) (omega arith)
+    (kept_temp d (d + 1) (Word (difference_of k i)) c0 (below_there c d) (omega arith) (kept_temp d (d + 3) (Word 1) c0 c (omega arith) kept)))
+
+-- the pointer and the index are as before
+kept_pointer : (c : Config) (d e i k count : ℕ) (x : Content) → e ≡ d ⊎ e ≡ d + 2 → c.temps e ≡ x → (left_there c d i k count).temps e ≡ x
+kept_pointer c d e i k count x (inl at_d) there =
+    other_temp (d + 3) e (Word count) (with_temp (d + 1) (Word (difference_of k i)) (below_there c d)) (omega (arith, at_d))
+    ∙ other_temp (d + 1) e (Word (difference_of k i)) (below_there c d) (omega (arith, at_d)) ∙ other_temp (d + 3) e (Word 1) c (omega (arith, at_d)) ∙ there
+kept_pointer c d e i k count x (inr behind) there =
+    other_temp (d + 3) e (Word count) (with_temp (d + 1) (Word (difference_of k i)) (below_there c d)) (omega (arith, behind))
+    ∙ after_temp (d + 1) e (Word (difference_of k i)) (below_there c d) (omega (arith, behind)) ∙ other_temp (d + 3) e (Word 1) c (omega (arith, behind)) ∙ there
+
+module _ (w : World) (to : Shape) (rest : Statements) (next : Next) where
+  abbrev element : ℕ → List Statement
+  element d = Do (Element d d (d + 2) (length (cells_of w to)) (extent_of w to).size) ∷ []
+
+  abbrev second : (d count : ℕ) → List Statement
+  second d count =
+      Do (Apply Subtract (d + 1) (d + 1) (d + 2)) ∷ Do (Constant (d + 3) count) ∷ Do (Apply LessUnsigned (d + 1) (d + 1) (d + 3))
+      ∷ If (d + 1) (raised ArrayBounds) NoStatements ∷ element d
+
+  -- the index is compared with the count
+  below_asked : (c : Config) (d i k count : ℕ) (x : Content) → AreThree c d x (Word k) (Word i)
+      → meaning.statements (put (enough_code w count to d) rest) next c
+      ≡ meaning.statements (put (If (d + 3) NoStatements (raised ArrayBounds) ∷ second d count) rest) next
+      (with_temp (d + 3) (Word (words.truth (nat_lt i k))) c)
+  below_asked c d i k count x three =
+      two_words LessUnsigned c (d + 3) (d + 2) (d + 1) i k
+      (meaning.statements (put (If (d + 3) NoStatements (raised ArrayBounds) ∷ second d count) rest) next) three.index three.count
+
+  beyond_raised : (c : Config) (d count : ℕ)
+      → meaning.statements (put (If (d + 3) NoStatements (raised ArrayBounds) ∷ second d count) rest) next (with_temp (d + 3) (Word 0) c)
+      ≡ Stops (SourceEnding.Raised ArrayBounds)
+  beyond_raised c d count = rw (put_temp (d + 3) (Word 0) c) refl
+
+  passed : (c : Config) (d count : ℕ)
+      → meaning.statements (put (If (d + 3) NoStatements (raised ArrayBounds) ∷ second d count) rest) next (below_there c d)
+      ≡ meaning.statements (put (second d count) rest) next (below_there c d)
+  passed c d count = rw (put_temp (d + 3) (Word 1) c) refl
+
+  -- then the elements from there on with the bound
+  left_asked : (c : Config) (d i k count : ℕ) (x : Content) → count < 2 ^ 32 → AreThree c d x (Word k) (Word i)
+      → meaning.statements (put (If (d + 3) NoStatements (raised ArrayBounds) ∷ second d count) rest) next (below_there c d)
+      ≡ meaning.statements (put (If (d + 1) (raised ArrayBounds) NoStatements ∷ element d) rest) next
+      (with_temp (d + 1) (Word (words.truth (nat_lt (difference_of k i) count))) (left_there c d i k count))
+  left_asked c d i k count x few three =
+      let small : count % 2 ^ 32 ≡ count = omega (arith, few) in
+      let behind : Config → core_steps.Step = meaning.statements (put (If (d + 1) (raised ArrayBounds) NoStatements ∷ element d) rest) next in
+      let first : Config = with_temp (d + 1) (Word (difference_of k i)) (below_there c d) in
+      passed c d count ∙
+      (two_words Subtract (below_there c d) (d + 1) (d + 1) (d + 2) k i
+      (λ z. does (Apply LessUnsigned (d + 1) (d + 1) (d + 3)) behind (with_temp (d + 3) (Word (count % 2 ^ 32)) z))
+      (other_temp (d + 3) (d + 1) (Word 1) c (omega arith) ∙ three.count) (other_temp (d + 3) (d + 2) (Word 1) c (omega arith) ∙ three.index) ∙
+      ap (λ z. does (Apply LessUnsigned (d + 1) (d + 1) (d + 3)) behind (with_temp (d + 3) (Word z) first)) small ∙
+      two_words LessUnsigned (left_there c d i k count) (d + 1) (d + 1) (d + 3) (difference_of k i) count behind
+      (other_temp (d + 3) (d + 1) (Word count) first (omega arith) ∙ put_temp (d + 1) (Word (difference_of k i)) (below_there c d))
+      (put_temp (d + 3) (Word count) first))
+
+  left_raised : (c : Config) (d : ℕ)
+      → meaning.statements (put (If (d + 1) (raised ArrayBounds) NoStatements ∷ element d) rest) next (with_temp (d + 1) (Word 1) c)
+      ≡ Stops (SourceEnding.Raised ArrayBounds)
+  left_raised c d = rw (put_temp (d + 1) (Word 1) c) refl
+
+  left_reached : (c : Config) (d i k count byte : ℕ) (t : core.Spot) → AreThree c d (Pointer t byte) (Word k) (Word i)
+      → FirstPart c.memory (core.beyond t (i * length (cells_of w to))) (byte + i * (extent_of w to).size)
+      → meaning.statements (put (If (d + 1) (raised ArrayBounds) NoStatements ∷ element d) rest) next (enough_there c d i k count)
+      ≡ meaning.statements rest next (with_temp d (Pointer (core.beyond t (i * length (cells_of w to))) (byte + i * (extent_of w to).size)) (enough_there c d i k count))
+  left_reached c d i k count byte t three first =
+      rw (
+        put_temp (d + 1) (Word 0) (left_there c d i k count),
+        other_temp (d + 1) d (Word 0) (left_there c d i k count) (omega arith),
+        kept_pointer c d d i k count (Pointer t byte) (inl refl) three.pointer,
+        after_temp (d + 1) (d + 2) (Word 0) (left_there c d i k count) (omega arith),
+        kept_pointer c d (d + 2) i k count (Word i) (inr refl) three.index,
+        first_reached c.memory (core.beyond t (i * length (cells_of w to))) (byte + i * (extent_of w to).size) first,
+      ) refl
+
+-- a pointer that isn't NULL becomes one to so many elements, or both raise
+bounded_same : (p : Point) (n d : ℕ) (b : Reach) (o : Owner) (to : Shape) (m0 : source.Memory) (c0 : Config) (m : source.Memory) (c : Config) (v : Scalar)
+    (s : List Scalar → source.Memory → steps.Step) (rest : Statements) (next : Next) (after : Config → core_steps.Step) → SameState p m c → GrownAt p m0 c0 m c
+    → AreKept d c0 c
+    → ((t : Spot) (byte : ℕ) → IsOwned o c.memory t byte) → GoesOn p n d m0 c0 (ThinShape b o to) s after
+    → ((x : Config) → meaning.statements rest next x ≡ after x) → count_of b < 2 ^ 32
+    → (z : AFat p.world m c.memory to (size_of p.world to) v (contents_in d (FatShape to) c.temps))
+    → SameAt p n (accessed (length (cells_of p.world to)) (Wide (Some z.span)) (if_left (count_of b) (z.span.count - z.span.index) (λ t. s (Thin (Some t) ∷ []))) m)
+    (meaning.statements (put (enough_code p.world (count_of b) to d) rest) next c)
+bounded_same p n d b o to m0 c0 m c v s rest next after fits later kept owned goes same few z =
+    subst (λ u. SameAt p n source_step u) (sym (below_asked p.world to rest next c d i k (count_of b) (Pointer (at z.span.first) z.byte) three))
+    (by (nat_lt i k) refl)
+  where
+    i : ℕ
+    i = z.span.index
+
+    k : ℕ
+    k = z.span.count
+
+    source_step : steps.Step
+    source_step = accessed (length (cells_of p.world to)) (Wide (Some z.span)) (if_left (count_of b) (z.span.count - z.span.index) (λ t. s (Thin (Some t) ∷ []))) m
+
+    three : AreThree c d (Pointer (at z.span.first) z.byte) (Word k) (Word i)
+    three = three_are c d to (Pointer (at z.span.first) z.byte) (Word k) (Word i) z.shown
+
+    enough : (x : Bool) → nat_lt (difference_of k i) (count_of b) ≡ x → i < k
+        → SameAt p n (if_left (count_of b) (k - i) (λ t. s (Thin (Some t) ∷ [])) (element_spot p.world to z.span) m)
+        (meaning.statements (put (If (d + 1) (raised ArrayBounds) NoStatements ∷ element p.world to rest next d) rest) next
+        (with_temp (d + 1) (Word (words.truth (nat_lt (difference_of k i) (count_of b)))) (left_there c d i k (count_of b))))
+    enough true e below =
+        let less : difference_of k i < count_of b = grind (arith, nat_tests, e) in
+        let more : k - i < count_of b = omega (arith, below, z.small, z.few, less) in
+        let none : nat_le (count_of b) (k - i) ≡ false = grind (arith, nat_tests, more) in
+        rw (e, none)
+        (subst (λ u. SameAt p n (Stops (SourceEnding.Raised ArrayBounds)) u) (sym (left_raised p.world to rest next (left_there c d i k (count_of b)) d))
+        (stops_same p.world p.program n (SourceEnding.Raised ArrayBounds)))
+    enough false e below =
+        let less : count_of b ≤ difference_of k i = grind (arith, nat_tests, e) in
+        let fewer : count_of b ≤ k - i = omega (arith, below, z.small, z.few, less) in
+        let one = element_there p.world m c.memory to v (contents_in d (FatShape to) c.temps) z below in
+        let t : Spot = element_spot p.world to z.span in
+        let byte : ℕ = z.byte + i * (extent_of p.world to).size in
+        let here : Config = enough_there c d i k (count_of b) in
+        let all = rest_led p.world m c.memory to v (contents_in d (FatShape to) c.temps) z below in
+        rw (e, le-leb (count_of b) (k - i) fewer)
+        (subst (λ u. SameAt p n (s (Thin (Some t) ∷ []) m) u)
+        (sym (left_reached p.world to rest next c d i k (count_of b) z.byte (at z.span.first) three one.first ∙ same (with_temp d (Pointer (at t) byte) here)))
+        (spot_goes p n d b o to m0 c0 m (with_temp d (Pointer (at t) byte) here) t byte s after
+        (temp_fits p m here d (Pointer (at t) byte) (enough_fits p m c d i k (count_of b) fits goes.above) goes.above) later
+        (kept_temp d d (Pointer (at t) byte) c0 here (omega arith) (enough_kept c0 c d i k (count_of b) kept)) (put_temp d (Pointer (at t) byte) here)
+        z.lies one.leads few (λ j less. all j (omega (arith, fewer, less))) (owned t byte) goes))
+
+    by : (x : Bool) → nat_lt i k ≡ x → SameAt p n source_step
+        (meaning.statements (put (If (d + 3) NoStatements (raised ArrayBounds) ∷ second p.world to rest next d (count_of b)) rest) next
+        (with_temp (d + 3) (Word (words.truth (nat_lt i k))) c))
+    by false e =
+        rw e
+        (subst (λ u. SameAt p n (Stops (SourceEnding.Raised ArrayBounds)) u) (sym (beyond_raised p.world to rest next c d (count_of b)))
+        (stops_same p.world p.program n (SourceEnding.Raised ArrayBounds)))
+    by true e =
+        let below : i < k = grind (arith, nat_tests, e) in
+        rw e
+        (subst (λ u. SameAt p n (if_left (count_of b) (k - i) (λ t. s (Thin (Some t) ∷ [])) (element_spot p.world to z.span) m) u)
+        (sym (left_asked p.world to rest next c d i k (count_of b) (Pointer (at z.span.first) z.byte) few three))
+        (enough (nat_lt (difference_of k i) (count_of b)) refl below))
+
+-- ---- fat to thin
+
+few_words : (b : Reach) → count_of b < 2 ^ 32
+few_words (MayBeNull count) = modulo_small count
+few_words (NeverNull count) = modulo_small count
 
 -- what comes after the branch
 abbrev behind_branch : Statements → Next → Next
 behind_branch rest next exit = meaning.falls_to exit (meaning.statements rest next) next
 
-null_kept : (w : World) (to : Shape) (d : ℕ) (c : Config) (rest : Statements) (next : Next) → c.temps d ≡ Null
-    → meaning.statements (put (to_thin_code w true to d) rest) next c ≡ meaning.statements rest next c
-null_kept w to d c rest next null = rw null refl
+null_code_same : (p : Point) (n d : ℕ) (b : Reach) (o : Owner) (to : Shape) (m0 : source.Memory) (c0 : Config) (m : source.Memory) (c : Config)
+    (s : List Scalar → source.Memory → steps.Step) (rest : Statements) (next : Next) → c.temps d ≡ Null → SameState p m c → GrownAt p m0 c0 m c → AreKept d c0 c
+    → GoesOn p n d m0 c0 (ThinShape b o to) s (meaning.statements rest next)
+    → (cells : ℕ) → SameAt p n (fat_to_thin b cells None (λ r. s (r ∷ [])) m) (meaning.statements (put (to_thin_code p.world b to d) rest) next c)
+null_code_same p n d (MayBeNull count) o to m0 c0 m c s rest next null fits later kept goes cells =
+    rw null (goes.go m c (Thin None ∷ []) fits later kept (inl (record {
+      value = Thin None;
+      alone = refl;
+      shown = inl (record { allowed = refl; value = refl; shown = ap (λ z. z ∷ []) null });
+    })))
+null_code_same p n d (NeverNull count) o to m0 c0 m c s rest next null fits later kept goes cells =
+    rw null (stops_same p.world p.program n (SourceEnding.Raised NullException))
 
-span_entered : (w : World) (to : Shape) (d byte : ℕ) (t : core.Spot) (c : Config) (rest : Statements) (next : Next) → c.temps d ≡ Pointer t byte
-    → meaning.statements (put (to_thin_code w true to d) rest) next c ≡ meaning.statements (put (kept_code w to d) NoStatements) (behind_branch rest next) c
-span_entered w to d byte t c rest next pointer = rw pointer refl
+branch_entered : (w : World) (count : ℕ) (to : Shape) (d byte : ℕ) (t : core.Spot) (c : Config) (rest : Statements) (next : Next) → c.temps d ≡ Pointer t byte
+    → meaning.statements (put (to_thin_code w (MayBeNull count) to d) rest) next c
+    ≡ meaning.statements (put (enough_code w (count % 2 ^ 32) to d) NoStatements) (behind_branch rest next) c
+branch_entered w count to d byte t c rest next pointer = rw pointer refl
 
-pub maybe_null : (p : Point) (n d : ℕ) (o : Owner) (to from : Shape) → ConvertsAs p n d (ThinShape true o to) (FatShape from) (to_thin_code p.world true to d)
-maybe_null p n d o to from = record {
+check_passed : (w : World) (count : ℕ) (to : Shape) (d byte : ℕ) (t : core.Spot) (c : Config) (rest : Statements) (next : Next) → c.temps d ≡ Pointer t byte
+    → meaning.statements (put (to_thin_code w (NeverNull count) to d) rest) next c
+    ≡ meaning.statements (put (enough_code w (count % 2 ^ 32) to d) rest) next c
+check_passed w count to d byte t c rest next pointer = rw pointer refl
+
+span_code_same : (p : Point) (n d : ℕ) (b : Reach) (o : Owner) (to : Shape) (m0 : source.Memory) (c0 : Config) (m : source.Memory) (c : Config) (v : Scalar)
+    (s : List Scalar → source.Memory → steps.Step) (rest : Statements) (next : Next) → SameState p m c → GrownAt p m0 c0 m c → AreKept d c0 c
+    → ((t : Spot) (byte : ℕ) → IsOwned o c.memory t byte) → GoesOn p n d m0 c0 (ThinShape b o to) s (meaning.statements rest next)
+    → (z : AFat p.world m c.memory to (size_of p.world to) v (contents_in d (FatShape to) c.temps))
+    → SameAt p n (fat_to_thin b (length (cells_of p.world to)) (Some z.span) (λ r. s (r ∷ [])) m)
+    (meaning.statements (put (to_thin_code p.world b to d) rest) next c)
+span_code_same p n d (MayBeNull count) o to m0 c0 m c v s rest next fits later kept owned goes z =
+    let pointer = (three_are c d to (Pointer (at z.span.first) z.byte) (Word z.span.count) (Word z.span.index) z.shown).pointer in
+    subst (λ u. SameAt p n (fat_to_thin (MayBeNull count) (length (cells_of p.world to)) (Some z.span) (λ r. s (r ∷ [])) m) u)
+    (sym (branch_entered p.world count to d z.byte (at z.span.first) c rest next pointer))
+    (bounded_same p n d (MayBeNull count) o to m0 c0 m c v s NoStatements (behind_branch rest next) (meaning.statements rest next) fits later kept owned goes
+    (λ x. refl) (few_words (MayBeNull count)) z)
+span_code_same p n d (NeverNull count) o to m0 c0 m c v s rest next fits later kept owned goes z =
+    let pointer = (three_are c d to (Pointer (at z.span.first) z.byte) (Word z.span.count) (Word z.span.index) z.shown).pointer in
+    subst (λ u. SameAt p n (fat_to_thin (NeverNull count) (length (cells_of p.world to)) (Some z.span) (λ r. s (r ∷ [])) m) u)
+    (sym (check_passed p.world count to d z.byte (at z.span.first) c rest next pointer))
+    (bounded_same p n d (NeverNull count) o to m0 c0 m c v s rest next (meaning.statements rest next) fits later kept owned goes
+    (λ x. refl) (few_words (NeverNull count)) z)
+
+pub to_thin : (p : Point) (n d : ℕ) (b : Reach) (o : Owner) (to from : Shape) → ConvertsAs p n d (ThinShape b o to) (FatShape from) (to_thin_code p.world b to d)
+to_thin p n d b o to from = record {
   same = λ m0 c0 m c vs s rest next fits later kept given goes.
       let v = fat_value p.world m c.memory from vs (contents_in d (FatShape from) c.temps) given in
-      let step : core_steps.Step = meaning.statements (put (to_thin_code p.world true to d) rest) next c in
-      subst (λ z. SameAt p n (converted p.world (ThinShape true o to) (FatShape from) z s m) step) (sym v.alone)
+      let step : core_steps.Step = meaning.statements (put (to_thin_code p.world b to d) rest) next c in
+      subst (λ z. SameAt p n (converted p.world (ThinShape b o to) (FatShape from) z s m) step) (sym v.alone)
       (⊎_elim
       (λ (z : AFatNull v.value (contents_in d (FatShape from) c.temps)).
-      let null = (three_are c d from Null (Word 0) (Word z.word) z.shown).pointer in
-      subst (λ u. SameAt p n (converted p.world (ThinShape true o to) (FatShape from) (u ∷ []) s m) step) (sym z.value)
-      (subst (λ u. SameAt p n (s (Thin None ∷ []) m) u) (sym (null_kept p.world to d c rest next null))
-      (goes.go m c (Thin None ∷ []) fits later kept (inl (record {
-        value = Thin None;
-        alone = refl;
-        shown = inl (record { allowed = refl; value = refl; shown = ap (λ z. z ∷ []) null });
-      })))))
+      subst (λ u. SameAt p n (converted p.world (ThinShape b o to) (FatShape from) (u ∷ []) s m) step) (sym z.value)
+      (null_code_same p n d b o to m0 c0 m c s rest next (three_are c d from Null (Word 0) (Word z.word) z.shown).pointer fits later kept goes
+      (length (cells_of p.world to))))
       (λ (z : AFat p.world m c.memory from (size_of p.world from) v.value (contents_in d (FatShape from) c.temps)).
-      subst (λ u. SameAt p n (converted p.world (ThinShape true o to) (FatShape from) (u ∷ []) s m) step) (sym z.value)
-      (checked (goes_to o (FatShape from) && same_shape to from) refl m c z.span s rest next
-      (subst (λ u. AFat p.world m c.memory from (size_of p.world from) u (contents_in d (FatShape from) c.temps)) z.value z)
-      (λ free. element_goes p n d true o to m0 c0 m c s (meaning.statements rest next) fits later kept (owned_fat o from c.memory free) goes)))
+      subst (λ u. SameAt p n (converted p.world (ThinShape b o to) (FatShape from) (u ∷ []) s m) step) (sym z.value)
+      (checked (goes_to o (FatShape from) && same_shape to from) refl m0 c0 m c v.value s rest next fits later kept goes z))
       v.shown);
 }
   where
-    there : (m : source.Memory) (c : Config) (s : List Scalar → source.Memory → steps.Step) (rest : Statements) (next : Next) (v : Scalar)
-        → (z : AFat p.world m c.memory to (size_of p.world to) v (contents_in d (FatShape to) c.temps))
-        → ElementGoesOn p n d d to m c (λ t. s (Thin (Some t) ∷ [])) (meaning.statements rest next)
-        → SameAt p n (accessed (length (cells_of p.world to)) (Wide (Some z.span)) (λ t. s (Thin (Some t) ∷ [])) m)
-        (meaning.statements (put (to_thin_code p.world true to d) rest) next c)
-    there m c s rest next v z goes_on =
-        subst (λ u. SameAt p n (accessed cells (Wide (Some z.span)) (λ t. s (Thin (Some t) ∷ [])) m) u)
-        (sym (span_entered p.world to d z.byte (at z.span.first) c rest next three.pointer ∙
-        compared c d z.span.index z.span.count (Pointer (at z.span.first) z.byte) reaches NoStatements (behind_branch rest next) three))
-        (by (nat_lt z.span.index z.span.count) refl)
-      where
-        cells : ℕ
-        cells = length (cells_of p.world to)
-
-        reaches : List Statement
-        reaches = reached_code p.world to d d (raised ArrayBounds)
-
-        three : AreThree c d (Pointer (at z.span.first) z.byte) (Word z.span.count) (Word z.span.index)
-        three = three_are c d to (Pointer (at z.span.first) z.byte) (Word z.span.count) (Word z.span.index) z.shown
-
-        by : (b : Bool) → nat_lt z.span.index z.span.count ≡ b → SameAt p n (accessed cells (Wide (Some z.span)) (λ t. s (Thin (Some t) ∷ [])) m)
-            (meaning.statements (put reaches NoStatements) (behind_branch rest next) (tested c d (nat_lt z.span.index z.span.count)))
-        by false e =
-            rw e
-            (subst (λ u. SameAt p n (Stops (SourceEnding.Raised ArrayBounds)) u)
-            (sym (otherwise_done p.world to c d d (raised ArrayBounds) NoStatements (behind_branch rest next)))
-            (stops_same p.world p.program n (SourceEnding.Raised ArrayBounds)))
-        by true e =
-            let less : z.span.index < z.span.count = grind (arith, nat_tests, e) in
-            let one = element_there p.world m c.memory to v (contents_in d (FatShape to) c.temps) z less in
-            rw e
-            (subst (λ u. SameAt p n (s (Thin (Some (element_spot p.world to z.span)) ∷ []) m) u)
-            (sym (element_reached p.world to c d d z.byte z.span.index (at z.span.first) (raised ArrayBounds) NoStatements (behind_branch rest next)
-            three.pointer three.index one.first))
-            (goes_on.go (element_spot p.world to z.span) (z.byte + z.span.index * (extent_of p.world to).size) z.lies one.leads))
-
-    checked : (b : Bool) → (goes_to o (FatShape from) && same_shape to from) ≡ b → (m : source.Memory) (c : Config) (span : Span)
-        (s : List Scalar → source.Memory → steps.Step) (rest : Statements) (next : Next)
-        → (z : AFat p.world m c.memory from (size_of p.world from) (Wide (Some span)) (contents_in d (FatShape from) c.temps))
-        → (goes_to o (FatShape from) ≡ true → ElementGoesOn p n d d to m c (λ t. s (Thin (Some t) ∷ [])) (meaning.statements rest next))
-        → SameAt p n (converted p.world (ThinShape true o to) (FatShape from) (Wide (Some span) ∷ []) s m)
-        (meaning.statements (put (to_thin_code p.world true to d) rest) next c)
-    checked false e m c span s rest next z goes_on = rw e (stuck_same p.world p.program n _)
-    checked true e m c span s rest next z goes_on =
-        let same : from ≡ to = sym (shapes_same to from ((and_parts (goes_to o (FatShape from)) (same_shape to from) e).1)) in
-        let y = subst (λ y. AFat p.world m c.memory y (size_of p.world y) (Wide (Some span)) (contents_in d (FatShape to) c.temps)) same z in
-        let whole : y.span ≡ span = ap (span_in span) (sym y.value) in
+    checked : (x : Bool) → (goes_to o (FatShape from) && same_shape to from) ≡ x → (m0 : source.Memory) (c0 : Config) (m : source.Memory) (c : Config)
+        (v : Scalar)
+        (s : List Scalar → source.Memory → steps.Step) (rest : Statements) (next : Next) → SameState p m c → GrownAt p m0 c0 m c → AreKept d c0 c
+        → GoesOn p n d m0 c0 (ThinShape b o to) s (meaning.statements rest next)
+        → (z : AFat p.world m c.memory from (size_of p.world from) v (contents_in d (FatShape from) c.temps))
+        → SameAt p n (converted p.world (ThinShape b o to) (FatShape from) (Wide (Some z.span) ∷ []) s m)
+        (meaning.statements (put (to_thin_code p.world b to d) rest) next c)
+    checked false e m0 c0 m c v s rest next fits later kept goes z = rw e (stuck_same p.world p.program n _)
+    checked true e m0 c0 m c v s rest next fits later kept goes z =
+        let both = and_parts (goes_to o (FatShape from)) (same_shape to from) e in
+        let same : from ≡ to = sym (shapes_same to from both.1) in
+        let y : AFat p.world m c.memory to (size_of p.world to) v (contents_in d (FatShape to) c.temps) =
+        subst (λ y. AFat p.world m c.memory y (size_of p.world y) v (contents_in d (FatShape to) c.temps)) same z in
+        let whole : y.span ≡ z.span = ap (span_in z.span) (sym y.value ∙ z.value) in
         rw e
-        (subst (λ u. SameAt p n (accessed (length (cells_of p.world to)) (Wide (Some u)) (λ t. s (Thin (Some t) ∷ [])) m)
-        (meaning.statements (put (to_thin_code p.world true to d) rest) next c)) whole (there m c s rest next (Wide (Some span)) y
-        (goes_on (and_parts (goes_to o (FatShape from)) (same_shape to from) e).0)))
+        (subst (λ u. SameAt p n (fat_to_thin b (length (cells_of p.world to)) (Some u) (λ r. s (r ∷ [])) m)
+        (meaning.statements (put (to_thin_code p.world b to d) rest) next c)) whole
+        (span_code_same p n d b o to m0 c0 m c v s rest next fits later kept (owned_fat o from c.memory both.0) goes y))
 
 -- ---- fat to fat
 

@@ -4,6 +4,7 @@ use Rattle.std.proofs.Common.{arith}
 use Rattle.std.specs.Prelude.{nat_lt}
 use Rattle.std.proofs.lemmas.Bool.Decides.{nat_tests}
 use Rattle.cyc_words.specs.Words.{sum_of, difference_of, product_of}
+use Rattle.std.specs.Prelude.{◌-◌}
 use Rattle.source_meaning.specs.Shapes.{Shape, UnsignedShape, FatShape}
 use Rattle.source_meaning.specs.Memory as source
 use Rattle.source_meaning.specs.Memory.{AsUnsigned, Integer, Scalar, Wide, Spot}
@@ -158,7 +159,7 @@ fat_moves p n d k to o v m0 c0 m c s rest next small operand shown fits later ke
 pub index_same : (p : Point) (n d k : ℕ) (to : Shape) (v : Scalar) (m : source.Memory) (c : Config) (s : Spot → source.Memory → steps.Step)
     (rest : Statements) (next : Next) → c.temps d ≡ Word k
     → Shown p.world m c.memory (FatShape to) v (contents_in (d + 1) (FatShape to) c.temps)
-    → ((index : ℕ) → ElementGoesOn p n d (d + 1) to m (moved c (d + 1) index) s (meaning.statements rest next))
+    → ((index left : ℕ) → ElementGoesOn p n d (d + 1) left to m (moved c (d + 1) index) s (meaning.statements rest next))
     → SameAt p n (accessed (length (cells_of p.world to)) (moved_value v (λ i. sum_of i k)) s m)
     (meaning.statements (put (index_code p.world to d) rest) next c)
 index_same p n d k to v m c s rest next operand shown goes =
@@ -168,7 +169,7 @@ index_same p n d k to v m c s rest next operand shown goes =
     let after : Config → core_steps.Step = meaning.statements (put (element_code p.world to d (d + 1)) rest) next in
     subst (λ z. SameAt p n (accessed (length (cells_of p.world to)) (moved_value v (λ i. sum_of i k)) s m) z)
     (sym (ap (λ t. does (Apply Add t t d) after c) there ∙ both.done after))
-    (element_same p n d (d + 1) to (moved_value v (λ i. sum_of i k)) m here s rest next both.shown (λ z. goes both.index))
+    (element_same p n d (d + 1) to (moved_value v (λ i. sum_of i k)) m here s rest next both.shown (λ z less. goes both.index (z.span.count - z.span.index)))
 
 -- ---- `numelts`
 

@@ -1,5 +1,7 @@
 -- The shapes of values, and values of one temporary: integers, thin pointers and handles.
 use Rattle.std.proofs.Common.{◌≡◌, ℕ, Bool, true, false, ◌^◌, ◌<◌, ◌⊎◌, inl, inr, ⊎_elim, List, [], ◌∷◌, refl, sym, ap, subst, arith}
+use Rattle.source_meaning.specs.Shapes.{count_of}
+use Rattle.source_meaning.specs.Shapes.{Reach, may_be_null}
 use Rattle.source_meaning.specs.Shapes.{
   Shape,
   Owner,
@@ -188,12 +190,12 @@ not_void shape h e = subst (λ z. IsWordShape z) e h
 
 -- a thin pointer's value and what stands for it
 pub record IsThin (w : World) (m : source.Memory) (c : core.Memory) (shape : Shape) (v : Scalar) (x : Content) : Type 0 where
-  pub may_be_null : Bool
+  pub bound : Reach
   pub owner : Owner
   pub to : Shape
   pub taken : IsTarget to
-  pub shape_is : shape ≡ ThinShape may_be_null owner to
-  pub shown : ANull may_be_null v (x ∷ []) ⊎ APointer w m c owner to v (x ∷ [])
+  pub shape_is : shape ≡ ThinShape bound owner to
+  pub shown : ANull bound v (x ∷ []) ⊎ APointer w m c (count_of bound) owner to v (x ∷ [])
 
 -- a thin pointer or a key: what may be an operand of what frees, lends or opens
 abbrev pub IsMovedShape : Shape → Type 0
@@ -239,10 +241,10 @@ no_integer : (key : Bool) → IsIntegerShape (birth_shape key) → ⊥
 no_integer true h = h
 no_integer false h = h
 
-pub null_is : (x : Content) (b : Bool) (v : Scalar) → ANull b v (x ∷ []) → x ≡ Null
+pub null_is : (x : Content) (b : Reach) (v : Scalar) → ANull b v (x ∷ []) → x ≡ Null
 null_is x b v n = ap (first_in x) n.shown
 
-pub pointer_is : (w : World) (m : source.Memory) (c : core.Memory) (o : Owner) (to : Shape) (x : Content) (v : Scalar) (p : APointer w m c o to v (x ∷ []))
+pub pointer_is : {j : ℕ} (w : World) (m : source.Memory) (c : core.Memory) (o : Owner) (to : Shape) (x : Content) (v : Scalar) (p : APointer w m c j o to v (x ∷ []))
     → x ≡ Pointer (at p.spot) p.byte
 pointer_is w m c o to x v p = ap (first_in x) p.shown
 
@@ -277,8 +279,8 @@ shown_one w m c CharShape v x h o = inl (record {
   type_is = refl;
 })
 shown_one w m c VoidShape v x h o = absurd o
-shown_one w m c (ThinShape may_be_null owner to) v x h o = inr (inl (record {
-  may_be_null = may_be_null;
+shown_one w m c (ThinShape bound owner to) v x h o = inr (inl (record {
+  bound = bound;
   owner = owner;
   to = to;
   taken = h;

@@ -28,6 +28,7 @@ use Rattle.std.proofs.Common.{
 use Rattle.std.proofs.lemmas.Bool.{eq-eqb}
 use Rattle.cyc_tree.specs.declared.expression.Operator.{Operator}
 use Rattle.cyc_tree.specs.declared.expression.Operator.TheVariants as operator
+use Rattle.source_meaning.specs.Shapes.{count_of}
 use Rattle.source_meaning.specs.Shapes.{Shape, ThinShape}
 use Rattle.source_meaning.specs.Memory as source
 use Rattle.source_meaning.specs.Memory.{Scalar, Thin, Spot, is_live, same_spot}
@@ -96,9 +97,9 @@ both_pointers : (w : World) (m : source.Memory) (c : core.Memory) (sa sb : Shape
     → IsThin w m c sb v y → ArePointers m c u v x y
 both_pointers w m c sa sb u v x y agree a b =
     ⊎_elim
-    (λ (i : ANull a.may_be_null u (x ∷ [])).
+    (λ (i : ANull a.bound u (x ∷ [])).
     ⊎_elim
-    (λ (j : ANull b.may_be_null v (y ∷ [])). record {
+    (λ (j : ANull b.bound v (y ∷ [])). record {
       first = None;
       second = None;
       first_is = i.value;
@@ -106,10 +107,10 @@ both_pointers w m c sa sb u v x y agree a b =
       compares = inr (record {
         answer = true;
         is = refl;
-        does = λ next. rw (null_is x a.may_be_null u i, null_is y b.may_be_null v j) refl;
+        does = λ next. rw (null_is x a.bound u i, null_is y b.bound v j) refl;
       });
     })
-    (λ (q : APointer w m c b.owner b.to v (y ∷ [])). record {
+    (λ (q : APointer w m c (count_of b.bound) b.owner b.to v (y ∷ [])). record {
       first = None;
       second = Some q.spot;
       first_is = i.value;
@@ -117,12 +118,12 @@ both_pointers w m c sa sb u v x y agree a b =
       compares = inr (record {
         answer = false;
         is = refl;
-        does = λ next. rw (null_is x a.may_be_null u i, pointer_is w m c b.owner b.to y v q) refl;
+        does = λ next. rw (null_is x a.bound u i, pointer_is w m c b.owner b.to y v q) refl;
       });
     }) b.shown)
-    (λ (p : APointer w m c a.owner a.to u (x ∷ [])).
+    (λ (p : APointer w m c (count_of a.bound) a.owner a.to u (x ∷ [])).
     ⊎_elim
-    (λ (j : ANull b.may_be_null v (y ∷ [])). record {
+    (λ (j : ANull b.bound v (y ∷ [])). record {
       first = Some p.spot;
       second = None;
       first_is = p.value;
@@ -130,10 +131,10 @@ both_pointers w m c sa sb u v x y agree a b =
       compares = inr (record {
         answer = false;
         is = refl;
-        does = λ next. rw (pointer_is w m c a.owner a.to x u p, null_is y b.may_be_null v j) refl;
+        does = λ next. rw (pointer_is w m c a.owner a.to x u p, null_is y b.bound v j) refl;
       });
     })
-    (λ (q : APointer w m c b.owner b.to v (y ∷ [])).
+    (λ (q : APointer w m c (count_of b.bound) b.owner b.to v (y ∷ [])).
     let one = first_part_of w c a.to (at p.spot) p.byte p.lies.cells p.leads.1 in
     let other = first_part_of w c b.to (at q.spot) q.byte q.lies.cells q.leads.1 in
     record {
@@ -197,7 +198,7 @@ pointers_operated p n d o sa sb u v m0 c0 m c s rest next a b fits later kept go
     subst (λ z. SameAt p n (need (operators.operated m o u v) (λ r. s (r ∷ [])) m) (meaning.statements (put (operator_code o z sb d) rest) next c))
     (sym a.shape_is)
     (subst (λ z. SameAt p n (need (operators.operated m o u v) (λ r. s (r ∷ [])) m)
-    (meaning.statements (put (operator_code o (ThinShape a.may_be_null a.owner a.to) z d) rest) next c)) (sym b.shape_is)
+    (meaning.statements (put (operator_code o (ThinShape a.bound a.owner a.to) z d) rest) next c)) (sym b.shape_is)
     (subst (λ z. SameAt p n (need (operators.operated m o z v) (λ r. s (r ∷ [])) m) code) (sym both.first_is)
     (subst (λ z. SameAt p n (need (operators.operated m o (Thin both.first) z) (λ r. s (r ∷ [])) m) code) (sym both.second_is)
     (⊎_elim

@@ -1,9 +1,11 @@
 -- A thin pointer, a handle or a key in a temporary is converted to another shape.
-use Rattle.std.proofs.Common.{◌≡◌, Bool, true, false, Option, Some, None, ℕ, inl, inr, ⊎_elim, List, [], ◌∷◌, refl, sym, ap, subst}
-use Rattle.std.specs.Prelude.{◌&&◌}
-use Rattle.std.proofs.lemmas.Bool.{and_parts, false≢true}
+use Rattle.std.proofs.Common.{◌≡◌, ◌<◌, ◌≤◌, ◌^◌, ◌%◌, arith, Bool, true, false, Option, Some, None, ℕ, inl, inr, ⊎_elim, List, [], ◌∷◌, refl, sym, ap, subst}
+use Rattle.std.specs.Prelude.{◌&&◌, nat_le}
+use Rattle.std.proofs.lemmas.Bool.{and_parts, false≢true, leb-true}
 use Rattle.cyc_words.specs.declared.faults.Kind.TheVariants.{NullException}
 use Rattle.cyc_words.specs.Events.{SourceEnding}
+use Rattle.source_meaning.specs.Shapes.{count_of}
+use Rattle.source_meaning.specs.Shapes.{Reach, MayBeNull, NeverNull, may_be_null}
 use Rattle.source_meaning.specs.Shapes.{Owner, Shared, Alone, Unsaid, same_shape, goes_to, Shape, IntShape, UnsignedShape, CharShape, VoidShape, ThinShape}
 use Rattle.source_meaning.specs.Shapes.{FatShape, HandleShape, KeyShape, StructShape, UnionShape, ArrayShape}
 use Rattle.source_meaning.specs.Memory as source
@@ -18,8 +20,9 @@ use Rattle.core_meaning.specs.Steps as core_steps
 use Rattle.core_meaning.specs.Steps.{Config}
 use Rattle.core_meaning.specs.Meaning as meaning
 use Rattle.source_lowering.specs.Lowered.{put, conversion_code}
+use Rattle.source_lowering.specs.Members.{check_code}
 use Rattle.source_lowering.specs.Lowerable.{IsThinShape, IsWordShape}
-use Rattle.source_lowering.specs.Simulation.{at, Leads, ANull, IsOwned, IsTakenObject, APointer, Point, SameAt, Next, AValue, ANothing, Given}
+use Rattle.source_lowering.specs.Simulation.{at, Leads, LeadsAll, ANull, IsOwned, IsTakenObject, APointer, Point, SameAt, Next, AValue, ANothing, Given}
 use Rattle.source_lowering.specs.Simulation.{contents_in}
 use Rattle.source_lowering.proofs.Runs.{stuck_same, stops_same}
 use Rattle.source_lowering.proofs.values.Integers.{birth_shape, null_is, pointer_is}
@@ -28,17 +31,17 @@ use Rattle.source_lowering.proofs.values.NumberConversions.{ConvertsAs}
 
 -- ---- pointers
 
-thin_void : (b : Bool) (o : Owner) (to : Shape) → ThinShape b o to ≡ VoidShape → ⊥
+thin_void : (b : Reach) (o : Owner) (to : Shape) → ThinShape b o to ≡ VoidShape → ⊥
 thin_void b o to e = cc e
 
 -- what is given of a pointer's shape is a value
-pub thin_value : (w : World) (m : source.Memory) (c : core.Memory) (b : Bool) (o : Owner) (to : Shape) (vs : List Scalar) (x : Content)
+pub thin_value : (w : World) (m : source.Memory) (c : core.Memory) (b : Reach) (o : Owner) (to : Shape) (vs : List Scalar) (x : Content)
     → Given w m c (ThinShape b o to) vs (x ∷ []) → AValue w m c (ThinShape b o to) vs (x ∷ [])
 thin_value w m c b o to vs x given =
     ⊎_elim (λ (v : AValue w m c (ThinShape b o to) vs (x ∷ [])). v) (λ (v : ANothing (ThinShape b o to) vs). absurd (thin_void b o to v.void)) given
 
 -- the source is stuck at each pointer
-pub stuck_pointer : (p : Point) (n : ℕ) (to : Shape) (b : Bool) (o : Owner) (from : Shape) (m : source.Memory) (c : core.Memory) (vs : List Scalar)
+pub stuck_pointer : (p : Point) (n : ℕ) (to : Shape) (b : Reach) (o : Owner) (from : Shape) (m : source.Memory) (c : core.Memory) (vs : List Scalar)
     (x : Content) (s : List Scalar → source.Memory → steps.Step) (k : core_steps.Step)
     → ((q : Option Spot) (s : List Scalar → source.Memory → steps.Step) (m : source.Memory) (k : core_steps.Step)
     → SameAt p n (converted p.world to (ThinShape b o from) (Thin q ∷ []) s m) k) → Given p.world m c (ThinShape b o from) vs (x ∷ [])
@@ -49,11 +52,11 @@ stuck_pointer p n to b o from m c vs x s k stuck given =
     (⊎_elim
     (λ (z : ANull b v.value (x ∷ [])).
     subst (λ u. SameAt p n (converted p.world to (ThinShape b o from) (u ∷ []) s m) k) (sym z.value) (stuck None s m k))
-    (λ (z : APointer p.world m c o from v.value (x ∷ [])).
+    (λ (z : APointer p.world m c (count_of b) o from v.value (x ∷ [])).
     subst (λ u. SameAt p n (converted p.world to (ThinShape b o from) (u ∷ []) s m) k) (sym z.value) (stuck (Some z.spot) s m k))
     v.shown)
 
-pub stuck_thin : (p : Point) (n d : ℕ) (to : Shape) (b : Bool) (o : Owner) (from : Shape) (code : List Statement)
+pub stuck_thin : (p : Point) (n d : ℕ) (to : Shape) (b : Reach) (o : Owner) (from : Shape) (code : List Statement)
     → ((q : Option Spot) (s : List Scalar → source.Memory → steps.Step) (m : source.Memory) (k : core_steps.Step)
     → SameAt p n (converted p.world to (ThinShape b o from) (Thin q ∷ []) s m) k) → ConvertsAs p n d to (ThinShape b o from) code
 stuck_thin p n d to b o from code stuck = record {
@@ -61,7 +64,7 @@ stuck_thin p n d to b o from code stuck = record {
       stuck_pointer p n to b o from m c.memory vs (c.temps d) s (meaning.statements (put code rest) next c) stuck given;
 }
 
-null_word : (c : Config) (d : ℕ) (b : Bool) (v : Scalar) → ANull b v (c.temps d ∷ []) → c.temps d ≡ Null
+null_word : (c : Config) (d : ℕ) (b : Reach) (v : Scalar) → ANull b v (c.temps d ∷ []) → c.temps d ≡ Null
 null_word c d b v z = null_is (c.temps d) b v z
 
 -- what comes after where nothing changes but the value
@@ -69,22 +72,22 @@ abbrev pub StaysOn : Point → (n d : ℕ) → Shape → source.Memory → Confi
 StaysOn p n d shape m c s k = (vs : List Scalar) → Given p.world m c.memory shape vs (contents_in d shape c.temps) → SameAt p n (s vs m) k
 
 -- NULL stays NULL, or raises
-null_converts : (p : Point) (n d : ℕ) (a b : Bool) (o q : Owner) (to from : Shape) (m : source.Memory) (c : Config)
-    (s : List Scalar → source.Memory → steps.Step) (rest : Statements) (next : Next) → b ≡ true → c.temps d ≡ Null
+null_converts : (p : Point) (n d : ℕ) (a b : Reach) (o q : Owner) (to from : Shape) (m : source.Memory) (c : Config)
+    (s : List Scalar → source.Memory → steps.Step) (rest : Statements) (next : Next) → may_be_null b ≡ true → c.temps d ≡ Null
     → StaysOn p n d (ThinShape a o to) m c s (meaning.statements rest next c)
-    → SameAt p n (thin_to_thin a None (λ r. s (r ∷ [])) m)
+    → SameAt p n (thin_to_thin a (count_of b) None (λ r. s (r ∷ [])) m)
     (meaning.statements (put (conversion_code p.world (ThinShape a o to) (ThinShape b q from) d) rest) next c)
-null_converts p n d true b o q to from m c s rest next allowed null go =
+null_converts p n d (MayBeNull count) b o q to from m c s rest next allowed null go =
     go (Thin None ∷ []) (inl (record {
       value = Thin None;
       alone = refl;
       shown = inl (record { allowed = refl; value = refl; shown = ap (λ z. z ∷ []) null });
     }))
-null_converts p n d false true o q to from m c s rest next allowed null go = rw null (stops_same p.world p.program n (SourceEnding.Raised NullException))
-null_converts p n d false false o q to from m c s rest next allowed null go = absurd (false≢true allowed)
+null_converts p n d (NeverNull count) (MayBeNull j) o q to from m c s rest next allowed null go = rw null (stops_same p.world p.program n (SourceEnding.Raised NullException))
+null_converts p n d (NeverNull count) (NeverNull j) o q to from m c s rest next allowed null go = absurd (false≢true allowed)
 
 -- what is unique was so before
-owned_goes : (o q : Owner) (b : Bool) (from : Shape) (c : core.Memory) (t : Spot) (byte : ℕ) → goes_to o (ThinShape b q from) ≡ true → IsOwned q c t byte
+owned_goes : (o q : Owner) (b : Reach) (from : Shape) (c : core.Memory) (t : Spot) (byte : ℕ) → goes_to o (ThinShape b q from) ≡ true → IsOwned q c t byte
     → IsOwned o c t byte
 owned_goes Alone Alone b from c t byte e h = h
 owned_goes Alone Shared b from c t byte e h = absurd (false≢true e)
@@ -93,32 +96,40 @@ owned_goes Shared q b from c t byte e h = tt
 owned_goes Unsaid q b from c t byte e h = tt
 
 -- another pointer stays as it is
-spot_converts : (p : Point) (n d : ℕ) (a b : Bool) (o q : Owner) (to from : Shape) (m : source.Memory) (c : Config)
+spot_converts : (p : Point) (n d : ℕ) (a b : Reach) (o q : Owner) (to from : Shape) (m : source.Memory) (c : Config)
     (t : Spot) (byte : ℕ) (s : List Scalar → source.Memory → steps.Step) (rest : Statements) (next : Next)
-    → c.temps d ≡ Pointer (at t) byte → IsTakenObject p.world to → Leads p.world m c.memory to t byte
+    → c.temps d ≡ Pointer (at t) byte → IsTakenObject p.world to → Leads p.world m c.memory to t byte → count_of b < 2 ^ 32
+    → LeadsAll p.world m c.memory to (count_of b) t byte
     → IsOwned o c.memory t byte → StaysOn p n d (ThinShape a o to) m c s (meaning.statements rest next c)
-    → SameAt p n (thin_to_thin a (Some t) (λ r. s (r ∷ [])) m)
+    → SameAt p n (thin_to_thin a (count_of b) (Some t) (λ r. s (r ∷ [])) m)
     (meaning.statements (put (conversion_code p.world (ThinShape a o to) (ThinShape b q from) d) rest)
     next c)
-spot_converts p n d a b o q to from m c t byte s rest next temp full leads owned go = by a b go
+spot_converts p n d a b o q to from m c t byte s rest next temp full leads few elements owned go = by a (nat_le (count_of a) (count_of b)) refl go
   where
-    there : (x : Bool) → StaysOn p n d (ThinShape x o to) m c s (meaning.statements rest next c) → SameAt p n (s (Thin (Some t) ∷ []) m)
-        (meaning.statements rest next c)
-    there x on = on (Thin (Some t) ∷ []) (inl (record {
+    there : (x : Reach) → count_of x ≤ count_of b → StaysOn p n d (ThinShape x o to) m c s (meaning.statements rest next c)
+        → SameAt p n (s (Thin (Some t) ∷ []) m) (meaning.statements rest next c)
+    there x fewer on = on (Thin (Some t) ∷ []) (inl (record {
       value = Thin (Some t);
       alone = refl;
-      shown = inr (record { spot = t; byte = byte; value = refl; shown = ap (λ z. z ∷ []) temp; lies = full; leads = leads; owned = owned });
+      shown = inr (record { spot = t; byte = byte; value = refl; shown = ap (λ z. z ∷ []) temp; lies = full; leads = leads; few = omega (arith, fewer, few); elements = λ k less. elements k (omega (arith, fewer, less)); owned = owned });
     }))
 
-    by : (x y : Bool) → StaysOn p n d (ThinShape x o to) m c s (meaning.statements rest next c)
-        → SameAt p n (thin_to_thin x (Some t) (λ r. s (r ∷ [])) m)
-        (meaning.statements (put (conversion_code p.world (ThinShape x o to) (ThinShape y q from) d) rest)
-        next c)
-    by true y on = there true on
-    by false true on = rw temp (there false on)
-    by false false on = there false on
+    none : (y : Reach) → c.temps d ≡ Pointer (at t) byte → meaning.statements (put (check_code (ThinShape y q from) d) rest) next c ≡ meaning.statements rest next c
+    none (MayBeNull j) e = rw e refl
+    none (NeverNull j) e = refl
 
-pub thin_same : (p : Point) (n d : ℕ) (a b : Bool) (o q : Owner) (to from : Shape) (m : source.Memory) (c : Config) (vs : List Scalar)
+    by : (x : Reach) (enough : Bool) → nat_le (count_of x) (count_of b) ≡ enough
+        → StaysOn p n d (ThinShape x o to) m c s (meaning.statements rest next c)
+        → SameAt p n (thin_to_thin x (count_of b) (Some t) (λ r. s (r ∷ [])) m)
+        (meaning.statements (put (conversion_code p.world (ThinShape x o to) (ThinShape b q from) d) rest)
+        next c)
+    by (MayBeNull j) false e on = rw e (stuck_same p.world p.program n _)
+    by (NeverNull j) false e on = rw e (stuck_same p.world p.program n _)
+    by (MayBeNull j) true e on = rw e (there (MayBeNull j) (leb-true (j % 2 ^ 32) (count_of b) e) on)
+    by (NeverNull j) true e on =
+        rw e (subst (λ z. SameAt p n (s (Thin (Some t) ∷ []) m) z) (sym (none b temp)) (there (NeverNull j) (leb-true (j % 2 ^ 32) (count_of b) e) on))
+
+pub thin_same : (p : Point) (n d : ℕ) (a b : Reach) (o q : Owner) (to from : Shape) (m : source.Memory) (c : Config) (vs : List Scalar)
     (s : List Scalar → source.Memory → steps.Step) (rest : Statements) (next : Next) → Given p.world m c.memory (ThinShape b q from) vs (c.temps d ∷ [])
     → StaysOn p n d (ThinShape a o to) m c s (meaning.statements rest next c)
     → SameAt p n (converted p.world (ThinShape a o to) (ThinShape b q from) vs s m)
@@ -130,7 +141,7 @@ thin_same p n d a b o q to from m c vs s rest next given go =
     (λ (z : ANull b v.value (c.temps d ∷ [])).
     subst (λ u. SameAt p n (converted p.world (ThinShape a o to) (ThinShape b q from) (u ∷ []) s m) step) (sym z.value)
     (null_converts p n d a b o q to from m c s rest next z.allowed (null_word c d b v.value z) go))
-    (λ (z : APointer p.world m c.memory q from v.value (c.temps d ∷ [])).
+    (λ (z : APointer p.world m c.memory (count_of b) q from v.value (c.temps d ∷ [])).
     subst (λ u. SameAt p n (converted p.world (ThinShape a o to) (ThinShape b q from) (u ∷ []) s m) step) (sym z.value)
     (checked (goes_to o (ThinShape b q from) && same_shape to from) refl v.value z))
     v.shown)
@@ -139,17 +150,18 @@ thin_same p n d a b o q to from m c vs s rest next given go =
     step = meaning.statements (put (conversion_code p.world (ThinShape a o to) (ThinShape b q from) d) rest) next c
 
     checked : (t : Bool) → (goes_to o (ThinShape b q from) && same_shape to from) ≡ t → (v : Scalar)
-        → (z : APointer p.world m c.memory q from v (c.temps d ∷ []))
+        → (z : APointer p.world m c.memory (count_of b) q from v (c.temps d ∷ []))
         → SameAt p n (converted p.world (ThinShape a o to) (ThinShape b q from) (Thin (Some z.spot) ∷ []) s m) step
     checked false e v z = rw e (stuck_same p.world p.program n _)
     checked true e v z =
         let same : from ≡ to = sym (shapes_same to from ((and_parts (goes_to o (ThinShape b q from)) (same_shape to from) e).1)) in
         rw e
         (spot_converts p n d a b o q to from m c z.spot z.byte s rest next (pointer_is p.world m c.memory q from (c.temps d) v z)
-        (subst (λ y. IsTakenObject p.world y) same z.lies) (subst (λ y. Leads p.world m c.memory y z.spot z.byte) same z.leads)
+        (subst (λ y. IsTakenObject p.world y) same z.lies) (subst (λ y. Leads p.world m c.memory y z.spot z.byte) same z.leads) z.few
+        (subst (λ y. LeadsAll p.world m c.memory y (count_of b) z.spot z.byte) same z.elements)
         (owned_goes o q b from c.memory z.spot z.byte (and_parts (goes_to o (ThinShape b q from)) (same_shape to from) e).0 z.owned) go)
 
-pub thin_converts : (p : Point) (n d : ℕ) (a b : Bool) (o q : Owner) (to from : Shape) → ConvertsAs p n d (ThinShape a o to) (ThinShape b q from)
+pub thin_converts : (p : Point) (n d : ℕ) (a b : Reach) (o q : Owner) (to from : Shape) → ConvertsAs p n d (ThinShape a o to) (ThinShape b q from)
     (conversion_code p.world (ThinShape a o to) (ThinShape b q from) d)
 thin_converts p n d a b o q to from = record {
   same = λ m0 c0 m c vs s rest next fits later kept given goes.

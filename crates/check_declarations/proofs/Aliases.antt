@@ -4,6 +4,7 @@ use Rattle.cyc_tree.specs.Tree as tree
 use Rattle.cyc_types.proofs.Converting.{by_none, by_outer}
 use Rattle.cyc_types.specs.Bases.{base_type}
 use Rattle.cyc_types.specs.Layers.{outermost, pointer_to}
+use Rattle.cyc_types.specs.Reaches.{reach_of}
 use Rattle.cyc_types.specs.Regions.{region_of}
 use Rattle.cyc_types.specs.Types.{static_type}
 use Rattle.cyc_types.specs.declared.base.BaseType.{BaseType}
@@ -11,11 +12,13 @@ use Rattle.cyc_types.specs.declared.base.BaseType.TheVariants as base
 use Rattle.cyc_types.specs.declared.ctype.CType.{CType}
 use Rattle.cyc_types.specs.declared.layer.Layer.{Layer}
 use Rattle.cyc_types.specs.declared.layer.Layer.TheVariants as layer
+use Rattle.cyc_types.specs.declared.reach.Reach.{Reach}
 use Rattle.cyc_types.specs.declared.region.RegionId.{RegionId}
 use Rattle.source_typing.specs.Declarations.{aliased, with_region}
 use Rattle.source_typing.specs.Regions.{Region, Regions}
 use Rattle.source_typing.specs.Scope.{Env, in_scope}
-use Rattle.source_typing.specs.Types.{StaticType}
+use Rattle.source_typing.specs.Shapes.{single}
+use Rattle.source_typing.specs.Types.{StaticType, Thin}
 use Rattle.check_declarations.specs.Operands.{outside_unique}
 
 -- ---- a region that begins hides no name
@@ -28,9 +31,9 @@ begun_tables g (tree.Unique at) next = refl
 -- ---- the type of an alias
 
 -- of a unique pointer
-pub unique_aliased : (r : RegionId) (t u : StaticType) (n : Bool) → t ≡ pointer_to (layer.Unique n) u
-    → pointer_to (layer.Thin n r) u ≡ aliased (region_of r) t
-unique_aliased r t u n e = ap (aliased (region_of r)) (sym e)
+pub unique_aliased : (r : RegionId) (t u : StaticType) (n : Bool) (b : Reach) → reach_of b ≡ single n → t ≡ pointer_to (layer.Unique n) u
+    → pointer_to (layer.Thin b r) u ≡ aliased (region_of r) t
+unique_aliased r t u n b h e = ap (λ bound. Thin bound (region_of r) u) h ∙ ap (aliased (region_of r)) (sym e)
 
 base_aliased : (r : Region) (b : BaseType) → base_type b ≡ aliased r (base_type b)
 base_aliased r base.Int = refl

@@ -30,7 +30,7 @@ use check_heads::{WrittenType, misses_region_in, settled, written_in};
 use check_regions::RegionNames;
 use check_scopes::Scope;
 use cyc_tree::{Name, RegionName, TypeName};
-use cyc_types::{CType, Layer, RegionId};
+use cyc_types::{CType, Layer, Reach, RegionId};
 use std::alloc::{AllocError, Global};
 
 /// An alias, its name apart: its region, its type and the pointer that it is one of.
@@ -48,7 +48,8 @@ fn aliased<'p>(region: RegionId, of: CType<'p>) -> Result<CType<'p>, AllocError>
 {
     match of.outer() {
         Some(Layer::Unique(may_be_null)) => {
-            of.into_pointee().under(Layer::Thin(may_be_null, region))
+            let bound = Reach::single(may_be_null);
+            of.into_pointee().under(Layer::Thin(bound, region))
         }
         Some(Layer::Thin(_, _)) => Ok(of),
         Some(Layer::Fat(_)) => Ok(of),

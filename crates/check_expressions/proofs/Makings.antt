@@ -1,18 +1,24 @@
 -- What is answered of `new` and `rnew` is what the rules say of them.
 use Rattle.std.proofs.Common.{◌≡◌, ℕ, Bool, true, false, refl, sym, ◌∙◌, ap}
+use Rattle.std.specs.Prelude.{if◌then◌else◌}
 use Rattle.cyc_tree.specs.Tree.{Array, Expression, Made, Name, One}
 use Rattle.cyc_tree.specs.declared.expression.Expression as code
 use Rattle.cyc_tree.specs.View.{expression_tree}
 use Rattle.source_meaning.specs.Expressions.{is_unique_region}
 use Rattle.source_typing.specs.Expressions.{judge}
+use Rattle.source_typing.specs.Faults.{fault, type_rule}
 use Rattle.source_typing.specs.Making.{Goal, NoHandle, To, ToUnique, array_made, elements, enclosed, goal_of, handled, inside, made, with_counter, with_goal}
 use Rattle.source_typing.specs.Regions.{TheHeap}
 use Rattle.source_typing.specs.Scope.{Env, Value}
 use Rattle.source_typing.specs.Verdicts.{Faulty, Of, Unjudged, Verdict, both}
-use Rattle.check_faults.proofs.Shortened.{shortened_after, shortened_both}
-use Rattle.check_faults.specs.Verdicts.{Is, Short, short_both, shortened}
+use Rattle.check_calls.specs.Values.{value_of}
+use Rattle.check_calls.specs.Value as value
+use Rattle.check_faults.proofs.Shortened.{paired_same, shortened_after, shortened_both}
+use Rattle.check_faults.specs.Verdicts.{Is, NotJudged, Short, Wrong, paired, short_both, short_of, shortened}
+use Rattle.check_faults.specs.declared.verdict.Verdict as code_verdict
+use Rattle.check_faults.specs.declared.verdict.Verdict.TheVariants as variant
 use Rattle.check_expressions.proofs.Forms.{judged}
-use Rattle.check_expressions.specs.Goals.{enclosed_short, short_goal, short_made, with_short_goal}
+use Rattle.check_expressions.specs.Goals.{both_values, enclosed_short, is_refused_alone, short_array, short_goal, short_made, with_short_goal}
 
 -- ---- where it is made
 
@@ -24,8 +30,8 @@ enclosed_is (Faulty f fs) = refl
 enclosed_is Unjudged = refl
 
 -- a handle that isn't judged is apart
-module _ (at : ℕ) (rule : Goal → Value → Verdict Value) where
-  shortened_with : (goal : Verdict Goal) (v : Verdict Value)
+module _ {A : Type 0} (at : ℕ) (rule : Goal → A → Verdict Value) where
+  shortened_with : (goal : Verdict Goal) (v : Verdict A)
       → with_short_goal at (shortened goal) (shortened v) (λ a b. shortened (rule a b)) ≡ shortened (with_goal at goal v rule)
   shortened_with (Of NoHandle) Unjudged = refl
   shortened_with (Of NoHandle) (Of v) = refl
@@ -35,30 +41,59 @@ module _ (at : ℕ) (rule : Goal → Value → Verdict Value) where
   shortened_with (Faulty f fs) v = sym (shortened_both (Faulty f fs) v rule)
   shortened_with Unjudged v = sym (shortened_both Unjudged v rule)
 
+-- whether it is answered apart doesn't depend on what is made
+alone_as : {T A : Type 0} (as_is : T → A) (s : Short Goal) (v : code_verdict.Verdict T)
+    → is_refused_alone s (short_of (λ x. x) v) ≡ is_refused_alone s (short_of as_is v)
+alone_as as_is (Is NoHandle) variant.NotJudged = refl
+alone_as as_is (Is NoHandle) (variant.Of x) = refl
+alone_as as_is (Is NoHandle) (variant.Wrong f) = refl
+alone_as as_is (Is (To r)) v = refl
+alone_as as_is (Is ToUnique) v = refl
+alone_as as_is (Wrong f) v = refl
+alone_as as_is NotJudged v = refl
+
+module _ {T A : Type 0} (as_is : T → A) (at : ℕ) (s : Short Goal) (v : code_verdict.Verdict T) (rule : Goal → A → Short Value) where
+  by_alone : (b : Bool) → is_refused_alone s (short_of (λ x. x) v) ≡ b
+      → (if b then Wrong (fault type_rule at) else short_both s (short_of as_is v) rule) ≡ with_short_goal at s (short_of as_is v) rule
+  by_alone b e =
+      ap (λ c. if c then Wrong (fault type_rule at) else short_both s (short_of as_is v) rule) (sym e ∙ alone_as as_is s v)
+
+  pub with_refused : is_refused_alone s (short_of (λ x. x) v) ≡ true → Wrong (fault type_rule at) ≡ with_short_goal at s (short_of as_is v) rule
+  with_refused e = by_alone true e
+
+  pub with_judged : is_refused_alone s (short_of (λ x. x) v) ≡ false → short_both s (short_of as_is v) rule ≡ with_short_goal at s (short_of as_is v) rule
+  with_judged e = by_alone false e
+
+-- an array, by what its count and its element are
+module _ (at : ℕ) (s : Short Goal) (v w : code_verdict.Verdict value.Value) (p : code_verdict.Verdict (value.Value × value.Value)) (is : p ≡ paired v w) where
+  abbrev rule : Goal → Value × Value → Short Value
+  rule a b = shortened (array_made at a b)
+
+  both_are : with_short_goal at s (short_of both_values p) rule ≡ short_array at s (short_of value_of v) (short_of value_of w)
+  both_are = ap (λ x. with_short_goal at s x rule) (ap (short_of both_values) is ∙ paired_same value_of value_of v w)
+
+  pub array_refused : is_refused_alone s (short_of (λ x. x) p) ≡ true
+      → Wrong (fault type_rule at) ≡ short_array at s (short_of value_of v) (short_of value_of w)
+  array_refused e = with_refused both_values at s p rule e ∙ both_are
+
+  pub array_judged : is_refused_alone s (short_of (λ x. x) p) ≡ false
+      → short_both s (short_of both_values p) rule ≡ short_array at s (short_of value_of v) (short_of value_of w)
+  array_judged e = with_judged both_values at s p rule e ∙ both_are
+
 module _ (g : Env) where
   -- ---- what is made
 
-  -- an array's elements
-  elements_are : (f : Env) (at : ℕ) (x : Name) (n e : Expression)
-      → short_both (shortened (judge f n)) (shortened (judge (with_counter x f) e)) (λ a b. shortened (elements at a b))
-      ≡ shortened (both (judge f n) (judge (with_counter x f) e) (elements at))
-  elements_are f at x n e = sym (shortened_both (judge f n) (judge (with_counter x f) e) (elements at))
-
   array_is : (f : Env) (at : ℕ) (goal : Verdict Goal) (x : Name) (n e : Expression)
       → short_made f at (shortened goal) (Array x n e)
-      ≡ shortened (with_goal at goal (both (judge f n) (judge (with_counter x f) e) (elements at)) (array_made at))
+      ≡ shortened (with_goal at goal (both (judge f n) (judge (with_counter x f) e) elements) (array_made at))
   array_is f at goal x n e =
-      ap (λ s. with_short_goal at (shortened goal) s (λ a b. shortened (array_made at a b))) (elements_are f at x n e)
-      ∙ shortened_with at (array_made at) goal (both (judge f n) (judge (with_counter x f) e) (elements at))
+      ap (λ s. with_short_goal at (shortened goal) s (λ a b. shortened (array_made at a b)))
+      (sym (shortened_both (judge f n) (judge (with_counter x f) e) elements))
+      ∙ shortened_with at (array_made at) goal (both (judge f n) (judge (with_counter x f) e) elements)
 
-  pub made_array : (at : ℕ) (s : Short Goal) (x : Name) (n e : Expression) (u v w : Short Value)
-      → u ≡ shortened (judge g n) → v ≡ shortened (judge (with_counter x g) e)
-      → w ≡ short_both u v (λ a b. shortened (elements at a b))
-      → with_short_goal at s w (λ a b. shortened (array_made at a b)) ≡ short_made g at s (Array x n e)
-  made_array at s x n e u v w i j l =
-      ap (λ z. with_short_goal at s z (λ a b. shortened (array_made at a b)))
-      (l ∙ ap (λ t. short_both t v (λ a b. shortened (elements at a b))) i
-      ∙ ap (λ t. short_both (shortened (judge g n)) t (λ a b. shortened (elements at a b))) j)
+  pub made_array : (at : ℕ) (s : Short Goal) (x : Name) (n e : Expression) (u v : Short Value)
+      → u ≡ shortened (judge g n) → v ≡ shortened (judge (with_counter x g) e) → short_array at s u v ≡ short_made g at s (Array x n e)
+  made_array at s x n e u v i j = ap (λ t. short_array at s t v) i ∙ ap (λ t. short_array at s (shortened (judge g n)) t) j
 
   -- ---- in the heap
 

@@ -15,7 +15,7 @@ ghost use Rattle.check_expressions.specs.Joined.{short_links, short_tests};
 ghost use Rattle.check_expressions.specs.Suffixes.{short_suffixes};
 
 use crate::around::{Around, meaning, with_counter};
-use crate::making::{array_parts, elements_part, goal_part, is_unique_region, made_parts};
+use crate::making::{array_parts, goal_part, is_unique_region, made_parts};
 use crate::parts::{
     applied_parts, assigned_parts, called_parts, counted_part, given_after, grouped_part,
     prefixed_part, refused, tested_parts, union_parts,
@@ -237,7 +237,7 @@ fn judge_made<'p>(
                 counters: counters.as_slice(),
             };
             let element = judge_inside(scope, alloc, inside, element)?;
-            array_parts(at, goal, elements_part(at, count, element))
+            array_parts(at, goal, count, element)
         }
     }
 }

@@ -3,17 +3,17 @@
 ghost use Rattle.std.specs.Prelude.{◌≡◌, IfOk};
 ghost use Rattle.cyc_tree.specs.View.{expression_tree};
 ghost use Rattle.source_meaning.specs.Expressions.{is_unique_region};
-ghost use Rattle.source_typing.specs.Making.{array_made, elements, handled, made};
+ghost use Rattle.source_typing.specs.Making.{array_made, handled, made};
 ghost use Rattle.source_typing.specs.Scope.{Env};
 ghost use Rattle.check_faults.specs.Verdicts.{short_both, short_of, shortened};
 ghost use Rattle.check_scopes.specs.Knows.{Sees};
 ghost use Rattle.check_calls.specs.Goals.{goal_in};
 ghost use Rattle.check_calls.specs.Values.{value_of};
 ghost use Rattle.check_calls.specs.Enclosings.{enclosing_of};
-ghost use Rattle.check_expressions.specs.Goals.{enclosed_short, is_refused_alone, short_goal, with_short_goal};
+ghost use Rattle.check_expressions.specs.Goals.{both_values, enclosed_short, is_refused_alone, short_array, short_goal, with_short_goal};
 
 use crate::parts::refused;
-use check_calls::{Enclosing, Goal, Value, array_made, elements, handled, made};
+use check_calls::{Enclosing, Goal, Value, array_made, handled, made};
 use check_faults::Verdict;
 use check_scopes::Scope;
 use cyc_tree::Expression;
@@ -55,12 +55,12 @@ pub(crate) fn enclosing_by(goal: &Verdict<Goal>) -> Enclosing
     }
 }
 
-/// Whether what should be a handle is none, and the value isn't judged.
-fn is_refused_alone(goal: &Verdict<Goal>, value: &Verdict<Value>) -> bool
-    ensures { result ≡ is_refused_alone (short_of goal_in goal.now) (short_of value_of value.now) }
+/// Whether what should be a handle is none, and what is made there isn't judged.
+fn is_refused_alone<T>(goal: &Verdict<Goal>, made: &Verdict<T>) -> bool
+    ensures { result ≡ is_refused_alone (short_of goal_in goal.now) (short_of (λ x. x) made.now) }
 {
     matches!(
-        (goal, value),
+        (goal, made),
         (Verdict::Of(Goal::NoHandle), Verdict::NotJudged)
     )
 }
@@ -84,6 +84,7 @@ fn made_both<'p>(
 
 /// What is made of a value, by where it is made and what it is. What should be a handle and is none is at fault here, whether or not
 /// the value is judged.
+#[tactic(auto, using(crate::proofs::Makings::with_refused, crate::proofs::Makings::with_judged))]
 pub(crate) fn made_parts<'p>(
     at: u32,
     goal: Verdict<Goal>,
@@ -99,53 +100,39 @@ pub(crate) fn made_parts<'p>(
     }
 }
 
-/// An element of an array that is made, by what their count and the element are.
-#[tactic(auto, using(check_faults::proofs::Shortened::pair_known, check_faults::proofs::Shortened::pair_wrong, check_faults::proofs::Shortened::pair_not_judged))]
-pub(crate) fn elements_part<'p>(
-    at: u32,
-    count: Verdict<Value<'p>>,
-    element: Verdict<Value<'p>>,
-) -> Verdict<Value<'p>>
-    ensures { short_of value_of result
-        ≡ short_both (short_of value_of count.entry) (short_of value_of element.entry) (λ a b. shortened (elements at a b)) }
-{
-    match count.paired(element) {
-        Verdict::Of((count, element)) => elements(at, &count, element),
-        Verdict::Wrong(fault) => Verdict::Wrong(fault),
-        Verdict::NotJudged => Verdict::NotJudged,
-    }
-}
-
-/// Where an array is made, and what its elements are.
+/// Where an array is made, and what its count and element are.
 #[tactic(auto, using(check_faults::proofs::Shortened::pair_wrong, check_faults::proofs::Shortened::pair_not_judged))]
 fn array_both<'p>(
     at: u32,
     goal: Verdict<Goal>,
-    element: Verdict<Value<'p>>,
+    elements: Verdict<(Value<'p>, Value<'p>)>,
 ) -> Result<Verdict<Value<'p>>, AllocError>
     ensures { IfOk result (λ v. short_of value_of v
-        ≡ short_both (short_of goal_in goal) (short_of value_of element.entry) (λ a b. shortened (array_made at a b))) }
+        ≡ short_both (short_of goal_in goal) (short_of both_values elements.entry) (λ a b. shortened (array_made at a b))) }
 {
-    match goal.paired(element) {
-        Verdict::Of((goal, element)) => array_made(at, goal, element),
+    match goal.paired(elements) {
+        Verdict::Of((goal, (count, element))) => array_made(at, goal, &count, element),
         Verdict::Wrong(fault) => Ok(Verdict::Wrong(fault)),
         Verdict::NotJudged => Ok(Verdict::NotJudged),
     }
 }
 
-/// An array that is made, by where it is made and what its elements are. What should be a handle and is none is at fault here, whether
-/// or not the elements are judged.
+/// An array that is made, by where it is made and what its count and element are. What should be a handle and is none is at fault here,
+/// whether or not these are judged.
+#[tactic(auto, using(crate::proofs::Makings::array_refused))]
 pub(crate) fn array_parts<'p>(
     at: u32,
     goal: Verdict<Goal>,
+    count: Verdict<Value<'p>>,
     element: Verdict<Value<'p>>,
 ) -> Result<Verdict<Value<'p>>, AllocError>
     ensures { IfOk result (λ v. short_of value_of v
-        ≡ with_short_goal at (short_of goal_in goal) (short_of value_of element.entry) (λ a b. shortened (array_made at a b))) }
+        ≡ short_array at (short_of goal_in goal) (short_of value_of count.entry) (short_of value_of element.entry)) }
 {
-    if is_refused_alone(&goal, &element) {
+    let elements = count.paired(element);
+    if is_refused_alone(&goal, &elements) {
         Ok(refused(at))
     } else {
-        array_both(at, goal, element)
+        array_both(at, goal, elements)
     }
 }

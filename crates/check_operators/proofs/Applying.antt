@@ -11,6 +11,7 @@ use Rattle.source_typing.specs.Types.{Char, Fat, Handle, Int, Key, Null, StaticT
 use Rattle.source_typing.specs.Types.{is_integer, is_null, is_pointer, is_same}
 use Rattle.source_typing.specs.Verdicts.{Verdict, after, if_fits, refuse, unless_faulty}
 use Rattle.cyc_types.specs.Layers.{outermost, pointer_to}
+use Rattle.cyc_types.specs.Reaches.{reach_of}
 use Rattle.cyc_types.specs.Regions.{region_of}
 use Rattle.cyc_types.specs.Types.{static_type}
 use Rattle.cyc_types.specs.declared.ctype.CType.{CType}
@@ -108,7 +109,7 @@ module _ (g : Env) (at : ℕ) (p q : StaticType) where
   pointers_compared (Some (code.Thin n r)) (Some (code.Fat s)) x t u h i j = absurd (true≢false (ap is_none h))
   pointers_compared (Some (code.Thin n r)) (Some (code.Unique m)) x t u h i j = absurd (true≢false (ap is_none h))
   pointers_compared (Some (code.Thin n r)) (Some (code.Thin m s)) x t u h i j =
-      ap (λ a. compared g at a u) i ∙ ap (compared g at (Thin n (region_of r) p)) j ∙ ap by_regions h
+      ap (λ a. compared g at a u) i ∙ ap (compared g at (Thin (reach_of n) (region_of r) p)) j ∙ ap by_regions h
 
 -- Region is the earlier one of two rules
 pub tests_compared : (ordered live : Bool) (at : ℕ)

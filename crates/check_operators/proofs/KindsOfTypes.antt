@@ -4,6 +4,7 @@ use Rattle.std.specs.Prelude.{◌&&◌, ◌||◌, if◌then◌else◌, not}
 use Rattle.source_typing.specs.Operators.{common, is_fat, promoted}
 use Rattle.source_typing.specs.Types.{Char, Fat, Handle, Int, Key, Null, StaticType, Struct, Thin, Union, Unique, Unsigned, Void, is_pointer}
 use Rattle.source_typing.specs.Regions.{Region}
+use Rattle.source_typing.specs.Shapes.{Reach}
 use Rattle.cyc_types.specs.Bases.{base_type}
 use Rattle.cyc_types.specs.Layers.{is_plain, last_or, layer_copies, outermost, pointed, pointer_to}
 use Rattle.cyc_types.specs.Types.{static_type}
@@ -120,7 +121,7 @@ promoted_is (Union tag rs) = refl
 
 -- by each form of a type
 every : (holds : StaticType → Type 0) → holds Int → holds Unsigned → holds Char → holds Void → holds Null
-    → ((n : Bool) (r : Region) (t : StaticType) → holds (Thin n r t)) → ((r : Region) (t : StaticType) → holds (Fat r t))
+    → ((n : Reach) (r : Region) (t : StaticType) → holds (Thin n r t)) → ((r : Region) (t : StaticType) → holds (Fat r t))
     → ((n : Bool) (t : StaticType) → holds (Unique n t)) → ((r : Region) → holds (Handle r)) → ((r : Region) → holds (Key r))
     → ((tag : List ℕ) (rs : List Region) → holds (Struct tag rs)) → ((tag : List ℕ) (rs : List Region) → holds (Union tag rs)) → (t : StaticType) → holds t
 every holds i u c v z thin fat unique handle key struct union Int = i

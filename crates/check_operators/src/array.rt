@@ -18,12 +18,12 @@ use check_scopes::Scope;
 use cyc_types::{BaseType, CType, Layer, MOST_BYTES, RegionId};
 use std::alloc::{AllocError, Global};
 
-/// A subscript of a fat pointer or an array, whose region has to be live, by an integer.
+/// A subscript of a pointer or an array, whose region has to be live, by an integer.
 #[tactic(auto, using(crate::proofs::Indexing::indexed_is))]
 pub fn indexed<'p>(scope: &Scope, operand: Value<'p>, index: &Value) -> Verdict<Value<'p>>
     ensures { (g : Env) → Sees scope.now g → short_of value_of result ≡ shortened (indexed g (value_of operand.entry) (value_of index.now)) }
 {
-    if is_fat(&operand.of) && index.of.is_integer() {
+    if index.of.is_integer() {
         contents(scope, operand.at, operand)
     } else {
         refused(FaultKind::Typing, operand.at)

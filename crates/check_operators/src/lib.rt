@@ -21,7 +21,7 @@ pub use array::{counted, indexed, string};
 pub use assignment::assigned;
 pub use conversion::converted;
 pub use literal::{character, heap_region, null, number};
-pub use making::{Goal, array_made, elements, handled, made};
+pub use making::{Goal, array_made, handled, made};
 pub use members::{arrow, member};
 pub use name::variable;
 pub use operator::{applied, condition, tested_both};

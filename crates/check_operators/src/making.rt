@@ -7,14 +7,14 @@ ghost use Rattle.cyc_types.specs.Types.{static_type};
 ghost use Rattle.check_operators.specs.Goals.{goal_in, region_handled};
 ghost use Rattle.check_operators.specs.Values.{value_of};
 ghost use Rattle.check_scopes.specs.Knows.{Sees};
-ghost use Rattle.source_typing.specs.Making.{array_made, elements, handled, live_goal, made, made_to};
+ghost use Rattle.source_typing.specs.Making.{array_made, array_to, handled, live_goal, made, made_to};
 ghost use Rattle.source_typing.specs.Scope.{Env};
 ghost use Rattle.check_faults.specs.Verdicts.{short_of, shortened};
 
 use crate::value::{Value, plain, refused};
 use check_faults::{Fault, FaultKind, Verdict};
 use check_scopes::Scope;
-use cyc_types::{BaseType, CType, Layer, RegionId};
+use cyc_types::{BaseType, CType, Layer, Reach, RegionId};
 use std::alloc::AllocError;
 
 /// Where a value is made.
@@ -79,7 +79,7 @@ fn made_to<'p>(at: u32, goal: Goal, of: CType<'p>) -> Result<Verdict<Value<'p>>,
     ensures { IfOk result (λ v. short_of value_of v ≡ shortened (made_to at (goal_in goal) (static_type of.entry))) }
 {
     match goal {
-        Goal::To(region) => Ok(plain(at, of.under(Layer::Thin(false, region))?)),
+        Goal::To(region) => Ok(plain(at, of.under(Layer::Thin(Reach::NeverNull(1), region))?)),
         Goal::ToUnique => Ok(plain(at, of.under(Layer::Unique(false))?)),
         Goal::NoHandle => Ok(refused(FaultKind::Typing, at)),
     }
@@ -95,27 +95,28 @@ pub fn made<'p>(at: u32, goal: Goal, value: Value<'p>) -> Result<Verdict<Value<'
     made_to(at, goal, value.of)
 }
 
-/// An element of an array that is made, where so many may be and such may be made.
-pub fn elements<'p>(at: u32, count: &Value, element: Value<'p>) -> Verdict<Value<'p>>
-    ensures { short_of value_of result ≡ shortened (elements at (value_of count.now) (value_of element.entry)) }
+/// A fat pointer to elements of a type that are made, which aren't in the unique region.
+fn array_to<'p>(at: u32, goal: Goal, of: CType<'p>) -> Result<Verdict<Value<'p>>, AllocError>
+    ensures { IfOk result (λ v. short_of value_of v ≡ shortened (array_to at (goal_in goal) (static_type of.entry))) }
 {
-    if count.of.is_integer() && element.of.is_makeable() {
-        Verdict::Of(element)
-    } else {
-        refused(FaultKind::Typing, at)
+    match goal {
+        Goal::To(region) => Ok(plain(at, of.under(Layer::Fat(region))?)),
+        Goal::ToUnique | Goal::NoHandle => Ok(refused(FaultKind::Typing, at)),
     }
 }
 
-/// A fat pointer to the elements of an array that is made, which isn't in the unique region. Fails only where no host memory is left.
+/// What is made of so many elements. Fails only where no host memory is left.
 pub fn array_made<'p>(
     at: u32,
     goal: Goal,
+    count: &Value,
     element: Value<'p>,
 ) -> Result<Verdict<Value<'p>>, AllocError>
-    ensures { IfOk result (λ v. short_of value_of v ≡ shortened (array_made at (goal_in goal) (value_of element.entry))) }
+    ensures { IfOk result (λ v. short_of value_of v ≡ shortened (array_made at (goal_in goal) (value_of count.now, value_of element.entry))) }
 {
-    match goal {
-        Goal::To(region) => Ok(plain(at, element.of.under(Layer::Fat(region))?)),
-        Goal::ToUnique | Goal::NoHandle => Ok(refused(FaultKind::Typing, at)),
+    if count.of.is_integer() && element.of.is_makeable() {
+        array_to(at, goal, element.of)
+    } else {
+        Ok(refused(FaultKind::Typing, at))
     }
 }

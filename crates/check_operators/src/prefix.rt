@@ -15,7 +15,7 @@ use crate::value::{Seat, Value, fitting, plain, refused, seated};
 use check_faults::{FaultKind, Verdict};
 use check_scopes::Scope;
 use cyc_tree::Prefix;
-use cyc_types::{BaseType, CType, Layer};
+use cyc_types::{BaseType, CType, Layer, Reach};
 use std::alloc::{AllocError, Global};
 
 /// Whether the region of a pointer is live; a unique pointer's is judged by flow.
@@ -69,7 +69,10 @@ fn address<'p>(at: u32, operand: Value<'p>) -> Result<Verdict<Value<'p>>, AllocE
 {
     match operand.seat {
         Seat::Nowhere => Ok(refused(FaultKind::Typing, at)),
-        Seat::In(region) => Ok(plain(at, operand.of.under(Layer::Thin(false, region))?)),
+        Seat::In(region) => Ok(plain(
+            at,
+            operand.of.under(Layer::Thin(Reach::NeverNull(1), region))?,
+        )),
         Seat::InBlock => Ok(plain(at, operand.of.under(Layer::Unique(false))?)),
     }
 }

@@ -64,7 +64,7 @@ fn renamed_pointer(regions: &[RegionId], of: Layer) -> Layer
         ≡ renamed (argument (regions_of regions.now)) (pointer_to of t) }
 {
     match of {
-        Layer::Thin(may_be_null, region) => Layer::Thin(may_be_null, argument(regions, region)),
+        Layer::Thin(bound, region) => Layer::Thin(bound, argument(regions, region)),
         Layer::Fat(region) => Layer::Fat(argument(regions, region)),
         Layer::Unique(may_be_null) => Layer::Unique(may_be_null),
     }

@@ -5,3 +5,4 @@ pub mod Items
 pub mod Scopes
 pub mod TagItems
 pub mod TagTables
+pub mod Texts

@@ -1,5 +1,5 @@
 -- Globals.
-use Rattle.std.specs.Prelude.{Bool, List, None, Option, Some, false, map, true, ℕ, ◌≡◌, ◌*◌, ◌++◌, [], ◌∷◌}
+use Rattle.std.specs.Prelude.{Bool, List, None, Option, Some, false, map, nat_le, true, ℕ, ◌≡◌, ◌*◌, ◌++◌, [], ◌∷◌}
 use Rattle.cyc_tree.specs.Tree.{Initial, TypeName}
 use Rattle.source_typing.specs.Faults.{Fault}
 use Rattle.source_typing.specs.Globals.{count_of, foreign_names, has_none, initial_faults}
@@ -9,10 +9,14 @@ use Rattle.source_typing.specs.Scope.{Env}
 use Rattle.source_meaning.specs.Sizes.{rounded_up}
 use Rattle.source_typing.specs.Extents.{fits_bytes, variable_size}
 use Rattle.source_typing.specs.Tables.{Entry, OfValue, Tables}
-use Rattle.source_typing.specs.Types.{StaticType}
+use Rattle.source_typing.specs.Shapes.{count_of as elements_of}
+use Rattle.source_typing.specs.Types.{StaticType, Thin}
 use Rattle.source_typing.specs.Verdicts.{Of, Verdict, faults_of}
 use Rattle.source_typing.specs.Written.{Spot, find_region, spot}
+use Rattle.cyc_types.specs.Reaches.{reach_of}
 use Rattle.cyc_types.specs.declared.ctype.CType.{CType}
+use Rattle.cyc_types.specs.declared.layer.Layer.{Layer}
+use Rattle.cyc_types.specs.declared.layer.Layer.TheVariants as pointer
 use Rattle.cyc_types.specs.declared.region.RegionId.TheVariants.{Heap}
 use Rattle.check_scopes.specs.declared.meaning.Meaning.{Meaning}
 use Rattle.check_scopes.specs.declared.meaning.Meaning.TheVariants.{Array, NotKnown, Variable}
@@ -71,6 +75,17 @@ abbrev pub meaning_by : Option found.Fault → Option ℕ → CType → Meaning
 meaning_by None None t = Variable t Heap
 meaning_by None (Some n) t = Array t Heap
 meaning_by (Some f) count t = NotKnown
+
+-- whether so many elements are as many as a pointer leads to, where it is a thin one
+abbrev pub are_enough : ℕ → Option Layer → Bool
+are_enough n (Some (pointer.Thin bound r)) = nat_le (elements_of (reach_of bound)) n
+are_enough n (Some (pointer.Fat r)) = true
+are_enough n (Some (pointer.Unique b)) = true
+are_enough n None = true
+
+abbrev pub enough_for : ℕ → Verdict StaticType → Bool
+enough_for n (Of (Thin bound r t)) = nat_le (elements_of bound) n
+enough_for n v = true
 
 abbrev pub faults_by : Env → Initial → Verdict StaticType → List Fault
 faults_by g i v = faults_of v ++ initial_faults g i v

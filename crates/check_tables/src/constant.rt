@@ -1,6 +1,7 @@
 // Constants, as globals begin with them.
 
-ghost use Rattle.std.specs.Prelude.{◌≡◌, Bool, IfOk, ℕ};
+ghost use Rattle.std.specs.Prelude.{◌≡◌, ◌+◌, Bool, IfOk, length, ℕ};
+ghost use Rattle.cyc_tree.specs.Tree as tree;
 ghost use Rattle.cyc_tree.specs.View.{constant_tree, initial_tree};
 ghost use Rattle.cyc_types.specs.Bases.{base_type};
 ghost use Rattle.cyc_types.specs.Types.{static_type};
@@ -8,23 +9,23 @@ ghost use Rattle.check_operators.specs.Values.{value_of};
 ghost use Rattle.source_typing.specs.Declarations.{set_faults};
 ghost use Rattle.source_typing.specs.Expressions.{number_typed};
 ghost use Rattle.source_typing.specs.Faults.{earliest};
-ghost use Rattle.source_typing.specs.Globals.{constant};
+ghost use Rattle.source_typing.specs.Globals.{constant, string_faults};
 ghost use Rattle.source_typing.specs.Scope.{at_item, value};
 ghost use Rattle.source_typing.specs.Scope as judged;
 ghost use Rattle.source_typing.specs.Tables as rules_tables;
 ghost use Rattle.source_typing.specs.Types.{StaticType};
 ghost use Rattle.check_faults.specs.Faults.{faults_of};
 ghost use Rattle.check_faults.specs.Verdicts.{short_of, shortened};
-ghost use Rattle.check_tables.specs.Globals.{faults_by};
+ghost use Rattle.check_tables.specs.Globals.{are_enough, enough_for, faults_by};
 ghost use Rattle.source_typing.specs.Verdicts as rules;
 
 use check_declarations::set_fault;
-use check_faults::{Fault, Verdict};
+use check_faults::{Fault, FaultKind, Verdict, sooner};
 use check_operators::{Seat, Value, string};
 use check_regions::RegionScope;
 use check_scopes::{Globals, Locals, Scope};
 use cyc_tree::{Constant, Initial};
-use cyc_types::{BaseType, CType, Tables};
+use cyc_types::{BaseType, CType, Layer, Tables};
 use std::alloc::{AllocError, Global};
 
 /// The type of a number, which may have the suffix `u`.
@@ -85,6 +86,55 @@ fn given_fault(
     set_fault(&scope, value, of)
 }
 
+/// Whether so many elements are as many as a pointer leads to, where it is a thin one.
+fn are_enough(elements: usize, pointer: Option<Layer>) -> bool
+    ensures { result ≡ are_enough elements pointer }
+{
+    match pointer {
+        Some(Layer::Thin(bound, _)) => bound.count() as usize <= elements,
+        Some(Layer::Fat(_) | Layer::Unique(_)) | None => true,
+    }
+}
+
+/// Whether a string has as many elements as a thin pointer leads to, where the pointer's type is known: its bytes, and a 0 behind them.
+#[tactic(auto, using(crate::proofs::Texts::enough_of, crate::proofs::Texts::wrong_enough, crate::proofs::Texts::unjudged_enough))]
+fn is_long_enough(bytes: &[u8], to: &Verdict<CType<'_>>) -> bool
+    ensures { (t : rules.Verdict StaticType) → short_of static_type to.now ≡ shortened t → result ≡ enough_for (length bytes.now + 1) t }
+{
+    match to {
+        Verdict::Of(of) => are_enough(bytes.len() + 1, of.outer()),
+        Verdict::Wrong(_) | Verdict::NotJudged => true,
+    }
+}
+
+/// The fault of a string at a place that has fewer elements than the pointer of its global leads to.
+#[tactic(auto, using(crate::proofs::Texts::enough_faults, crate::proofs::Texts::short_faults))]
+fn text_fault(at: u32, bytes: &[u8], to: &Verdict<CType<'_>>) -> Option<Fault>
+    ensures { (t : rules.Verdict StaticType) → short_of static_type to.now ≡ shortened t
+        → faults_of result ≡ earliest (string_faults (tree.Constant.Text at bytes.now) t) }
+{
+    if is_long_enough(bytes, to) {
+        None
+    } else {
+        Some(Fault {
+            kind: FaultKind::Typing,
+            at,
+        })
+    }
+}
+
+/// The same of a constant, which may be a string.
+fn string_fault(given: &Constant, to: &Verdict<CType<'_>>) -> Option<Fault>
+    ensures { (t : rules.Verdict StaticType) → short_of static_type to.now ≡ shortened t
+        → faults_of result ≡ earliest (string_faults (constant_tree given.now) t) }
+{
+    match given {
+        Constant::Text(at, text) => text_fault(*at, text, to),
+        Constant::Number(_, _, _) | Constant::Negative(_, _, _) => None,
+        Constant::Character(_, _) | Constant::Null(_) => None,
+    }
+}
+
 /// The earliest fault of a global's type and of what it begins with. Fails only where no host memory is left.
 pub(crate) fn initial_fault(
     alloc: Global,
@@ -99,7 +149,8 @@ pub(crate) fn initial_fault(
         Initial::Array(_) => Ok(to.fault()),
         Initial::Constant(constant) => {
             let value = constant_value(alloc, constant)?;
-            given_fault(alloc, &value, to)
+            let fault = given_fault(alloc, &value, to)?;
+            Ok(sooner(fault, string_fault(constant, to)))
         }
     }
 }

@@ -43,12 +43,8 @@ use Rattle.source_typing.specs.Types as type
 pointer_made : (s : Sign) (f : Found) (t : PartialType) → can_lead t ≡ true → pointer_to s f t ≡ made s f t
 pointer_made s f Void h = absurd cc
 pointer_made s f (type.Key q) h = absurd cc
-pointer_made sign.Nullable (Is r) t h = refl
-pointer_made sign.Nullable IsUnique t h = refl
-pointer_made sign.Nullable Missing t h = refl
-pointer_made sign.NotNull (Is r) t h = refl
-pointer_made sign.NotNull IsUnique t h = refl
-pointer_made sign.NotNull Missing t h = refl
+pointer_made (sign.Nullable count) f t h = refl
+pointer_made (sign.NotNull count) f t h = refl
 pointer_made sign.Fat (Is r) t h = refl
 pointer_made sign.Fat IsUnique t h = refl
 pointer_made sign.Fat Missing t h = refl

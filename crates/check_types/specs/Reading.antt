@@ -6,9 +6,10 @@ use Rattle.cyc_tree.specs.declared.name.Sign.{Sign}
 use Rattle.source_typing.specs.Faults as rules
 use Rattle.source_typing.specs.Functions.{fits_parameter}
 use Rattle.source_typing.specs.Regions.{Region}
+use Rattle.source_typing.specs.Shapes.{MayBeNull, NeverNull}
 use Rattle.source_typing.specs.Types.{Char, Fat, Int, PartialType, StaticType, Thin, TypeIn, Unique, Unsigned, Void, is_void}
 use Rattle.source_typing.specs.Verdicts.{Verdict, if_fits}
-use Rattle.source_typing.specs.Written.{Found, Is, IsUnique, Missing, Spot, as_region, spot}
+use Rattle.source_typing.specs.Written.{Found, Is, IsUnique, Missing, Spot, as_region, spot, thin_to}
 use Rattle.check_faults.specs.Faults.{fault_of}
 use Rattle.check_faults.specs.declared.fault.Fault.{Fault}
 use Rattle.check_types.specs.Written.{partial_under}
@@ -48,14 +49,12 @@ abbrev pub found_of : Option Region → Found
 found_of None = Missing
 found_of (Some r) = Is r
 
--- A pointer of this sign. None: a fat pointer that would be unique.
+-- A pointer of this sign. None: a fat pointer that would be unique, or a thin one to so many elements that it can't be.
 abbrev pub made : Sign → Found → PartialType → Option PartialType
-made sign.Nullable IsUnique t = Some (Unique true t)
-made sign.NotNull IsUnique t = Some (Unique false t)
 made sign.Fat IsUnique t = None
-made sign.Nullable f t = Some (Thin true (as_region f) t)
-made sign.NotNull f t = Some (Thin false (as_region f) t)
 made sign.Fat f t = Some (Fat (as_region f) t)
+made (sign.Nullable count) f t = thin_to (MayBeNull count) f t
+made (sign.NotNull count) f t = thin_to (NeverNull count) f t
 
 -- what a pointer may lead to
 abbrev pub can_lead : PartialType → Bool
@@ -69,7 +68,7 @@ led leads t [] = Some t
 led true t (l ∷ ls) = Some (partial_under t (l ∷ ls))
 led false t (l ∷ ls) = None
 
--- Pointers on a type. None in their place: one of them would be a fat pointer that is unique.
+-- Pointers on a type. None in their place: one of them can't be.
 abbrev pub led_by : Option (List WrittenLayer) → PartialType → Option PartialType
 led_by None t = None
 led_by (Some ls) t = led (can_lead t) t ls

@@ -5,6 +5,7 @@ use Rattle.source_typing.specs.Regions.{Region}
 use Rattle.source_typing.specs.Tables.{or_heap}
 use Rattle.source_typing.specs.Types.{StaticType}
 use Rattle.source_typing.specs.Written.{Found, Is, IsUnique, Missing}
+use Rattle.cyc_types.specs.Reaches.{reach_of}
 use Rattle.cyc_types.specs.Regions.{region_of}
 use Rattle.cyc_types.specs.declared.layer.Layer.{Layer}
 use Rattle.cyc_types.specs.declared.layer.Layer.TheVariants as pointer
@@ -25,7 +26,7 @@ reached (suc n) s = reached n (pointee_of s)
 
 -- a pointer with its missing region found, to a type
 abbrev pub layer_from : WrittenLayer → Found → Option StaticType → Option StaticType
-layer_from (code.Thin n r) f t = thin_with n (or_found (option_map region_of r) f) t
+layer_from (code.Thin n r) f t = thin_with (reach_of n) (or_found (option_map region_of r) f) t
 layer_from (code.Fat r) f t = fat_with (or_found (option_map region_of r) f) t
 layer_from (code.Unique n) f t = unique_with n t
 

@@ -2,6 +2,7 @@
 use Rattle.std.specs.Prelude.{List, Option, map, option_map, [], ◌∷◌}
 use Rattle.source_typing.specs.Regions.{Region}
 use Rattle.source_typing.specs.Types.{Char, Fat, Handle, Int, Key, PartialType, Struct, Thin, Union, Unique, Unsigned, Void}
+use Rattle.cyc_types.specs.Reaches.{reach_of}
 use Rattle.cyc_types.specs.Regions.{region_of}
 use Rattle.cyc_types.specs.declared.region.RegionId.{RegionId}
 use Rattle.check_types.specs.declared.base.WrittenBase.{WrittenBase}
@@ -12,7 +13,7 @@ use Rattle.check_types.specs.declared.settling.WrittenType.{WrittenType}
 
 -- a pointer to a type
 abbrev pub partial_to : WrittenLayer → PartialType → PartialType
-partial_to (code.Thin n r) t = Thin n (option_map region_of r) t
+partial_to (code.Thin n r) t = Thin (reach_of n) (option_map region_of r) t
 partial_to (code.Fat r) t = Fat (option_map region_of r) t
 partial_to (code.Unique n) t = Unique n t
 

@@ -3,10 +3,11 @@
 ghost use Rattle.std.specs.Prelude.{◌≡◌, IfOk, Some, false, is_none, option_map, true};
 ghost use Rattle.std.specs.List.{list_any};
 ghost use Rattle.cyc_tree.specs.View.{pointer_tree, region_tree};
+ghost use Rattle.cyc_types.specs.Reaches.{reach_of};
 ghost use Rattle.cyc_types.specs.Regions.{region_of};
 ghost use Rattle.source_typing.specs.Faults.{earliest};
 ghost use Rattle.source_typing.specs.Types.{PartialType};
-ghost use Rattle.source_typing.specs.Written.{IsUnique, all_found, found_by, pointers_to};
+ghost use Rattle.source_typing.specs.Written.{IsUnique, all_found, found_by, pointers_to, thin_to};
 ghost use Rattle.check_faults.specs.Faults.{faults_of};
 ghost use Rattle.check_types.specs.Reading.{and_layer, found_of, is_unique_name, led_by, listed, made, pointer_spots, pointer_trees};
 ghost use Rattle.check_types.specs.Written.{partial_to};
@@ -16,7 +17,7 @@ use crate::settling::WrittenLayers;
 use check_faults::{Fault, FaultKind, sooner};
 use check_regions::RegionNames;
 use cyc_tree::{Pointer, RegionName, Sign};
-use cyc_types::RegionId;
+use cyc_types::{Reach, RegionId};
 use smallvec::SmallVec;
 use std::alloc::{AllocError, Global};
 
@@ -34,24 +35,46 @@ pub(crate) fn any_misses(pointers: &[Pointer]) -> bool
     pointers.iter().any(|pointer| pointer.region.is_none())
 }
 
-/// A pointer of this sign, in a region that isn't the unique one.
-pub(crate) fn layer_of(sign: Sign, region: Option<RegionId>) -> WrittenLayer
-    ensures { (t : PartialType) → Some (partial_to result t) ≡ made sign (found_of (option_map region_of region)) t }
+/// A thin pointer in a region that isn't the unique one. None: it leads to no element.
+fn thin_layer(bound: Reach, region: Option<RegionId>) -> Option<WrittenLayer>
+    ensures { (t : PartialType) → option_map (λ l. partial_to l t) result ≡ thin_to (reach_of bound) (found_of (option_map region_of region)) t }
 {
-    match sign {
-        Sign::Nullable => WrittenLayer::Thin(true, region),
-        Sign::NotNull => WrittenLayer::Thin(false, region),
-        Sign::Fat => WrittenLayer::Fat(region),
+    if bound.count() == 0 {
+        None
+    } else {
+        Some(WrittenLayer::Thin(bound, region))
     }
 }
 
-/// A pointer of this sign in the unique region. None: it would be a fat one.
+/// A thin pointer in the unique region. None: it leads to more elements than one, or to none.
+fn unique_thin(bound: Reach) -> Option<WrittenLayer>
+    ensures { (t : PartialType) → option_map (λ l. partial_to l t) result ≡ thin_to (reach_of bound) IsUnique t }
+{
+    if bound.count() == 1 {
+        Some(WrittenLayer::Unique(bound.may_be_null()))
+    } else {
+        None
+    }
+}
+
+/// A pointer of this sign, in a region that isn't the unique one. None: it leads to no element.
+pub(crate) fn layer_of(sign: Sign, region: Option<RegionId>) -> Option<WrittenLayer>
+    ensures { (t : PartialType) → option_map (λ l. partial_to l t) result ≡ made sign (found_of (option_map region_of region)) t }
+{
+    match sign {
+        Sign::Nullable(count) => thin_layer(Reach::MayBeNull(count), region),
+        Sign::NotNull(count) => thin_layer(Reach::NeverNull(count), region),
+        Sign::Fat => Some(WrittenLayer::Fat(region)),
+    }
+}
+
+/// A pointer of this sign in the unique region. None: it would be a fat one, or one to more elements than one or to none.
 pub(crate) fn unique_layer(sign: Sign) -> Option<WrittenLayer>
     ensures { (t : PartialType) → option_map (λ l. partial_to l t) result ≡ made sign IsUnique t }
 {
     match sign {
-        Sign::Nullable => Some(WrittenLayer::Unique(true)),
-        Sign::NotNull => Some(WrittenLayer::Unique(false)),
+        Sign::Nullable(count) => unique_thin(Reach::MayBeNull(count)),
+        Sign::NotNull(count) => unique_thin(Reach::NeverNull(count)),
         Sign::Fat => None,
     }
 }
@@ -84,7 +107,7 @@ fn region_in(names: &RegionNames<'_>, region: &Option<RegionName>) -> Option<Reg
     }
 }
 
-/// The pointer with the region that is found. None: it would be fat and unique.
+/// The pointer with the region that is found. None: it can't be in that region, or leads to no element.
 fn layer_in(names: &RegionNames<'_>, pointer: &Pointer) -> Option<WrittenLayer>
     ensures { (t : PartialType) → option_map (λ l. partial_to l t) result
         ≡ made pointer.now.sign (found_by names.now (option_map region_tree pointer.now.region) true).0 t }
@@ -92,7 +115,7 @@ fn layer_in(names: &RegionNames<'_>, pointer: &Pointer) -> Option<WrittenLayer>
     if is_unique(&pointer.region) {
         unique_layer(pointer.sign)
     } else {
-        Some(layer_of(pointer.sign, region_in(names, &pointer.region)))
+        layer_of(pointer.sign, region_in(names, &pointer.region))
     }
 }
 
@@ -123,7 +146,7 @@ pub(crate) fn regions_fault(names: &RegionNames<'_>, pointers: &[Pointer]) -> Op
     found
 }
 
-/// The pointers with the regions that are found. None: one of them would be fat and unique.
+/// The pointers with the regions that are found. None: one of them can't be in its region, or leads to no element.
 pub(crate) fn named_layers(
     alloc: Global,
     names: &RegionNames<'_>,

@@ -51,7 +51,7 @@ fn outer_at(source: Option<&CType<'_>>, depth: usize) -> Option<Layer>
     }
 }
 
-/// The pointers with their missing regions from a type. None: a fat pointer would be unique.
+/// The pointers with their missing regions from a type. None: one that can't be unique would be.
 fn layers_from(
     alloc: Global,
     written: &[WrittenLayer],
@@ -73,7 +73,7 @@ fn layers_from(
 }
 
 /// The type, where each missing region is the one at the same place of the source, from the outermost pointer inwards, and else the
-/// heap. A fat pointer that would be unique is at fault at this place. Fails only where no host memory is left.
+/// heap. A pointer that can't be unique and would be is at fault at this place. Fails only where no host memory is left.
 pub fn settled<'p>(
     written: WrittenType<'p>,
     at: u32,

@@ -121,7 +121,7 @@ impl<'p> RegionVariables<'p> {
         Ok(region)
     }
 
-    /// A pointer with its region. None: it would be fat and unique. Fails only where no host memory is left.
+    /// A pointer with its region. None: it can't be in that region, or leads to no element. Fails only where no host memory is left.
     fn take_layer(&mut self, pointer: &'p Pointer) -> Result<Option<WrittenLayer>, AllocError>
         ensures found { (t : PartialType) → IfOk result (λ l. option_map (λ l. partial_to l t) l
             ≡ made pointer.entry.now.sign (take_spot self.old (option_map region_tree pointer.entry.now.region) true).found t) }
@@ -131,11 +131,11 @@ impl<'p> RegionVariables<'p> {
         if is_unique(&pointer.region) {
             Ok(unique_layer(pointer.sign))
         } else {
-            Ok(Some(layer_of(pointer.sign, Some(region))))
+            Ok(layer_of(pointer.sign, Some(region)))
         }
     }
 
-    /// The pointers of a type with their regions. None: one of them would be fat and unique. Fails only where no host memory is left.
+    /// The pointers of a type with their regions. None: one of them can't be in its region, or leads to no element. Fails only where no host memory is left.
     pub(crate) fn take_layers(
         &mut self,
         alloc: Global,

@@ -1,13 +1,13 @@
 -- Conversions by the outermost pointers.
 use Rattle.std.proofs.Common.{◌≡◌, ◌-◌, Bool, true, false, List, [], ◌∷◌, ◌++◌, length, take, refl, sym, ap, ◌∙◌, arith, true≢false}
 use Rattle.std.specs.Prelude.{MatchOption, None, Option, Some, is_none}
-use Rattle.source_typing.specs.Conversions.{conversion, ordered, unless_differs}
+use Rattle.source_typing.specs.Conversions.{conversion, if_enough, ordered, unless_differs}
 use Rattle.source_typing.specs.Faults.{outlives_rule, type_rule}
 use Rattle.source_typing.specs.Regions.{Regions}
 use Rattle.source_typing.specs.Types.{StaticType, compare, is_null}
 use Rattle.cyc_types.specs.Bases.{base_type}
 use Rattle.cyc_types.specs.Conversions.{layers_ordered, null_rule, outer_ordered, pointer_rule}
-use Rattle.cyc_types.specs.Layers.{last_or, outermost, pointed, pointer_to}
+use Rattle.cyc_types.specs.Layers.{has_enough, last_or, outermost, pointed, pointer_to}
 use Rattle.cyc_types.specs.declared.base.BaseType.{BaseType}
 use Rattle.cyc_types.specs.declared.base.BaseType.TheVariants as base
 use Rattle.cyc_types.specs.declared.layer.Layer.{Layer}
@@ -59,7 +59,8 @@ without_last (k ∷ ks) new t h = by_outer (k ∷ ks) t (last_or k ks) refl ∙ 
 
 pointers_convert : (g : Regions) (l k : Layer) (t u : StaticType) (outlives : Bool) → layers_ordered g outlives l k ≡ outlives
     → pointer_rule l k (compare t u) outlives ≡ conversion g (pointer_to l t) (pointer_to k u)
-pointers_convert g (code.Thin n r) (code.Thin m q) t u b h = ap (λ o. unless_differs (compare t u) (ordered o) (Some outlives_rule)) (sym h)
+pointers_convert g (code.Thin n r) (code.Thin m q) t u b h =
+    ap (λ o. if_enough (has_enough (code.Thin n r) (code.Thin m q)) (unless_differs (compare t u) (ordered o) (Some outlives_rule))) (sym h)
 pointers_convert g (code.Thin n r) (code.Fat q) t u b h = ap (λ o. unless_differs (compare t u) (ordered o) (Some outlives_rule)) (sym h)
 pointers_convert g (code.Thin n r) (code.Unique m) t u b h = refl
 pointers_convert g (code.Fat r) (code.Thin m q) t u b h = ap (λ o. unless_differs (compare t u) (ordered o) (Some outlives_rule)) (sym h)

@@ -13,6 +13,7 @@ mod NextMember
 pub mod Outermost
 mod PlacedCells
 mod Pointers
+mod Reaches
 pub mod Sameness
 mod Spread
 mod StillMeasured

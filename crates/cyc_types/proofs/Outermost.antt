@@ -9,7 +9,8 @@ use Rattle.cyc_types.specs.Cells.{KindAt, moved_by, quick_cells, scalar_at}
 use Rattle.cyc_types.specs.Known.{Entry, is_declared, quick_begins, quick_copies}
 use Rattle.cyc_types.specs.Measures.{layer_extent, quick_measure, scalar_bytes}
 use Rattle.cyc_types.specs.Layers.{last_or, layer_begins, layer_copies, outermost, pointed, pointer_to}
-use Rattle.cyc_types.specs.Scalars.{layer_kind, only_kind}
+use Rattle.cyc_types.specs.Scalars.{UniqueKind, layer_kind, only_kind}
+use Rattle.cyc_types.proofs.Reaches.{single_null}
 use Rattle.cyc_types.specs.declared.base.BaseType.{BaseType}
 use Rattle.cyc_types.specs.declared.base.BaseType.TheVariants as base
 use Rattle.cyc_types.specs.declared.layer.Layer.{Layer}
@@ -120,7 +121,7 @@ pointer_scalar ls t l e = with_outer (λ t. scalar_bytes (Some t)) (λ l. (layer
 of_kind : (l : Layer) (t : StaticType) → only_kind (pointer_to l t) ≡ Some (layer_kind l)
 of_kind (code.Thin n r) t = refl
 of_kind (code.Fat r) t = refl
-of_kind (code.Unique n) t = refl
+of_kind (code.Unique n) t = ap (λ b. Some (UniqueKind b)) (single_null n)
 
 pub plain_kind : (ls : List Layer) (t : StaticType) → outermost ls ≡ None → only_kind (pointed t ls) ≡ only_kind t
 unfolding outer_or
@@ -133,7 +134,7 @@ pointer_kind ls t l e = with_outer only_kind (λ l. Some (layer_kind l)) of_kind
 of_cells : (of : List ℕ → List KindAt) (l : Layer) (t : StaticType) → quick_cells of (pointer_to l t) ≡ scalar_at 0 (layer_kind l) ∷ []
 of_cells of (code.Thin n r) t = refl
 of_cells of (code.Fat r) t = refl
-of_cells of (code.Unique n) t = refl
+of_cells of (code.Unique n) t = ap (λ b. scalar_at 0 (UniqueKind b) ∷ []) (single_null n)
 
 -- a pointer is one cell
 pub pointer_cells : (of : List ℕ → List KindAt) (ls : List Layer) (t : StaticType) (l : Layer) (at : ℕ) → outermost ls ≡ Some l

@@ -2,10 +2,12 @@
 use Rattle.std.proofs.Common.{◌≡◌, Bool, true, false, List, [], ◌∷◌, length, refl, sym, ap, ◌∙◌, arith, suc, ◌+◌}
 use Rattle.std.specs.List.{fold, zip}
 use Rattle.source_typing.specs.Regions.{same_id}
+use Rattle.source_typing.specs.Shapes.{same_bound, single}
 use Rattle.source_typing.specs.Types.{ByRegions, Differs, Equals, Match, StaticType, compare, matched, only, same_bool}
 use Rattle.cyc_types.specs.Bases.{base_type}
 use Rattle.cyc_types.specs.Layers.{layers_match, next_alike, pointed, pointer_to}
 use Rattle.cyc_types.specs.Likeness.{likeness_of, match_of}
+use Rattle.cyc_types.specs.Reaches.{reach_of}
 use Rattle.cyc_types.specs.Regions.{region_of}
 use Rattle.cyc_types.specs.declared.base.BaseType.{BaseType}
 use Rattle.cyc_types.specs.declared.base.BaseType.TheVariants as base
@@ -70,13 +72,13 @@ apart : (b c : Bool) → only b (matched c Differs) ≡ Differs
 apart b c = ap (only b) (regions_apart c) ∙ only_apart b
 
 layers_differ : (l k : Layer) → layers_match l k Differs ≡ Differs
-layers_differ (code.Thin n r) (code.Thin m q) = apart (same_bool n m) (same_id (region_of r) (region_of q))
-layers_differ (code.Thin n r) (code.Unique m) = only_apart (same_bool n m)
+layers_differ (code.Thin n r) (code.Thin m q) = apart (same_bound (reach_of n) (reach_of m)) (same_id (region_of r) (region_of q))
+layers_differ (code.Thin n r) (code.Unique m) = only_apart (same_bound (reach_of n) (single m))
 layers_differ (code.Thin n r) (code.Fat q) = refl
 layers_differ (code.Fat r) (code.Thin m q) = refl
 layers_differ (code.Fat r) (code.Unique m) = refl
 layers_differ (code.Fat r) (code.Fat q) = regions_apart (same_id (region_of r) (region_of q))
-layers_differ (code.Unique n) (code.Thin m q) = only_apart (same_bool n m)
+layers_differ (code.Unique n) (code.Thin m q) = only_apart (same_bound (single n) (reach_of m))
 layers_differ (code.Unique n) (code.Unique m) = only_apart (same_bool n m)
 layers_differ (code.Unique n) (code.Fat q) = refl
 

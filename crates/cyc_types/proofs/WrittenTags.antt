@@ -1,18 +1,19 @@
 -- The struct or union is declared that a type as written is.
 use Rattle.std.proofs.Common.{◌≡◌, ℕ, Bool, true, false, List, [], ◌∷◌, ◌++◌, map, refl, ap, ◌∙◌}
-use Rattle.std.specs.Prelude.{None, Option, Some, is_some, suc, zero, ◌&&◌}
+use Rattle.std.specs.Prelude.{None, Option, Some, is_some, nat_eq, suc, zero, ◌&&◌, if◌then◌else◌}
 use Rattle.source_typing.specs.Tree.{TypeName}
 use Rattle.source_typing.specs.Sign.{Sign}
 use Rattle.source_typing.specs.Declarations.{stands_earlier, tag_earlier}
 use Rattle.source_typing.specs.Faults.{Fault}
-use Rattle.source_typing.specs.Missing.{as_type, fat_with, filled_from, or_found, outer_region, pointee_of, settled, thin_with, unique_with}
+use Rattle.source_typing.specs.Missing.{alone_with, as_type, fat_with, filled_from, or_found, outer_region, pointee_of, settled, thin_with, unique_with}
 use Rattle.source_typing.specs.Regions.{Region}
 use Rattle.source_typing.specs.Scope.{Env}
+use Rattle.source_typing.specs.Shapes.{MayBeNull, NeverNull, Reach, may_be_null, number_of}
 use Rattle.source_typing.specs.Tables.{Entry, OfBuiltin, OfFunction, OfOther, OfTag, OfValue, Tables, as_tag, each_part, find, if_known, tag_in}
 use Rattle.source_typing.specs.Tags.{fits_member, member_fitting, member_type, parts_by, settled_alone}
 use Rattle.source_typing.specs.Types.{Char, Fat, Handle, Int, Key, Null, PartialType, StaticType, Struct, Thin, Union, Unique, Unsigned, Void}
 use Rattle.source_typing.specs.Verdicts.{Faulty, Of, Unjudged, Verdict, after, if_fits, known, unless_faulty}
-use Rattle.source_typing.specs.Written.{Found, RegionNamed, all_found, as_region, base_of, built, count_fits, counted_type, pointer_to, pointers_to}
+use Rattle.source_typing.specs.Written.{Found, RegionNamed, all_found, as_region, base_of, built, count_fits, counted_type, pointer_to, pointers_to, thin_to}
 use Rattle.source_typing.specs.Written.{Is, IsUnique, Missing, spots_of, tag_of, type_built, with_arguments, written, written_on, written_with}
 use Rattle.cyc_types.specs.Known.{has_declared}
 use Rattle.source_typing.specs.Tree as tree
@@ -30,18 +31,27 @@ if_type g (Some t) = declares g t ≡ true
 
 -- ---- pointers
 
+where_one : (g : Tables) (b : Bool) (t : PartialType) → declares g t ≡ true → if_type g (if b then Some t else None)
+where_one g true t h = h
+where_one g false t h = tt
+
+where_any : (g : Tables) (b : Bool) (t : PartialType) → declares g t ≡ true → if_type g (if b then None else Some t)
+where_any g true t h = tt
+where_any g false t h = h
+
+thin_declared : (g : Tables) (n : Reach) (f : Found) (t : PartialType) → if_type g (thin_to n f t)
+thin_declared g n IsUnique t = where_one g (nat_eq (number_of n) 1) (Unique (may_be_null n) t) refl
+thin_declared g n Missing t = where_any g (nat_eq (number_of n) 0) (Thin n None t) refl
+thin_declared g n (Is r) t = where_any g (nat_eq (number_of n) 0) (Thin n (Some r) t) refl
+
 pointer_declared : (g : Tables) (s : Sign) (f : Found) (t : PartialType) → if_type g (pointer_to s f t)
 pointer_declared g s f Void = tt
 pointer_declared g s f (Key r) = tt
 pointer_declared g sign.Fat IsUnique t = tt
 pointer_declared g sign.Fat Missing t = refl
 pointer_declared g sign.Fat (Is p) t = refl
-pointer_declared g sign.Nullable IsUnique t = refl
-pointer_declared g sign.Nullable Missing t = refl
-pointer_declared g sign.Nullable (Is p) t = refl
-pointer_declared g sign.NotNull IsUnique t = refl
-pointer_declared g sign.NotNull Missing t = refl
-pointer_declared g sign.NotNull (Is p) t = refl
+pointer_declared g (sign.Nullable count) f t = thin_declared g (MayBeNull count) f t
+pointer_declared g (sign.NotNull count) f t = thin_declared g (NeverNull count) f t
 
 pointers_declared : (g : Tables) (ps : List tree.Pointer) (fs : List Found) (o : Option PartialType) → if_type g o → if_type g (pointers_to ps fs o)
 pointers_declared g [] fs o h = h
@@ -125,10 +135,14 @@ abbrev if_static : Tables → Verdict StaticType → Type 0
 if_static g (Of t) = has_declared g t ≡ true
 if_static g v = Unit {0}
 
-thin_settled : (g : Tables) (at : ℕ) (n : Bool) (f : Found) (o : Option StaticType) → if_static g (as_type at (thin_with n f o))
+alone_settled : (g : Tables) (at : ℕ) (b : Bool) (n : Reach) (t : StaticType) → if_static g (as_type at (alone_with b n t))
+alone_settled g at true n t = refl
+alone_settled g at false n t = tt
+
+thin_settled : (g : Tables) (at : ℕ) (n : Reach) (f : Found) (o : Option StaticType) → if_static g (as_type at (thin_with n f o))
 thin_settled g at n f None = tt
 thin_settled g at n (Is r) (Some t) = refl
-thin_settled g at n IsUnique (Some t) = refl
+thin_settled g at n IsUnique (Some t) = alone_settled g at (nat_eq (number_of n) 1) n t
 thin_settled g at n Missing (Some t) = refl
 
 fat_settled : (g : Tables) (at : ℕ) (f : Found) (o : Option StaticType) → if_static g (as_type at (fat_with f o))

@@ -2,6 +2,7 @@
 use Rattle.std.specs.Borrow.{Bor}
 use Rattle.std.specs.Map.{lookup}
 use Rattle.std.specs.Prelude.{Bool, List, None, Option, Some, bytes_eq, false, is_some, map, option_map, true, ℕ}
+use Rattle.source_typing.specs.Shapes.{may_be_null}
 use Rattle.source_typing.specs.Types.{Char, Fat, Int, Key, StaticType, Struct, Thin, Union, Unique, Unsigned}
 use Rattle.cyc_types.specs.Tags.{named_tag, tag_of}
 use Rattle.cyc_types.specs.declared.tag.Known.{Known}
@@ -42,7 +43,7 @@ abbrev pub quick_begins : List Entry → StaticType → Bool
 quick_begins es Int = true
 quick_begins es Unsigned = true
 quick_begins es Char = true
-quick_begins es (Thin b r t) = b
+quick_begins es (Thin b r t) = may_be_null b
 quick_begins es (Unique b t) = b
 quick_begins es (Fat r t) = true
 quick_begins es (Struct tag rs) = flag_if (λ k. k.begins) (found es tag)

@@ -8,6 +8,7 @@ pub mod Laying
 pub mod Layers
 pub mod Likeness
 pub mod Measures
+pub mod Reaches
 pub mod Regions
 pub mod Sameness
 pub mod Scalars

@@ -2,8 +2,9 @@
 use Rattle.std.specs.Prelude.{Bool, List, None, Option, Some, ℕ, [], ◌∷◌}
 use Rattle.source_typing.specs.Placing.{Placed, placed_by}
 use Rattle.source_typing.specs.Shapes.{Alone, ArrayShape, CharShape, FatShape, HandleShape, IntShape, KeyShape, Owner, Shape, Shared, StructShape}
-use Rattle.source_typing.specs.Shapes.{ThinShape, UnionShape, Unsaid, UnsignedShape, VoidShape}
+use Rattle.source_typing.specs.Shapes.{ThinShape, UnionShape, Unsaid, UnsignedShape, VoidShape, may_be_null}
 use Rattle.source_typing.specs.Types.{StaticType, shape_of}
+use Rattle.cyc_types.specs.Reaches.{reach_of}
 use Rattle.cyc_types.specs.declared.layer.Layer.{Layer}
 use Rattle.cyc_types.specs.declared.layer.Layer.TheVariants as pointer
 use Rattle.cyc_types.specs.declared.scalar.Scalar.{Scalar}
@@ -32,7 +33,7 @@ abbrev pub kind_in : Shape → Option Kind
 kind_in IntShape = Some IntKind
 kind_in UnsignedShape = Some UnsignedKind
 kind_in CharShape = Some CharKind
-kind_in (ThinShape n owner to) = Some (thin_kind n owner)
+kind_in (ThinShape n owner to) = Some (thin_kind (may_be_null n) owner)
 kind_in (FatShape to) = Some FatKind
 kind_in HandleShape = Some HandleKind
 kind_in KeyShape = Some KeyKind
@@ -67,6 +68,6 @@ kind_of code.Key = KeyKind
 kind_of (code.Union tag) = UnionKind tag.now
 
 abbrev pub layer_kind : Layer → Kind
-layer_kind (pointer.Thin n r) = ThinKind n
+layer_kind (pointer.Thin n r) = ThinKind (may_be_null (reach_of n))
 layer_kind (pointer.Fat r) = FatKind
 layer_kind (pointer.Unique n) = UniqueKind n

@@ -5,7 +5,7 @@ ghost use Rattle.source_typing.specs.Conversions.{conversion, ordered, unless_di
 ghost use Rattle.source_typing.specs.Regions.{Regions};
 ghost use Rattle.source_typing.specs.Types.{compare};
 ghost use Rattle.cyc_types.specs.Bases.{base_type};
-ghost use Rattle.cyc_types.specs.Conversions.{rule_of, number_of, null_rule, pointer_rule, outer_ordered};
+ghost use Rattle.cyc_types.specs.Conversions.{bounded_rule, rule_of, number_of, null_rule, pointer_rule, outer_ordered};
 ghost use Rattle.cyc_types.specs.Layers.{outermost, pointed};
 ghost use Rattle.cyc_types.specs.Likeness.{match_of, likeness_of};
 ghost use Rattle.cyc_types.specs.Types.{static_type};
@@ -52,15 +52,16 @@ fn ordered(outlives: bool) -> Option<Broken>
 fn null_conversion(to: Layer) -> Option<Broken>
     ensures { rule_of result ≡ null_rule to }
 {
-    match to {
-        Layer::Thin(false, _) | Layer::Unique(false) => Some(Broken::Typing),
-        Layer::Thin(true, _) | Layer::Unique(true) | Layer::Fat(_) => None,
+    if to.has_beginning() {
+        None
+    } else {
+        Some(Broken::Typing)
     }
 }
 
-/// A pointer to a pointer.
-fn pointer_conversion(from: Layer, to: Layer, inner: Likeness, outlives: bool) -> Option<Broken>
-    ensures { rule_of result ≡ pointer_rule from to (match_of inner) outlives }
+/// A pointer to a pointer that leads to no more elements.
+fn bounded_conversion(from: Layer, to: Layer, inner: Likeness, outlives: bool) -> Option<Broken>
+    ensures { rule_of result ≡ bounded_rule from to (match_of inner) outlives }
 {
     match (from, to) {
         (Layer::Unique(_), Layer::Unique(_)) => unless_different(inner, None, Broken::Outlives),
@@ -68,6 +69,17 @@ fn pointer_conversion(from: Layer, to: Layer, inner: Likeness, outlives: bool) -
             unless_different(inner, Some(Broken::Region), Broken::Region)
         }
         _ => unless_different(inner, ordered(outlives), Broken::Outlives),
+    }
+}
+
+/// A pointer to a pointer.
+fn pointer_conversion(from: Layer, to: Layer, inner: Likeness, outlives: bool) -> Option<Broken>
+    ensures { rule_of result ≡ pointer_rule from to (match_of inner) outlives }
+{
+    if from.has_enough(to) {
+        bounded_conversion(from, to, inner, outlives)
+    } else {
+        Some(Broken::Typing)
     }
 }
 

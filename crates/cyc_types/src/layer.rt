@@ -1,18 +1,19 @@
 // Pointers, without what they lead to.
 
 ghost use Rattle.std.specs.Prelude.{◌≡◌};
-ghost use Rattle.cyc_types.specs.Layers.{layers_alike, layer_copies, layer_begins};
+ghost use Rattle.cyc_types.specs.Layers.{has_enough, layers_alike, layer_copies, layer_begins};
 ghost use Rattle.cyc_types.specs.Measures.{extent_of, layer_extent};
 
 use crate::extent::Extent;
 use crate::likeness::Likeness;
+use crate::reach::Reach;
 use crate::region::RegionId;
 
 /// A pointer, without the type that it leads to.
 #[derive(Clone, Copy)]
 pub enum Layer {
-    /// To one object in a region; whether it may be `NULL`.
-    Thin(bool, RegionId),
+    /// To a number of elements in a region.
+    Thin(Reach, RegionId),
     /// With bounds, into a region.
     Fat(RegionId),
     /// To one object that nothing else points to; whether it may be `NULL`.
@@ -34,14 +35,27 @@ impl Layer {
         match (self, other) {
             (Layer::Thin(mine, here), Layer::Thin(theirs, there)) => inner
                 .with_regions(here.is_same(there))
-                .only_if(mine == theirs),
-            (Layer::Thin(mine, _), Layer::Unique(theirs))
-            | (Layer::Unique(mine), Layer::Thin(theirs, _)) => {
-                inner.by_regions().only_if(mine == theirs)
-            }
+                .only_if(mine.is_same(theirs)),
+            (Layer::Thin(mine, _), Layer::Unique(theirs)) => inner
+                .by_regions()
+                .only_if(mine.is_same(Reach::single(theirs))),
+            (Layer::Unique(mine), Layer::Thin(theirs, _)) => inner
+                .by_regions()
+                .only_if(Reach::single(mine).is_same(theirs)),
             (Layer::Unique(mine), Layer::Unique(theirs)) => inner.only_if(mine == theirs),
             (Layer::Fat(here), Layer::Fat(there)) => inner.with_regions(here.is_same(there)),
             _ => Likeness::Different,
+        }
+    }
+
+    /// Whether it leads to at least as many elements as another pointer. Where one of them is fat, that is checked when the program runs.
+    pub fn has_enough(self, other: Layer) -> bool
+        ensures { result ≡ has_enough self other }
+    {
+        match (self, other) {
+            (Layer::Thin(mine, _), Layer::Thin(theirs, _)) => theirs.count() <= mine.count(),
+            (Layer::Unique(_), Layer::Thin(theirs, _)) => theirs.count() <= 1,
+            _ => true,
         }
     }
 
@@ -57,7 +71,8 @@ impl Layer {
         ensures { result ≡ layer_begins self }
     {
         match self {
-            Layer::Thin(may_be_null, _) | Layer::Unique(may_be_null) => may_be_null,
+            Layer::Thin(bound, _) => bound.may_be_null(),
+            Layer::Unique(may_be_null) => may_be_null,
             Layer::Fat(_) => true,
         }
     }

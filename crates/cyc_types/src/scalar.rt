@@ -15,7 +15,7 @@ pub enum Scalar<'p> {
     Int,
     Unsigned,
     Char,
-    /// A pointer to one object; whether it may be `NULL`.
+    /// A pointer to a number of elements; whether it may be `NULL`.
     Thin(bool),
     /// A pointer to one object that nothing else points to; whether it may be `NULL`.
     Unique(bool),
@@ -32,7 +32,7 @@ pub(crate) fn of_layer<'p>(layer: Layer) -> Scalar<'p>
     ensures { kind_of result ≡ layer_kind layer }
 {
     match layer {
-        Layer::Thin(may_be_null, _) => Scalar::Thin(may_be_null),
+        Layer::Thin(bound, _) => Scalar::Thin(bound.may_be_null()),
         Layer::Unique(may_be_null) => Scalar::Unique(may_be_null),
         Layer::Fat(_) => Scalar::Fat,
     }

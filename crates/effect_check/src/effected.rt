@@ -1,6 +1,6 @@
 // A program whose effects were looked at.
 
-ghost use Rattle.std.specs.Prelude.{◌≡◌, Some, None, Err, IfOk};
+ghost use Rattle.std.specs.Prelude.{◌≡◌, ◌≢◌, Some, None, Err, IfOk};
 ghost use Rattle.check_faults.specs.Faults.{fault_of, faults_of};
 ghost use Rattle.check_faults.specs.declared.fault.Fault.{Fault as Broken_fault};
 ghost use Rattle.source_typing.specs.Answers.{effect_fault};
@@ -65,6 +65,8 @@ pub fn effects(_alloc: Global, typed: Typed) -> Result<Effected, CheckFault>
     ensures ok { IfOk result (λ e. (e ≡ typed) × (effect_fault typed ≡ None)) }
     // a fault is the program's first
     ensures broken { (f : Broken_fault) → result ≡ Err (CheckFault.Broken f) → effect_fault typed ≡ Some (fault_of f) }
+    // no memory is asked for
+    ensures never { result ≢ Err CheckFault.Memory }
 {
     match typed.effect_fault() {
         None => Ok(Effected {

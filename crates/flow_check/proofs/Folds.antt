@@ -52,9 +52,10 @@ suffixes_shortly g v u [] = refl
 suffixes_shortly g v u (OneSuffix.Index e ∷ xs) =
     let w : Verdict Value = both v (judge g e) (indexed g) in
     let after_it : shortened w ≡ short_suffix g (shortened v) (OneSuffix.Index e) = index_shortly g v e in
-    suffixes_shortly g w (indexed_uses (place_at 0 v) (is_moved g w) u (uses_of g e)) xs
+    suffixes_shortly g w (indexed_uses (place_at 0 v) (is_moved g w) v u (uses_of g e)) xs
     ∙ ap₂ (λ s x. all_short_uses g s x xs) after_it
-    (ap₂ (λ at m. indexed_uses at m u (uses_of g e)) (placed_shortly v) (moved_shortly g w ∙ ap (is_moved_short g) after_it))
+    ((λ j. uses_as_place (placed_shortly v j) ((moved_shortly g w ∙ ap (is_moved_short g) after_it) j) (u.own && not (unique_shortly v j))
+    (in_turn (uses_of g e).look (in_turn u.look (copied_if (unique_shortly v j && not u.whole) (placed_shortly v j))))))
 suffixes_shortly g v u (OneSuffix.Dot f ∷ xs) =
     let w : Verdict Value = after v (member g f) in
     let after_it : shortened w ≡ short_suffix g (shortened v) (OneSuffix.Dot f) = shortened_after v (member g f) in

@@ -29,12 +29,14 @@ same_place : (g : Env) (at bt : ℕ) (s t : Short Value) (a b : Bool) (p q : Pas
 same_place g at bt s t a b p q e f h i = λ j. uses_as_place (e j) (is_moved_short g (f j)) (h j) (i j)
 
 module _ (g : Env) (s t : Short Value) (u : Uses) (r : Suffixed) (x : OneSuffix) (at : ℕ) (own : Bool) (p : Passage) where
-  pub after_index : (e : Expression) → x ≡ OneSuffix.Index e → at ≡ place_short s → t ≡ short_suffix g s (OneSuffix.Index e) → own ≡ u.own
-      → p ≡ in_turn (uses_of g e).look u.look → IsSuffixed t (uses_as_place at (is_moved_short g t) own p) r
+  pub after_index : (e : Expression) → x ≡ OneSuffix.Index e → at ≡ place_short s → t ≡ short_suffix g s (OneSuffix.Index e)
+      → own ≡ (u.own && not (is_unique_short s))
+      → p ≡ in_turn (uses_of g e).look (in_turn u.look (copied_if (is_unique_short s && not u.whole) (place_short s))) → IsSuffixed t (uses_as_place at (is_moved_short g t) own p) r
       → IsSuffixed (short_suffix g s x) (short_uses g s u x) r
   after_index e is place judged owned passes h =
       same_suffixed t (short_suffix g s x) (uses_as_place at (is_moved_short g t) own p) (short_uses g s u x) r (judged ∙ ap (short_suffix g s) (sym is))
-      (same_place g at (place_short s) t (short_suffix g s (OneSuffix.Index e)) own u.own p (in_turn (uses_of g e).look u.look) place judged owned passes
+      (same_place g at (place_short s) t (short_suffix g s (OneSuffix.Index e)) own (u.own && not (is_unique_short s)) p
+      (in_turn (uses_of g e).look (in_turn u.look (copied_if (is_unique_short s && not u.whole) (place_short s)))) place judged owned passes
       ∙ ap (short_uses g s u) (sym is)) h
 
   pub after_dot : (f : Name) → x ≡ OneSuffix.Dot f → at ≡ place_short s → t ≡ short_suffix g s (OneSuffix.Dot f) → own ≡ u.own → p ≡ u.look

@@ -6,7 +6,7 @@ use Rattle.check_expressions.specs.Suffixes.{short_suffix}
 use Rattle.flow_check.specs.Short.{is_moved_short, is_unique_short, place_short}
 use Rattle.flow_summaries.specs.Expressions.{uses_of}
 use Rattle.flow_summaries.specs.Passages.{Passage, copied_if, in_turn, in_turn_or_not}
-use Rattle.flow_summaries.specs.Uses.{Uses, indexed_uses, member_uses, uses_as_place}
+use Rattle.flow_summaries.specs.Uses.{Uses, member_uses, uses_as_place}
 use Rattle.source_typing.specs.Scope.{Env, Value}
 use Rattle.std.specs.Prelude.{false, not, ◌&&◌}
 use Rattle.check_faults.specs.Verdicts.{Short}
@@ -29,7 +29,8 @@ passed_tests g p (MoreExpressions e es) = passed_tests g (in_turn_or_not p (uses
 -- one suffix, by what is answered of what stands before it
 abbrev pub short_uses : Env → Short Value → Uses → OneSuffix → Uses
 short_uses g s u (OneSuffix.Index e) =
-    indexed_uses (place_short s) (is_moved_short g (short_suffix g s (OneSuffix.Index e))) u (uses_of g e)
+    uses_as_place (place_short s) (is_moved_short g (short_suffix g s (OneSuffix.Index e))) (u.own && not (is_unique_short s))
+    (in_turn (uses_of g e).look (in_turn u.look (copied_if (is_unique_short s && not u.whole) (place_short s))))
 short_uses g s u (OneSuffix.Dot f) = member_uses (place_short s) (is_moved_short g (short_suffix g s (OneSuffix.Dot f))) u
 short_uses g s u (OneSuffix.Arrow f) =
     uses_as_place (place_short s) (is_moved_short g (short_suffix g s (OneSuffix.Arrow f))) false

@@ -257,6 +257,13 @@ fn is_led_away(judged: &Verdict<Value>, used: &Used) -> bool
     is_unique_value(judged) && !used.whole
 }
 
+/// Whether an element is a part of a noncopyable local: what a unique pointer leads to isn't.
+fn is_part(judged: &Verdict<Value>, used: &Used) -> bool
+    ensures { result ≡ (used.now.own && not (is_unique_short (short_of value_of judged.now))) }
+{
+    used.own && !is_unique_value(judged)
+}
+
 /// What is looked at where it is dereferenced at a place: a unique pointer is so through a local alone.
 fn pointed(at: u32, judged: &Verdict<Value>, used: Used) -> Passed
     ensures { (u : Uses) → IsUsed usage.Look u used
@@ -301,8 +308,8 @@ fn suffix_after<'p>(
         Suffix::Index(index) => {
             let subscript = judge_inside(scope, alloc, around, index)?;
             let index = uses(scope, alloc, around, Usage::Look, index)?;
-            let own = used.own;
-            let passed = index.passed.in_turn(used.passed);
+            let own = is_part(&judged, &used);
+            let passed = index.passed.in_turn(pointed(at, &judged, used));
             let judged = indexed_parts(scope, judged, subscript);
             Ok(Suffixed::of(scope.tables, at, judged, own, passed))
         }

@@ -50,22 +50,22 @@ one_in_stays e each g at goal other s = by goal s
     by (Of a) r = subst (λ k. Stays (judge_made_in g at (Of a) (One e)) (judge_made_in (eased g) at k (One e))) (sym r) (there (Of a))
 
 -- and of so many
-elements_stay : (x : tree.Name) (n e : Expression) → StaysEverywhere n → StaysEverywhere e → (f : Env) (at : ℕ)
-    → Stays (both (judge f n) (judge (with_counter x f) e) (elements at)) (both (judge (eased f) n) (judge (with_counter x (eased f)) e) (elements at))
-elements_stay x n e count each f at =
-    stays_both (judge f n) (judge (eased f) n) (judge (with_counter x f) e) (judge (eased (with_counter x f)) e) (elements at) (elements at)
-    (count f) (each (with_counter x f)) (λ a b. stays_same (elements at a b))
+elements_stay : (x : tree.Name) (n e : Expression) → StaysEverywhere n → StaysEverywhere e → (f : Env)
+    → Stays (both (judge f n) (judge (with_counter x f) e) elements) (both (judge (eased f) n) (judge (with_counter x (eased f)) e) elements)
+elements_stay x n e count each f =
+    stays_both (judge f n) (judge (eased f) n) (judge (with_counter x f) e) (judge (eased (with_counter x f)) e) elements elements
+    (count f) (each (with_counter x f)) (λ a b. stays_same (elements a b))
 
 array_in_stays : (x : tree.Name) (n e : Expression) → StaysEverywhere n → StaysEverywhere e → (g : Env) (at : ℕ) (goal other : Verdict Goal)
     → Stays goal other → Stays (judge_made_in g at goal (Array x n e)) (judge_made_in (eased g) at other (Array x n e))
 array_in_stays x n e count each g at goal other s = by goal s
   where
-    elements_in : Env → Verdict Value
-    elements_in f = both (judge f n) (judge (with_counter x f) e) (elements at)
+    elements_in : Env → Verdict (Value × Value)
+    elements_in f = both (judge f n) (judge (with_counter x f) e) elements
 
     there : (k : Verdict Goal) → Stays (judge_made_in g at k (Array x n e)) (judge_made_in (eased g) at k (Array x n e))
     there k =
-        stays_made at k (elements_in (inside k g)) (elements_in (eased (inside k g))) (array_made at) (elements_stay x n e count each (inside k g) at)
+        stays_made at k (elements_in (inside k g)) (elements_in (eased (inside k g))) (array_made at) (elements_stay x n e count each (inside k g))
 
     by : (k : Verdict Goal) → Stays k other → Stays (judge_made_in g at k (Array x n e)) (judge_made_in (eased g) at other (Array x n e))
     by (Faulty f fs) r =
@@ -139,9 +139,9 @@ mutual
   made_stays : (new : Made) (g : Env) (at : ℕ) (goal : Verdict Goal) → Stays (judge_made g at goal new) (judge_made (eased g) at goal new)
   made_stays (One e) g at goal = stays_made at goal (judge g e) (judge (eased g) e) (made at) (judge_stays e g)
   made_stays (Array x n e) g at goal =
-      stays_made at goal (both (judge g n) (judge (with_counter x g) e) (elements at))
-      (both (judge (eased g) n) (judge (with_counter x (eased g)) e) (elements at)) (array_made at)
-      (elements_stay x n e (λ f. judge_stays n f) (λ f. judge_stays e f) g at)
+      stays_made at goal (both (judge g n) (judge (with_counter x g) e) elements)
+      (both (judge (eased g) n) (judge (with_counter x (eased g)) e) elements) (array_made at)
+      (elements_stay x n e (λ f. judge_stays n f) (λ f. judge_stays e f) g)
 
   made_in_stays : (new : Made) (g : Env) (at : ℕ) (goal other : Verdict Goal) → Stays goal other
       → Stays (judge_made_in g at goal new) (judge_made_in (eased g) at other new)

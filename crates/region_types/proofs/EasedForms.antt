@@ -37,6 +37,7 @@ contents_stay g at t = stays_same (contents_of g at t)
 
 index_stays : (g : Env) (at : ℕ) (t : StaticType) (i : Bool) → Stays (indexed_of g at t i) (indexed_of (eased g) at t i)
 index_stays g at (Fat r t) true = live_seat (is_live g r) at t r
+index_stays g at (Thin n r t) true = live_seat (is_live g r) at t r
 index_stays g at t i = stays_same (indexed_of g at t i)
 
 pub indexed_stays : (g : Env) (a b : Value) → Stays (indexed g a b) (indexed (eased g) a b)

@@ -7,7 +7,7 @@ use Rattle.source_meaning.specs.Sizes.{rounded_up}
 use Rattle.source_meaning.specs.Strings.{item_strings}
 use Rattle.source_typing.specs.Declarations.{what_after, what_of}
 use Rattle.source_typing.specs.Globals.{Static, constant, count_of, foreign_names, global_entry, global_faults, global_size, global_type, has_none, if_clean}
-use Rattle.source_typing.specs.Globals.{initial_faults, item_statics, static_string, total_faults, typed_size}
+use Rattle.source_typing.specs.Globals.{initial_faults, item_statics, static_string, string_faults, total_faults, typed_size}
 use Rattle.source_typing.specs.Programs.{if_first, is_seen, name_of, size_faults, statics_from}
 use Rattle.source_typing.specs.Regions.{TheHeap}
 use Rattle.source_typing.specs.Scope.{Env, at_item}
@@ -26,7 +26,7 @@ type_same g x =
     (λ i t. fitting_same g x.of.at (count_of x.initial) (has_none names && not (is_key t) && has_beginning g.tables t) t i)
 
 initial_same : (g : Env) (i : Initial) (t : Verdict StaticType) → initial_faults (eased g) i t ≡ initial_faults g i t
-initial_same g (Initial.Given c) t = ap (λ fs. faults_of (constant c) ++ fs) (converted_same g (constant c) t)
+initial_same g (Initial.Given c) t = ap (λ fs. (faults_of (constant c) ++ fs) ++ string_faults c t) (converted_same g (constant c) t)
 initial_same g Initial.Unset t = refl
 initial_same g (Initial.Elements n) t = refl
 

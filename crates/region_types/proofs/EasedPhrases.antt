@@ -58,7 +58,7 @@ stays_unless (f ∷ fs) gs v w none s = tt
 
 -- ---- making
 
-wrong_operand : (at : ℕ) (goal : Verdict Goal) (f : Fault) (fs : List Fault) (rule : Goal → Value → Verdict Value) (w : Verdict Value)
+wrong_operand : {A : Type 0} (at : ℕ) (goal : Verdict Goal) (f : Fault) (fs : List Fault) (rule : Goal → A → Verdict Value) (w : Verdict Value)
     → Stays (with_goal at goal (Faulty f fs) rule) w
 wrong_operand at (Faulty g gs) f fs rule w = tt
 wrong_operand at Unjudged f fs rule w = tt
@@ -66,14 +66,14 @@ wrong_operand at (Of NoHandle) f fs rule w = tt
 wrong_operand at (Of (To r)) f fs rule w = tt
 wrong_operand at (Of ToUnique) f fs rule w = tt
 
-pub wrong_goal : (at : ℕ) (f : Fault) (fs : List Fault) (v : Verdict Value) (rule : Goal → Value → Verdict Value) (w : Verdict Value)
+pub wrong_goal : {A : Type 0} (at : ℕ) (f : Fault) (fs : List Fault) (v : Verdict A) (rule : Goal → A → Verdict Value) (w : Verdict Value)
     → Stays (with_goal at (Faulty f fs) v rule) w
 wrong_goal at f fs (Faulty g gs) rule w = tt
 wrong_goal at f fs Unjudged rule w = tt
 wrong_goal at f fs (Of a) rule w = tt
 
 -- by an operand that stays
-pub stays_made : (at : ℕ) (goal : Verdict Goal) (v w : Verdict Value) (rule : Goal → Value → Verdict Value) → Stays v w
+pub stays_made : {A : Type 0} (at : ℕ) (goal : Verdict Goal) (v w : Verdict A) (rule : Goal → A → Verdict Value) → Stays v w
     → Stays (with_goal at goal v rule) (with_goal at goal w rule)
 stays_made at goal (Faulty f fs) w rule s = wrong_operand at goal f fs rule (with_goal at goal w rule)
 stays_made at goal Unjudged w rule s = stays_of (with_goal at goal Unjudged rule) (with_goal at goal w rule) (ap (λ x. with_goal at goal x rule) s)

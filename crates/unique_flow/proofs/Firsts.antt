@@ -1,12 +1,13 @@
 -- The first fault of a program in which the rules before flow find none.
-use Rattle.std.proofs.Common.{◌≡◌, false, Option, Some, None, List, ◌++◌, sym, subst, ap, ap₂, ◌∙◌}
+use Rattle.std.proofs.Common.{◌≡◌, false, Option, Some, None, List, ◌++◌, refl, sym, subst, ap, ap₂, ◌∙◌}
+use Rattle.std.specs.Prelude.{nat_le, if◌then◌else◌}
 use Rattle.cyc_tree.specs.Tree.{Program}
 use Rattle.source_typing.proofs.Inversion.{none_is}
 use Rattle.source_typing.specs.Answers.{effect_fault, first_fault}
-use Rattle.source_typing.specs.Faults.{Fault, earliest}
+use Rattle.source_typing.specs.Faults.{Fault, earliest, is_of_flow, rank_of}
 use Rattle.source_typing.specs.Left.{flow_faults}
 use Rattle.source_typing.specs.Programs.{typing_faults}
-use Rattle.check_faults.proofs.Earliest.{earliest_of_both, found_sooner}
+use Rattle.check_faults.proofs.Earliest.{before_by, earliest_of_both, found_sooner, is_by}
 use Rattle.check_faults.specs.Faults.{fault_of, faults_of, first_of, sooner_found}
 use Rattle.check_faults.specs.declared.fault.Fault as code
 use Rattle.unique_flow.specs.Faults.{IsAs, IsFirstFault, IsOfFlowIfSome}
@@ -43,6 +44,18 @@ pub first_is_sooner : (p : Program) (broken : code.Fault) (found : Option code.F
     → faults_of found ≡ earliest (flow_faults p) → first_fault p ≡ faults_of (sooner_found (Some broken) found)
 first_is_sooner p broken found e f =
     first_of_both p ∙ sym (found_sooner (Some broken) found ∙ ap₂ (λ (a b : Option Fault). first_of a b) (sym e) f)
+
+-- one that is none of flow is before each that is
+stays : (f : Fault) (g : Option Fault) → is_of_flow f.kind ≡ false → IsOfFlowIfSome g → first_of (Some f) g ≡ Some f
+stays f None early late = refl
+stays f (Some g) early late =
+    ap (λ b. Some (if b then f else g)) (is_by f g ∙ ap₂ (λ a b. before_by a b (nat_le (rank_of f) (rank_of g))) early late)
+
+-- and so it is the first of all, whatever flow finds
+pub first_stays : (p : Program) (f : Fault) → effect_fault p ≡ Some f → is_of_flow f.kind ≡ false → first_fault p ≡ Some f
+first_stays p f e early =
+    first_of_both p ∙ ap (λ o. first_of o (earliest (flow_faults p))) e
+    ∙ stays f (earliest (flow_faults p)) early (earliest_flow (flow_faults p) (program_flow p))
 
 -- of two one is answered
 pub sooner_is_some : (broken : code.Fault) (found : Option code.Fault) → sooner_found (Some broken) found ≡ None → ⊥

@@ -182,8 +182,10 @@ mutual
   suffixes_flow (Index e es) g v u f =
       let w = both v (judge g e) (indexed g) in
       let b = use_of g e in
-      suffixes_flow es g w (indexed_use (place_at 0 v) (is_moved g w) u b)
-      (place_flow (place_at 0 v) (is_moved g w) u.own (λ s. then_passed (b.look s) u.look) (λ s. then_flow (b.look s) u.look ((use_flow e g).look s) f.look))
+      let at = place_at 0 v in
+      suffixes_flow es g w (indexed_use at (is_moved g w) v u b)
+      (place_flow at (is_moved g w) (u.own && not (is_unique_value v)) (λ s. then_passed (b.look s) (pointed_use at v u))
+      (λ s. then_flow (b.look s) (pointed_use at v u) ((use_flow e g).look s) (pointed_flow at v u f)))
   suffixes_flow (Dot x es) g v u f =
       let w = after v (member g x) in
       suffixes_flow es g w (member_use (place_at 0 v) (is_moved g w) u) (place_flow (place_at 0 v) (is_moved g w) u.own u.look f.look)

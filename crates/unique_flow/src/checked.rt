@@ -70,11 +70,14 @@ pub fn flow(alloc: Global, effected: Effected) -> Result<Checked, FlowFault>
 }
 
 /// The earliest fault of a program by all rules, where this one is its earliest of names, types, regions, effects and sizes. Flow is the
-/// last phase, so a fault that is none of flow stays the first, wherever flow has one. Fails only where no host memory is left.
+/// last phase, so a fault that is none of flow is the first, and flow isn't looked at. Fails only where no host memory is left.
 pub fn first_broken(alloc: Global, program: &Program, broken: Fault) -> Result<Fault, AllocError>
     requires { effect_fault program.now ≡ Some (fault_of broken) }
     ensures { IfOk result (λ first. first_fault program.now ≡ Some (fault_of first)) }
 {
+    if !broken.kind.is_of_flow() {
+        return Ok(broken);
+    }
     let flow = flow_fault(alloc, program)?;
     match sooner(Some(broken), flow) {
         Some(first) => Ok(first),

@@ -13,7 +13,8 @@ returns-in-Some-Unique c =
     let to = static_type c.into_pointee.result in
     let outer = sym c.outer.ensures ∙ c.in-Some-Unique.is ∙ ap Some c.in-Some-Unique.field-0-is in
     let is = subst (λ o. MatchOption o (to ≡ static_type of) (λ l. static_type of ≡ pointer_to l to)) outer c.into_pointee.ensures in
-    subst (λ y. IfOk c.under.result (λ t. static_type t ≡ y)) (unique_aliased c.args.region (static_type of) to c.in-Some-Unique.may_be_null is) c.under.ensures
+    subst (λ y. IfOk c.under.result (λ t. static_type t ≡ y))
+    (unique_aliased c.args.region (static_type of) to c.in-Some-Unique.may_be_null c.single-bound.result c.single-bound.ensures is) c.under.ensures
 
 pub returns-in-Some-Thin : goal.returns-in-Some-Thin
 returns-in-Some-Thin c =

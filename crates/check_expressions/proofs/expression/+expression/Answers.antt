@@ -202,9 +202,8 @@ judge_made-returns-in_ok-element-in-Array t c = λ g h.
     ap (λ m. made_tree m) c.in-Array.is ∙ array_tree c.in-Array.index c.in-Array.count c.in-Array.element in
     answers g c.array_parts.result _ _
     (made_array g at to x (expression_tree count) (expression_tree element) (short_of value_of c.in_ok-count-in-Array.count)
-    (short_of value_of c.in_ok-element-in-Array.element) (short_of value_of c.elements_part.result)
+    (short_of value_of c.in_ok-element-in-Array.element)
     (c.in_ok-count-in-Array.ensures g h ∙ ap (λ e. judged g e) c.deref-in-Array.ensures)
     (c.in_ok-element-in-Array.ensures (with_counter x g) (counter_around _ x h refl more)
     ∙ ap (λ e. judged (with_counter x g) e) c.deref-in-Array-3.ensures)
-    c.elements_part.ensures
     ∙ ap (λ m. short_made g at to m) (sym is)) c.array_parts.ensures

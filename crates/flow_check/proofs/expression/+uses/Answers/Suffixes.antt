@@ -19,7 +19,7 @@ use Rattle.flow_effects.specs.Used.{IsUsed}
 use Rattle.flow_check.proofs.SuffixUses.{after_arrow, after_dot, after_first, after_index, after_next, looked_is}
 use Rattle.flow_check.proofs.Within.{counter_around}
 use Rattle.flow_check.specs.Folded.{all_short_uses}
-use Rattle.flow_check.specs.Short.{is_unique_short}
+use Rattle.flow_check.specs.Short.{is_unique_short, place_short}
 use Rattle.flow_check.proofs.expression.+uses.Goals as goal
 
 pub suffix_after-returns-in_ok-index-in-Index : goal.suffix_after-returns-in_ok-index-in-Index
@@ -32,9 +32,13 @@ suffix_after-returns-in_ok-index-in-Index t c = λ g u h used.
     (c.in_ok-subscript-in-Index.ensures g h.scope ∙ ap (λ x. judged g x) c.deref.ensures) in
     let index_is : passage_of c.in_ok-index-in-Index.index.passed ≡ (uses_of g e).look =
     (c.in_ok-index-in-Index.ensures g h).passed ∙ ap (λ x. (uses_of g (expression_tree x)).look) c.deref-in-Index.ensures in
-    after_index g s (short_of value_of c.indexed_parts-judged.result) u c.of.result (suffix_tree c.args.suffix.now) c.place_of-at.result c.args.used.own
-    (passage_of c.in_turn-passed.result) e (ap (λ x. suffix_tree x) c.in-Index.is ∙ index_tree c.in-Index.index) c.place_of-at.ensures judged_is used.own
-    (c.in_turn-passed.ensures ∙ ap₂ in_turn index_is used.passed) (c.of.ensures g (passage_of c.in_turn-passed.result) h.scope.sees.tags refl)
+    let pointed_is : passage_of c.pointed.result ≡ in_turn u.look (copied_if (is_unique_short s && not u.whole) (place_short s)) =
+    c.pointed.ensures u used ∙ ap (λ n. in_turn u.look (copied_if (is_unique_short s && not u.whole) n)) c.place_of-at.ensures in
+    after_index g s (short_of value_of c.indexed_parts-judged.result) u c.of.result (suffix_tree c.args.suffix.now) c.place_of-at.result
+    c.is_part-own.result (passage_of c.in_turn-passed.result) e
+    (ap (λ x. suffix_tree x) c.in-Index.is ∙ index_tree c.in-Index.index) c.place_of-at.ensures judged_is
+    (c.is_part-own.ensures ∙ ap (λ own. own && not (is_unique_short s)) used.own)
+    (c.in_turn-passed.ensures ∙ ap₂ in_turn index_is pointed_is) (c.of.ensures g (passage_of c.in_turn-passed.result) h.scope.sees.tags refl)
 
 pub suffix_after-returns-in_ok-judged-in-Dot : goal.suffix_after-returns-in_ok-judged-in-Dot
 suffix_after-returns-in_ok-judged-in-Dot t c = λ g u h used.

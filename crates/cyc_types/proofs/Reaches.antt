@@ -1,0 +1,10 @@
+-- Numbers of elements as words, and pointers that lead to one element.
+use Rattle.std.proofs.Common.{◌≡◌, Bool, true, false, ℕ, ◌<◌, ◌^◌, ◌%◌, refl, arith}
+use Rattle.source_typing.specs.Shapes.{may_be_null, single}
+
+pub word_is : (n : ℕ) → n < 2 ^ 32 → n ≡ n % 2 ^ 32
+word_is n h = omega (arith, h)
+
+pub single_null : (n : Bool) → may_be_null (single n) ≡ n
+single_null true = refl
+single_null false = refl

@@ -6,8 +6,6 @@ use Rattle.std.proofs.Common.{
   ◌+◌,
   ℕ,
   Bool,
-  true,
-  false,
   Option,
   None,
   Some,
@@ -38,6 +36,9 @@ use Rattle.source_meaning.specs.Shapes.{
   Shared,
   Alone,
   Unsaid,
+  Reach,
+  MayBeNull,
+  NeverNull,
   Shape,
   ThinShape,
   FatShape,
@@ -59,7 +60,7 @@ use Rattle.accepted_proof.proofs.Owners.{by_void}
 
 -- an owner by a shape at the same place
 abbrev owner_by : Owner → Shape → Owner
-owner_by o (ThinShape may_be_null other from) = first_owner o other
+owner_by o (ThinShape bound other from) = first_owner o other
 owner_by o s = shared_owner o
 
 shared_stays : (by : Shape) → Shared ≡ owner_by Shared by
@@ -76,19 +77,19 @@ unsaid_is (ThinShape n Alone from) = refl
 unsaid_is (ThinShape n Unsaid from) = refl
 unsaid_is s = refl
 
-nullable_owner : (region : Option RegionName) (by : Shape)
-    → shared_owner (owner_given (given_to Nullable region by) (owner_of region)) ≡ owner_by (owner_of region) by
-nullable_owner None by = unsaid_is by
-nullable_owner (Some (tree.Heap at)) by = shared_stays by
-nullable_owner (Some (tree.Unique at)) by = alone_stays by
-nullable_owner (Some (tree.Named name)) by = shared_stays by
+nullable_owner : (count : ℕ) (region : Option RegionName) (by : Shape)
+    → shared_owner (owner_given (given_to (Nullable count) region by) (owner_of region)) ≡ owner_by (owner_of region) by
+nullable_owner count None by = unsaid_is by
+nullable_owner count (Some (tree.Heap at)) by = shared_stays by
+nullable_owner count (Some (tree.Unique at)) by = alone_stays by
+nullable_owner count (Some (tree.Named name)) by = shared_stays by
 
-not_null_owner : (region : Option RegionName) (by : Shape)
-    → shared_owner (owner_given (given_to NotNull region by) (owner_of region)) ≡ owner_by (owner_of region) by
-not_null_owner None by = unsaid_is by
-not_null_owner (Some (tree.Heap at)) by = shared_stays by
-not_null_owner (Some (tree.Unique at)) by = alone_stays by
-not_null_owner (Some (tree.Named name)) by = shared_stays by
+not_null_owner : (count : ℕ) (region : Option RegionName) (by : Shape)
+    → shared_owner (owner_given (given_to (NotNull count) region by) (owner_of region)) ≡ owner_by (owner_of region) by
+not_null_owner count None by = unsaid_is by
+not_null_owner count (Some (tree.Heap at)) by = shared_stays by
+not_null_owner count (Some (tree.Unique at)) by = alone_stays by
+not_null_owner count (Some (tree.Named name)) by = shared_stays by
 
 -- ---- shapes
 
@@ -102,7 +103,7 @@ fat_settles (FatShape from) x y is = ap FatShape is
 fat_settles by x y is = ap FatShape (is ∙ by_void y)
 
 thin_settles :
-    (m : Bool) (o p : Owner) (by x y : Shape) → shared_owner p ≡ owner_by o by → settled x ≡ settled_by y (pointee by) →
+    (m : Reach) (o p : Owner) (by x y : Shape) → shared_owner p ≡ owner_by o by → settled x ≡ settled_by y (pointee by) →
     ThinShape m (shared_owner p) (settled x) ≡ settled_by (ThinShape m o y) by
 thin_settles m o p (ThinShape n other from) x y owner is = ap₂ (ThinShape m) owner is
 thin_settles m o p (FatShape from) x y owner is = ap₂ (ThinShape m) owner is
@@ -111,10 +112,12 @@ thin_settles m o p by x y owner is = ap₂ (ThinShape m) owner (is ∙ by_void y
 pointer_settles :
     (sign : Sign) (region : Option RegionName) (by x y : Shape) → settled x ≡ settled_by y (pointee by) →
     settled (signed_shape sign (owner_given (given_to sign region by) (owner_of region)) x) ≡ settled_by (signed_shape sign (owner_of region) y) by
-pointer_settles Nullable region by x y is =
-    thin_settles true (owner_of region) (owner_given (given_to Nullable region by) (owner_of region)) by x y (nullable_owner region by) is
-pointer_settles NotNull region by x y is =
-    thin_settles false (owner_of region) (owner_given (given_to NotNull region by) (owner_of region)) by x y (not_null_owner region by) is
+pointer_settles (Nullable count) region by x y is =
+    thin_settles (MayBeNull count) (owner_of region) (owner_given (given_to (Nullable count) region by) (owner_of region)) by x y
+    (nullable_owner count region by) is
+pointer_settles (NotNull count) region by x y is =
+    thin_settles (NeverNull count) (owner_of region) (owner_given (given_to (NotNull count) region by) (owner_of region)) by x y
+    (not_null_owner count region by) is
 pointer_settles Fat region by x y is = fat_settles by x y is
 
 -- ---- which pointers are unique by that

@@ -7,7 +7,7 @@ use Rattle.cyc_tree.specs.declared.expression.Suffix as code
 use Rattle.source_meaning.specs.Shapes.{Shape, pointee}
 use Rattle.source_meaning.specs.Steps.{World}
 use Rattle.source_lowering.specs.Lowered.{Left, Named, expression_code, left_of, loads_code, offset_code, place_code, pointer_to, reach_code, static_shape, store_to, stores_code, suffix_values, suffixed_code, suffixed_shape}
-use Rattle.source_lowering.specs.Members.{index_code}
+use Rattle.source_lowering.specs.Members.{subscript_code}
 use Rattle.source_lowering.specs.Lowerable.{TakesMembers, TakesSuffixes}
 use Rattle.source_lowering.proofs.expressions.Indices.{TakesIndices}
 use Rattle.core_meaning.specs.Core.{Statement}
@@ -49,7 +49,7 @@ module _ (w : World) (names : List Named) where
       let first = own + length (suffix_values w names others) in
       leads_to others (place_at_once (pointee p.shape))
       (λ d. expression_code w names index d first ++
-      ((pointer (d + 1) ++ loads_code p.shape (d + 1) p.cells p.bytes) ++ index_code w (pointee p.shape) d)) own
+      ((pointer (d + 1) ++ loads_code p.shape (d + 1) p.cells p.bytes) ++ subscript_code w p.shape d)) own
   leads_to (Dot f others) p pointer own = leads_to others (member_place w p f.text) pointer own
   leads_to (Arrow f others) p pointer own =
       leads_to others (member_place w (place_at_once (pointee p.shape)) f.text)
@@ -69,12 +69,12 @@ module _ (w : World) (names : List Named) where
       let i = indices_code w names others d own in
       let e = expression_code w names index (d + m) first in
       let loads : ℕ → List Statement = λ t. loads_code p.shape t p.cells p.bytes in
-      let rest : ℕ → List Statement = λ t. index_code w to t ++ further_code w others (place_at_once to) t in
+      let rest : ℕ → List Statement = λ t. subscript_code w p.shape t ++ further_code w others (place_at_once to) t in
       let up : d + m + 1 ≡ d + suc m = omega arith in
       let down : d + m ≡ d + suc m - 1 = omega arith in
       pointer_is others (place_at_once to)
-      (λ t. expression_code w names index t first ++ ((pointer (t + 1) ++ loads (t + 1)) ++ index_code w to t)) own d
-      ∙ regrouped i e (pointer (d + m + 1)) (loads (d + m + 1)) (index_code w to (d + m)) (further_code w others (place_at_once to) (d + m))
+      (λ t. expression_code w names index t first ++ ((pointer (t + 1) ++ loads (t + 1)) ++ subscript_code w p.shape t)) own d
+      ∙ regrouped i e (pointer (d + m + 1)) (loads (d + m + 1)) (subscript_code w p.shape (d + m)) (further_code w others (place_at_once to) (d + m))
       ∙ ap (λ t. (i ++ e) ++ (pointer t ++ (loads t ++ rest (d + m)))) up
       ∙ ap (λ t. (i ++ e) ++ (pointer (d + suc m) ++ (loads (d + suc m) ++ rest t))) down
   pointer_is (Dot f others) p pointer own d = pointer_is others (member_place w p f.text) pointer own d
@@ -141,11 +141,11 @@ module _ (w : World) (names : List Named) where
         let all = further_code w others (place_at_once to) (d + m) in
         let up : d + m + 1 ≡ d + suc m = omega arith in
         let down : d + m ≡ d + suc m - 1 = omega arith in
-        pointer_is others (place_at_once to) (λ t. expression_code w names index t first ++ (value (t + 1) ++ index_code w to t)) own d
-        ∙ ap (λ x. i ++ x) (append_assoc e (value (d + m + 1) ++ index_code w to (d + m)) all)
-        ∙ sym (append_assoc i e ((value (d + m + 1) ++ index_code w to (d + m)) ++ all))
-        ∙ ap (λ t. (i ++ e) ++ ((value t ++ index_code w to (d + m)) ++ all)) up
-        ∙ ap (λ t. (i ++ e) ++ ((value (d + suc m) ++ index_code w to t) ++ all)) down
+        pointer_is others (place_at_once to) (λ t. expression_code w names index t first ++ (value (t + 1) ++ subscript_code w s t)) own d
+        ∙ ap (λ x. i ++ x) (append_assoc e (value (d + m + 1) ++ subscript_code w s (d + m)) all)
+        ∙ sym (append_assoc i e ((value (d + m + 1) ++ subscript_code w s (d + m)) ++ all))
+        ∙ ap (λ t. (i ++ e) ++ ((value t ++ subscript_code w s (d + m)) ++ all)) up
+        ∙ ap (λ t. (i ++ e) ++ ((value (d + suc m) ++ subscript_code w s t) ++ all)) down
     begun_pointer (OneSuffix.Dot f) rest d = pointer_is (suffixes_of rest) (member_place w (place_at_once s) f.text) pointer own d
     begun_pointer (OneSuffix.Arrow f) rest d =
         pointer_is (suffixes_of rest) (member_place w (place_at_once (pointee s)) f.text) (λ t. value t ++ reach_code w s t) own d
@@ -157,7 +157,7 @@ module _ (w : World) (names : List Named) where
     begun_leads (OneSuffix.Index index) rest =
         let first = own + length (suffix_values w names (suffixes_of rest)) in
         leads_to (suffixes_of rest) (place_at_once (pointee s))
-        (λ t. expression_code w names index t first ++ (value (t + 1) ++ index_code w (pointee s) t)) own
+        (λ t. expression_code w names index t first ++ (value (t + 1) ++ subscript_code w s t)) own
     begun_leads (OneSuffix.Dot f) rest = leads_to (suffixes_of rest) (member_place w (place_at_once s) f.text) pointer own
     begun_leads (OneSuffix.Arrow f) rest =
         leads_to (suffixes_of rest) (member_place w (place_at_once (pointee s)) f.text) (λ t. value t ++ reach_code w s t) own
@@ -211,7 +211,7 @@ module _ (w : World) where
       further_code w (suffixes_of rest) (further_place w (suffixes_of (one ∷ [])) p) (t - indices_in (suffixes_of (one ∷ [])))
   further_one (OneSuffix.Index index) rest p t =
       let loads = loads_code p.shape t p.cells p.bytes in
-      let here = index_code w (pointee p.shape) (t - 1) in
+      let here = subscript_code w p.shape (t - 1) in
       let others = further_code w (suffixes_of rest) (place_at_once (pointee p.shape)) (t - 1) in
       ap (λ x. loads ++ (x ++ others)) (sym (append-nil here)) ∙ sym (append_assoc loads (here ++ []) others)
   further_one (OneSuffix.Dot f) rest p t =

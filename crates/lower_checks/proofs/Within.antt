@@ -27,7 +27,7 @@ small_bytes w shape.Int small = omega arith
 small_bytes w shape.Unsigned small = omega arith
 small_bytes w shape.Char small = omega arith
 small_bytes w shape.Void small = omega arith
-small_bytes w (shape.Thin may_be_null owner to) small = omega arith
+small_bytes w (shape.Thin bound owner to) small = omega arith
 small_bytes w (shape.Address owner signs to) small = omega arith
 small_bytes w (shape.Fat to) small = omega arith
 small_bytes w shape.Handle small = omega arith
@@ -41,7 +41,7 @@ fewer_cells w shape.Int small = omega arith
 fewer_cells w shape.Unsigned small = omega arith
 fewer_cells w shape.Char small = omega arith
 fewer_cells w shape.Void small = omega arith
-fewer_cells w (shape.Thin may_be_null owner to) small = omega arith
+fewer_cells w (shape.Thin bound owner to) small = omega arith
 fewer_cells w (shape.Address owner signs to) small = omega arith
 fewer_cells w (shape.Fat to) small = omega arith
 fewer_cells w shape.Handle small = omega arith
@@ -129,7 +129,7 @@ member_of w shape.Int f small = record { bytes = omega arith; cells = omega arit
 member_of w shape.Unsigned f small = record { bytes = omega arith; cells = omega arith }
 member_of w shape.Char f small = record { bytes = omega arith; cells = omega arith }
 member_of w shape.Void f small = record { bytes = omega arith; cells = omega arith }
-member_of w (shape.Thin may_be_null owner to) f small = record { bytes = omega arith; cells = omega arith }
+member_of w (shape.Thin bound owner to) f small = record { bytes = omega arith; cells = omega arith }
 member_of w (shape.Address owner signs to) f small = record { bytes = omega arith; cells = omega arith }
 member_of w (shape.Fat to) f small = record { bytes = omega arith; cells = omega arith }
 member_of w shape.Handle f small = record { bytes = omega arith; cells = omega arith }

@@ -9,7 +9,7 @@ abbrev pub cell_for : Shape → Option Cell
 cell_for IntShape = Some cell.Word
 cell_for UnsignedShape = Some cell.Word
 cell_for CharShape = Some cell.Byte
-cell_for (ThinShape may_be_null owner to) = Some cell.Pointer
+cell_for (ThinShape bound owner to) = Some cell.Pointer
 cell_for (FatShape to) = Some cell.Fat
 cell_for HandleShape = Some cell.Handle
 cell_for KeyShape = Some cell.Handle

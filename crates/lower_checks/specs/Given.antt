@@ -23,14 +23,14 @@ pointed_given given (p ∷ ps) s = pointed_given given ps (signed_shape p.sign (
 
 -- whether a shape is a unique pointer's
 abbrev pub is_unique : Shape → Bool
-is_unique (ThinShape may_be_null Alone to) = true
+is_unique (ThinShape bound Alone to) = true
 is_unique s = false
 
 -- a pointer that is left open is unique by a unique one
 abbrev pub given_to : Sign → Option RegionName → Shape → Bool
 given_to sign (Some region) by = false
-given_to Nullable None by = is_unique by
-given_to NotNull None by = is_unique by
+given_to (Nullable count) None by = is_unique by
+given_to (NotNull count) None by = is_unique by
 given_to Fat None by = false
 
 abbrev pub is_given : Pointer → Shape → Bool

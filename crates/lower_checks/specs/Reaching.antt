@@ -9,7 +9,7 @@ use Rattle.source_meaning.specs.Places.{struct_parts}
 use Rattle.source_lowering.specs.Layouts.{bytes_before, extent_of}
 use Rattle.source_lowering.specs.Lowered.{Left, Named, expression_code, left_of, loads_code, member_shape, place_code, reach_code, static_shape, suffix_values, suffixed_code}
 use Rattle.source_lowering.specs.Lowerable.{Takes, TakesPlace, TakesSuffixes}
-use Rattle.source_lowering.specs.Members.{index_code}
+use Rattle.source_lowering.specs.Members.{subscript_code}
 use Rattle.core_meaning.specs.Core.{Statement}
 use Rattle.lower_checks.specs.Views.{shape_tree}
 use Rattle.lower_checks.specs.declared.member.Reached.{Reached}
@@ -65,7 +65,7 @@ abbrev pub further_code : World → Suffixes → Place → ℕ → List Statemen
 further_code w NoSuffixes p t = []
 further_code w (Index index others) p t =
     loads_code p.shape t p.cells p.bytes ++
-    (index_code w (pointee p.shape) (t - 1) ++ further_code w others (place_at_once (pointee p.shape)) (t - 1))
+    (subscript_code w p.shape (t - 1) ++ further_code w others (place_at_once (pointee p.shape)) (t - 1))
 further_code w (Dot f others) p t = further_code w others (member_place w p f.text) t
 further_code w (Arrow f others) p t =
     loads_code p.shape t p.cells p.bytes ++
@@ -74,7 +74,7 @@ further_code w (Arrow f others) p t =
 -- the first suffix needs the place of what stands on its left, or its value, in this temporary
 abbrev pub first_code : World → Suffixes → Left → ℕ → List Statement
 first_code w NoSuffixes left t = left.pointer t
-first_code w (Index index others) left t = left.value t ++ index_code w (pointee left.shape) (t - 1)
+first_code w (Index index others) left t = left.value t ++ subscript_code w left.shape (t - 1)
 first_code w (Dot f others) left t = left.pointer t
 first_code w (Arrow f others) left t = left.value t ++ reach_code w left.shape t
 

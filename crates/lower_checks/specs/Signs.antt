@@ -1,6 +1,6 @@
 -- The kinds of pointers around each other, from the outside inwards, and the shape of such pointers.
 use Rattle.std.specs.Prelude.{ℕ, zero, suc, ◌==◌, ◌%◌, ◌/◌, Bool, true, false, List, [], ◌∷◌, ◌++◌}
-use Rattle.source_meaning.specs.Shapes.{Shape, Shared, Alone, ThinShape, FatShape}
+use Rattle.source_meaning.specs.Shapes.{Shape, Shared, Alone, NeverNull, ThinShape, FatShape}
 use Rattle.lower_checks.specs.declared.signs.Pointing.{Pointing}
 use Rattle.lower_checks.specs.declared.signs.Pointing.TheVariants as pointing
 use Rattle.lower_checks.specs.declared.signs.Digits.{Digits}
@@ -44,5 +44,5 @@ signs_of s = digits_signs s.digits ++ rows_signs s.rows.now
 abbrev pub around : List Pointing → Shape → Shape
 around [] s = s
 around (pointing.Fat ∷ others) s = FatShape (around others s)
-around (pointing.Shared ∷ others) s = ThinShape false Shared (around others s)
-around (pointing.Alone ∷ others) s = ThinShape false Alone (around others s)
+around (pointing.Shared ∷ others) s = ThinShape (NeverNull 1) Shared (around others s)
+around (pointing.Alone ∷ others) s = ThinShape (NeverNull 1) Alone (around others s)

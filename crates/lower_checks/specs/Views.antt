@@ -10,6 +10,9 @@ use Rattle.source_meaning.specs.Shapes.{
   UnsignedShape,
   CharShape,
   VoidShape,
+  Reach,
+  MayBeNull,
+  NeverNull,
   ThinShape,
   FatShape,
   HandleShape,
@@ -28,6 +31,8 @@ use Rattle.source_lowering.specs.Lowered as lowered
 use Rattle.source_lowering.specs.Programs as programs
 use Rattle.lower_checks.specs.declared.shape.Shape as code_shape
 use Rattle.lower_checks.specs.declared.shape.Shape.TheVariants as shape
+use Rattle.lower_checks.specs.declared.shape.Reach as code_reach
+use Rattle.lower_checks.specs.declared.shape.Reach.TheVariants as reach_is
 use Rattle.lower_checks.specs.declared.shape.Owner as code_owner
 use Rattle.lower_checks.specs.declared.shape.Owner.TheVariants as owner_is
 use Rattle.lower_checks.specs.declared.shape.Written as code_written
@@ -44,6 +49,10 @@ use Rattle.lower_checks.specs.declared.table.Found as code_found
 use Rattle.lower_checks.specs.declared.table.Text as code_text
 use Rattle.lower_checks.specs.Given.{pointed_given}
 use Rattle.lower_checks.specs.Signs.{around, signs_of}
+
+abbrev pub reach_tree : code_reach.Reach → Reach
+reach_tree (reach_is.MayBeNull count) = MayBeNull count
+reach_tree (reach_is.NeverNull count) = NeverNull count
 
 abbrev pub owner_tree : code_owner.Owner → Owner
 owner_tree owner_is.Shared = Shared
@@ -63,7 +72,7 @@ plain_tree plain.Int = IntShape
 plain_tree plain.Unsigned = UnsignedShape
 plain_tree plain.Char = CharShape
 plain_tree plain.Void = VoidShape
-plain_tree (plain.Thin may_be_null owner to) = ThinShape may_be_null (owner_tree owner) (written_shape to)
+plain_tree (plain.Thin bound owner to) = ThinShape (reach_tree bound) (owner_tree owner) (written_shape to)
 plain_tree (plain.Fat to) = FatShape (written_shape to)
 plain_tree plain.Handle = HandleShape
 plain_tree plain.Key = KeyShape
@@ -80,8 +89,8 @@ shape_tree shape.Int = IntShape
 shape_tree shape.Unsigned = UnsignedShape
 shape_tree shape.Char = CharShape
 shape_tree shape.Void = VoidShape
-shape_tree (shape.Thin may_be_null owner to) = ThinShape may_be_null (owner_tree owner) (written_shape to)
-shape_tree (shape.Address owner signs to) = ThinShape false (owner_tree owner) (around (signs_of signs) (plain_tree to))
+shape_tree (shape.Thin bound owner to) = ThinShape (reach_tree bound) (owner_tree owner) (written_shape to)
+shape_tree (shape.Address owner signs to) = ThinShape (NeverNull 1) (owner_tree owner) (around (signs_of signs) (plain_tree to))
 shape_tree (shape.Fat to) = FatShape (pointee_shape to)
 shape_tree shape.Handle = HandleShape
 shape_tree shape.Key = KeyShape

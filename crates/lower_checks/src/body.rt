@@ -91,17 +91,25 @@ impl<'p> Body<'p> {
         mem::replace(&mut self.code, outer)
     }
 
+    /// A statement alone, as a part.
+    pub fn alone(&mut self, statement: Statement) -> Vec<Statement>
+        ensures stays { Stays self.old self.new }
+        ensures alone { IsSound self.new → map statement_tree result.items ≡ statement_tree statement ∷ [] }
+    {
+        let mut part = Vec::new(self.alloc);
+        match append(&mut part, statement) {
+            Ok(()) => {}
+            Err(_) => self.failed = true,
+        }
+        part
+    }
+
     /// What raises an exception.
     pub fn raising(&mut self, kind: Kind) -> Vec<Statement>
         ensures stays { Stays self.old self.new }
         ensures raising { IsSound self.new → all_of (map statement_tree result.items) ≡ raised kind }
     {
-        let mut raising = Vec::new(self.alloc);
-        match append(&mut raising, Statement::Raise(kind)) {
-            Ok(()) => {}
-            Err(_) => self.failed = true,
-        }
-        raising
+        self.alone(Statement::Raise(kind))
     }
 
     // a choice, as the tree of its parts

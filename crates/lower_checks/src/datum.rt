@@ -1,10 +1,11 @@
 // What a global and a string begin with.
 
-ghost use Rattle.std.specs.Prelude.{◌≡◌, ◌%◌, ◌++◌, ◌∷◌, [], Bool, IfOk, OnOk, option_map};
+ghost use Rattle.std.specs.Prelude.{◌≡◌, ◌%◌, ◌++◌, ◌∷◌, [], IfOk, OnOk, option_map};
 ghost use Rattle.cyc_tree.specs.View.{constant_tree, initial_tree};
 ghost use Rattle.core_meaning.specs.Memory.{Word};
 ghost use Rattle.cyc_core.specs.Trees.{datum_tree};
-ghost use Rattle.source_meaning.specs.Shapes.{Shape as SourceShape, Owner as SourceOwner, IntShape, UnsignedShape, CharShape, ThinShape, FatShape};
+ghost use Rattle.source_meaning.specs.Shapes.{Shape as SourceShape, Owner as SourceOwner, Reach as SourceReach, IntShape, UnsignedShape, CharShape, ThinShape, FatShape};
+ghost use Rattle.source_meaning.specs.Places.{literal_string, own_string};
 ghost use Rattle.source_meaning.specs.Steps.{World};
 ghost use Rattle.source_meaning.specs.Programs.{world_of};
 ghost use Rattle.source_lowering.specs.Programs.{constant_content, datum_of, global_datum, initial_content, string_datum, text_content, text_datum};
@@ -57,10 +58,39 @@ fn initial_word(initial: &Initial) -> Result<u32, LowerFault>
     }
 }
 
+/// A string, if it has so many bytes with its final 0.
+fn text_of_length(found: Option<Text>, length: usize) -> Option<Text>
+    ensures pointer { text_content (option_map text_value result) 0 ≡ text_content (option_map (own_string length) (option_map text_value found)) 0 }
+    ensures bounds { (w : World) (to : SourceShape) →
+        text_datum w (FatShape to) (option_map text_value result) ≡
+        text_datum w (FatShape to) (option_map (own_string length) (option_map text_value found)) }
+{
+    match found {
+        Some(text) => {
+            if text.count as usize == length {
+                Some(text)
+            } else {
+                None
+            }
+        }
+        None => None,
+    }
+}
+
+/// The string of a literal by its place and bytes; none where the one of that place has another length.
+fn literal_text(program: &Table<'_>, at: u32, bytes: &[u8]) -> Option<Text>
+    ensures pointer { text_content (option_map text_value result) 0 ≡ text_content (literal_string (world_of program.now).strings at bytes.now) 0 }
+    ensures bounds { let w = world_of program.now in
+        (to : SourceShape) →
+        text_datum w (FatShape to) (option_map text_value result) ≡ text_datum w (FatShape to) (literal_string w.strings at bytes.now) }
+{
+    text_of_length(program.text_at(at), bytes.len() + 1)
+}
+
 /// A thin pointer to a string's first character; NULL where there is no string.
 fn string_pointer(found: Option<Text>) -> Datum
-    ensures { (w : World) (may_be_null : Bool) (owner : SourceOwner) (to : SourceShape) →
-        datum_tree result ≡ datum_of w (ThinShape may_be_null owner to) (text_content (option_map text_value found) 0) }
+    ensures { (w : World) (bound : SourceReach) (owner : SourceOwner) (to : SourceShape) →
+        datum_tree result ≡ datum_of w (ThinShape bound owner to) (text_content (option_map text_value found) 0) }
 {
     match found {
         Some(text) => Datum::Address(text.object),
@@ -71,24 +101,24 @@ fn string_pointer(found: Option<Text>) -> Datum
 /// A thin pointer that is given a constant: NULL or a string. Refuses a number.
 fn constant_pointer(program: &Table<'_>, constant: &Constant) -> Result<Datum, LowerFault>
     ensures datum { let w = world_of program.now in
-        (may_be_null : Bool) (owner : SourceOwner) (to : SourceShape) → let s = ThinShape may_be_null owner to in
+        (bound : SourceReach) (owner : SourceOwner) (to : SourceShape) → let s = ThinShape bound owner to in
         IfOk result (λ datum. datum_tree datum ≡ datum_of w s (constant_content w (constant_tree constant.now) s)) }
-    ensures taken { (may_be_null : Bool) (owner : SourceOwner) (to : SourceShape) →
-        TakesConstant (ThinShape may_be_null owner to) (constant_tree constant.now) → NeverRefused result }
+    ensures taken { (bound : SourceReach) (owner : SourceOwner) (to : SourceShape) →
+        TakesConstant (ThinShape bound owner to) (constant_tree constant.now) → NeverRefused result }
 {
     match constant {
         Constant::Null(_) => Ok(Datum::Null),
-        Constant::Text(at, _) => Ok(string_pointer(program.text_at(*at))),
+        Constant::Text(at, bytes) => Ok(string_pointer(literal_text(program, *at, bytes))),
         _ => Err(LowerFault::NotTaken),
     }
 }
 
 /// A thin pointer, which is NULL or a string at first. Refuses a number.
 fn pointer_datum(program: &Table<'_>, initial: &Initial) -> Result<Datum, LowerFault>
-    ensures datum { (may_be_null : Bool) (owner : SourceOwner) (to : SourceShape) →
-        IfOk result (λ datum. datum_tree datum ≡ global_datum (world_of program.now) (initial_tree initial.now) (ThinShape may_be_null owner to)) }
-    ensures taken { (may_be_null : Bool) (owner : SourceOwner) (to : SourceShape) →
-        TakesGlobal (ThinShape may_be_null owner to) (initial_tree initial.now) → NeverRefused result }
+    ensures datum { (bound : SourceReach) (owner : SourceOwner) (to : SourceShape) →
+        IfOk result (λ datum. datum_tree datum ≡ global_datum (world_of program.now) (initial_tree initial.now) (ThinShape bound owner to)) }
+    ensures taken { (bound : SourceReach) (owner : SourceOwner) (to : SourceShape) →
+        TakesGlobal (ThinShape bound owner to) (initial_tree initial.now) → NeverRefused result }
 {
     match initial {
         Initial::None | Initial::Array(_) => Ok(Datum::Null),
@@ -113,7 +143,7 @@ fn initial_text(program: &Table<'_>, initial: &Initial) -> Option<Text>
         (to : SourceShape) → global_datum w (initial_tree initial.now) (FatShape to) ≡ text_datum w (FatShape to) (option_map text_value result) }
 {
     match initial {
-        Initial::Constant(Constant::Text(at, _)) => program.text_at(*at),
+        Initial::Constant(Constant::Text(at, bytes)) => literal_text(program, *at, bytes),
         Initial::None
         | Initial::Array(_)
         | Initial::Constant(Constant::Number(_, _, _))

@@ -1,19 +1,23 @@
 // Fat pointers: a pointer to the first element, how many there are, and an index.
 
-ghost use Rattle.std.specs.Prelude.{◌+◌, ◌∷◌, [], map};
+ghost use Rattle.std.specs.Prelude.{◌+◌, ◌∷◌, [], length, map};
 ghost use Rattle.core_meaning.specs.Core as core;
+ghost use Rattle.cyc_words.specs.declared.faults.Kind.TheVariants.{ArrayBounds};
 ghost use Rattle.cyc_core.specs.Trees.{statement_tree};
 ghost use Rattle.source_meaning.specs.Programs.{world_of};
 ghost use Rattle.source_lowering.specs.Lowered.{all_of, count_code, fat_code, reach_code, to_fat_code, to_thin_code};
-ghost use Rattle.source_lowering.specs.Pieces.{bounds_code, element_code, reached_code};
+ghost use Rattle.source_lowering.specs.Pieces.{bounds_code, element_code, raised, reached_code};
+ghost use Rattle.source_lowering.specs.Layouts.{extent_of};
 ghost use Rattle.source_lowering.specs.Members.{index_code};
+ghost use Rattle.source_lowering.specs.Operators.{enough_code};
+ghost use Rattle.source_meaning.specs.Conversions.{cells_of};
 ghost use Rattle.lower_checks.specs.Room.{HasRoom};
-ghost use Rattle.lower_checks.specs.Views.{shape_tree};
+ghost use Rattle.lower_checks.specs.Views.{reach_tree, shape_tree};
 ghost use Rattle.lower_checks.specs.Writing.{Emits};
 
 use crate::body::Body;
 use crate::names::behind;
-use crate::shape::Shape;
+use crate::shape::{Reach, Shape};
 use crate::sizes::{count, extent};
 use crate::table::Table;
 use crate::values::{lower_check, lower_null};
@@ -32,6 +36,24 @@ pub fn lower_bounds(body: &mut Body<'_>, pointer: Temporary, count: u32)
     body.operation(Operation::Constant(index, 0));
 }
 
+/// Appends what leaves a pointer in a temporary, moved by as many elements of a shape as an index says, in another one.
+pub fn lower_moved(
+    program: &Table<'_>,
+    element: &Shape<'_>,
+    body: &mut Body<'_>,
+    to: Temporary,
+    pointer: Temporary,
+    index: Temporary,
+)
+    ensures { let w = world_of program.now in
+        let s = shape_tree element.now in
+        Emits body.old body.new (core.Do (core.Element to.0 pointer.0 index.0 (length (cells_of w s)) (extent_of w s).size) ∷ []) }
+{
+    let cells = count(program, *element);
+    let size = extent(program, *element).size;
+    body.operation(Operation::Element(to, pointer, index, cells, size));
+}
+
 /// Appends what follows the comparison of a fat pointer's index with its count, in the temporary of the count: where the index isn't
 /// below it, something else, and else a temporary gets the element.
 fn lower_reached(
@@ -48,10 +70,8 @@ fn lower_reached(
 {
     let below = behind(pointer, 1);
     let index = behind(pointer, 2);
-    let cells = count(program, *element);
-    let size = extent(program, *element).size;
     body.branch(below, Vec::new(body.alloc), otherwise);
-    body.operation(Operation::Element(to, pointer, index, cells, size));
+    lower_moved(program, element, body, to, pointer, index);
 }
 
 /// Appends the comparison of a fat pointer's index with its count, which comes into the count's temporary.
@@ -139,45 +159,113 @@ pub fn lower_fat(body: &mut Body<'_>, operator: Operator, pointer: Temporary)
     }
 }
 
-/// Appends what makes a fat pointer of a thin one of a shape: it has one element, and NULL none.
+/// Appends what makes a fat pointer of a thin one of a bound that may be NULL: it has so many elements, and NULL none.
+fn lower_counted(body: &mut Body<'_>, pointer: Temporary, count: u32)
+    requires room { HasRoom pointer.0 2 }
+    ensures { Emits body.old body.new
+        (core.If pointer.0 (all_of (core.Do (core.Constant (pointer.0 + 1) count) ∷ [])) (all_of (core.Do (core.Constant (pointer.0 + 1) 0) ∷ []))
+        ∷ core.Do (core.Constant (pointer.0 + 2) 0) ∷ []) }
+{
+    let at = behind(pointer, 1);
+    let index = behind(pointer, 2);
+    let these = body.alone(Statement::Do(Operation::Constant(at, count)));
+    let those = body.alone(Statement::Do(Operation::Constant(at, 0)));
+    body.branch(pointer, these, those);
+    body.operation(Operation::Constant(index, 0));
+}
+
+/// Appends what makes a fat pointer of a thin one of a shape: it has as many elements as its bound says, and NULL none.
 pub fn lower_to_fat(body: &mut Body<'_>, from: &Shape<'_>, pointer: Temporary)
     requires room { HasRoom pointer.0 2 }
     ensures { Emits body.old body.new (to_fat_code (shape_tree from.now) pointer.0) }
 {
     match from {
-        Shape::Thin(true, _, _) => {
-            let count = behind(pointer, 1);
-            let index = behind(pointer, 2);
-            body.operation(Operation::IsNull(count, pointer));
-            body.operation(Operation::Constant(index, 1));
-            body.operation(Operation::Apply(Binary::Xor, count, index, count));
-            body.operation(Operation::Constant(index, 0));
+        Shape::Thin(bound, _, _) => {
+            let count = bound.count();
+            match bound {
+                Reach::MayBeNull(_) => lower_counted(body, pointer, count),
+                Reach::NeverNull(_) => lower_bounds(body, pointer, count),
+            }
         }
-        Shape::Thin(false, _, _) | Shape::Address(_, _, _) => lower_bounds(body, pointer, 1),
+        Shape::Address(_, _, _) => lower_bounds(body, pointer, 1),
         _ => {}
     }
 }
 
-/// Appends what makes a thin pointer to a shape of a fat one. NULL stays NULL, or raises where the thin one is never NULL; the element of
-/// another one has to be there.
+/// Appends what raises where a fat pointer's index isn't below its count, or fewer elements than so many are left from there on.
+fn lower_remaining(body: &mut Body<'_>, pointer: Temporary, least: u32)
+    requires room { HasRoom pointer.0 3 }
+    ensures { let d = pointer.0 in
+        Emits body.old body.new
+        (core.Do (core.Apply core.LessUnsigned (d + 3) (d + 2) (d + 1)) ∷ core.If (d + 3) core.NoStatements (raised ArrayBounds)
+        ∷ core.Do (core.Apply core.Subtract (d + 1) (d + 1) (d + 2)) ∷ core.Do (core.Constant (d + 3) least)
+        ∷ core.Do (core.Apply core.LessUnsigned (d + 1) (d + 1) (d + 3)) ∷ core.If (d + 1) (raised ArrayBounds) core.NoStatements ∷ []) }
+{
+    let count = behind(pointer, 1);
+    let index = behind(pointer, 2);
+    let free = behind(pointer, 3);
+    body.operation(Operation::Apply(Binary::LessUnsigned, free, index, count));
+    body.raise_unless(free, Kind::ArrayBounds);
+    body.operation(Operation::Apply(Binary::Subtract, count, count, index));
+    body.operation(Operation::Constant(free, least));
+    body.operation(Operation::Apply(Binary::LessUnsigned, count, count, free));
+    let bounds = body.raising(Kind::ArrayBounds);
+    body.branch(count, bounds, Vec::new(body.alloc));
+}
+
+/// Appends what leaves a pointer to the element of a shape to which a fat pointer leads that isn't NULL; raises where fewer elements than
+/// so many are left from there on.
+fn lower_enough(
+    program: &Table<'_>,
+    element: &Shape<'_>,
+    body: &mut Body<'_>,
+    pointer: Temporary,
+    least: u32,
+)
+    requires room { HasRoom pointer.0 3 }
+    ensures { Emits body.old body.new (enough_code (world_of program.now) least (shape_tree element.now) pointer.0) }
+{
+    let index = behind(pointer, 2);
+    lower_remaining(body, pointer, least);
+    lower_moved(program, element, body, pointer, pointer, index);
+}
+
+/// Appends the same where a fat pointer isn't NULL, which stays as it is.
+fn lower_unless_null(
+    program: &Table<'_>,
+    element: &Shape<'_>,
+    body: &mut Body<'_>,
+    pointer: Temporary,
+    least: u32,
+)
+    requires room { HasRoom pointer.0 3 }
+    ensures { Emits body.old body.new
+        (core.If pointer.0 (all_of (enough_code (world_of program.now) least (shape_tree element.now) pointer.0)) core.NoStatements ∷ []) }
+{
+    let outer = body.begin();
+    lower_enough(program, element, body, pointer, least);
+    let these = body.end(outer);
+    body.branch(pointer, these, Vec::new(body.alloc));
+}
+
+/// Appends what makes a thin pointer of a bound to a shape of a fat one. NULL stays NULL, or raises where the thin one is never NULL; as
+/// many elements as the bound says have to be there.
 pub fn lower_to_thin(
     program: &Table<'_>,
-    may_be_null: bool,
+    bound: Reach,
     element: &Shape<'_>,
     body: &mut Body<'_>,
     pointer: Temporary,
 )
-    requires room { HasRoom pointer.0 2 }
-    ensures { Emits body.old body.new (to_thin_code (world_of program.now) may_be_null (shape_tree element.now) pointer.0) }
+    requires room { HasRoom pointer.0 3 }
+    ensures { Emits body.old body.new (to_thin_code (world_of program.now) (reach_tree bound) (shape_tree element.now) pointer.0) }
 {
-    if may_be_null {
-        let outer = body.begin();
-        lower_below(body, pointer);
-        let bounds = body.raising(Kind::ArrayBounds);
-        lower_reached(program, element, body, pointer, pointer, bounds);
-        let these = body.end(outer);
-        body.branch(pointer, these, Vec::new(body.alloc));
-    } else {
-        lower_element(program, element, body, pointer, pointer);
+    let least = bound.count();
+    match bound {
+        Reach::MayBeNull(_) => lower_unless_null(program, element, body, pointer, least),
+        Reach::NeverNull(_) => {
+            body.raise_unless(pointer, Kind::NullException);
+            lower_enough(program, element, body, pointer, least);
+        }
     }
 }

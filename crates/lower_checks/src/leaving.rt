@@ -201,7 +201,7 @@ pub fn lower_return<'p>(
     around: RegionsAround,
     opened: &[bool],
 )
-    requires room { HasRoom around.all (2 + room (expression_tree value.now)) }
+    requires room { HasRoom around.all (3 + room (expression_tree value.now)) }
     requires taken { IsSound body.old → Takes (world_in scope.now) (names_in scope.now) (expression_tree value.now) }
     ensures writes { let w = world_in scope.now in
         let names = names_in scope.now in

@@ -45,6 +45,7 @@ mod simple;
 mod sizes;
 mod statement;
 mod stored;
+mod subscript;
 mod switch;
 mod table;
 mod text;

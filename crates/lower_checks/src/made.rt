@@ -1,9 +1,9 @@
 // What `new` and `rnew` make.
 
-ghost use Rattle.std.specs.Prelude.{◌≡◌, ◌+◌, [], false};
+ghost use Rattle.std.specs.Prelude.{◌≡◌, ◌+◌, []};
 ghost use Rattle.cyc_tree.specs.View.{expression_tree, made_tree};
 ghost use Rattle.source_meaning.specs.Memory.{is_alone};
-ghost use Rattle.source_meaning.specs.Shapes.{ThinShape};
+ghost use Rattle.source_meaning.specs.Shapes.{NeverNull, ThinShape};
 ghost use Rattle.source_meaning.specs.Programs.{world_of};
 ghost use Rattle.source_lowering.specs.Lowered.{
   expression_code,
@@ -114,7 +114,7 @@ fn lower_one<'p>(
         (expression_code w names e (to.0 + 1) number))
         (values_by (static_shape w names e) (whole_values w names e) (expression_values w names e)) }
     ensures shape { IsSound body.new →
-        shape_tree result ≡ ThinShape false (owner_tree owner) (static_shape (world_in scope.now) (names_in scope.now) (expression_tree value.entry.now)) }
+        shape_tree result ≡ ThinShape (NeverNull 1) (owner_tree owner) (static_shape (world_in scope.now) (names_in scope.now) (expression_tree value.entry.now)) }
 {
     let next = behind(to, 1);
     let shape = body.known(shape_of(scope, value));

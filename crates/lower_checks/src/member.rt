@@ -20,12 +20,13 @@ ghost use Rattle.lower_checks.specs.Within.{AreSmall, AreWithin, IsWithin};
 ghost use Rattle.lower_checks.specs.Writing.{Emits, IsSound, Stays};
 
 use crate::body::Body;
-use crate::fat::{lower_index, lower_reach};
+use crate::fat::lower_reach;
 use crate::fault::LowerFault;
 use crate::layouts::rounded;
 use crate::scope::Scope;
 use crate::shape::Shape;
 use crate::sizes::{count, extent};
+use crate::subscript::lower_subscripted;
 use crate::table::Table;
 use crate::words::lower_loads;
 use cyc_core::{Operation, Temporary};
@@ -218,14 +219,13 @@ fn follow_one<'p>(
         }
         Suffix::Index(_) => {
             lower_loads(body, reached, pointer);
-            let element = reached.shape.pointee();
-            lower_index(
+            lower_subscripted(
                 scope.program,
-                &element,
+                &reached.shape,
                 body,
                 Temporary(pointer.0.saturating_sub(1)),
             );
-            Reached::at_once(element)
+            Reached::at_once(reached.shape.pointee())
         }
     }
 }

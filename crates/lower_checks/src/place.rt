@@ -37,12 +37,13 @@ ghost use Rattle.lower_checks.specs.Writing.{IsSound, Writes, next_of};
 
 use crate::body::Body;
 use crate::expression::lower_expression;
-use crate::fat::{lower_index, lower_reach};
+use crate::fat::lower_reach;
 use crate::member::{Reached, follow, lower_arrow, lower_dot, lower_pointed, reached_in};
 use crate::names::behind;
 use crate::scope::Scope;
 use crate::shape::Shape;
 use crate::shaped::shape_of;
+use crate::subscript::lower_subscripted;
 use crate::variable::{lower_address, lower_named};
 use crate::words::lower_stores;
 use cyc_core::Temporary;
@@ -254,14 +255,13 @@ fn lower_first<'p>(
         }
         Suffix::Index(_) => {
             let shape = lower_expression(scope, primary, body, to);
-            let element = shape.pointee();
-            lower_index(
+            lower_subscripted(
                 scope.program,
-                &element,
+                &shape,
                 body,
                 Temporary(to.0.saturating_sub(1)),
             );
-            Reached::at_once(element)
+            Reached::at_once(shape.pointee())
         }
     }
 }

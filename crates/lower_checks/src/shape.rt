@@ -1,9 +1,9 @@
 // Shapes, and what depends on them alone.
 
-ghost use Rattle.std.specs.Prelude.{◌≡◌, ◌∷◌, List, true, false, IfOk, option_map};
+ghost use Rattle.std.specs.Prelude.{◌≡◌, ◌∷◌, List, IfOk, option_map};
 ghost use Rattle.cyc_tree.specs.View.{base_tree, pointer_tree, region_tree, type_tree};
 ghost use Rattle.source_meaning.specs.Shapes as shapes;
-ghost use Rattle.source_meaning.specs.Shapes.{CharShape, FatShape, ThinShape, VoidShape, Shared, base_shape};
+ghost use Rattle.source_meaning.specs.Shapes.{CharShape, FatShape, MayBeNull, NeverNull, ThinShape, VoidShape, Shared, base_shape, count_of};
 ghost use Rattle.source_meaning.specs.Shapes.{owner_of, pointee, settled, shared_owner, signed_shape, written};
 ghost use Rattle.source_lowering.specs.Lowered.{results_in, width_of};
 ghost use Rattle.source_lowering.specs.Members.{words_in};
@@ -12,7 +12,7 @@ ghost use Rattle.lower_checks.specs.declared.shape.Written.TheVariants.{Pointed}
 ghost use Rattle.lower_checks.specs.Given.{owner_given};
 ghost use Rattle.lower_checks.specs.Signs.{around, signs_of};
 ghost use Rattle.lower_checks.specs.Room.{HasRoom};
-ghost use Rattle.lower_checks.specs.Views.{owner_tree, plain_tree, pointee_shape, shape_tree, written_shape, written_tree};
+ghost use Rattle.lower_checks.specs.Views.{owner_tree, plain_tree, pointee_shape, reach_tree, shape_tree, written_shape, written_tree};
 ghost use Rattle.lower_checks.specs.Refusals.{NeverRefused};
 
 use crate::fault::LowerFault;
@@ -23,6 +23,26 @@ use bumpalo::Bump;
 use cyc_core::{Temporary, Width, Words};
 use cyc_tree::{Base, Pointer, RegionName, Sign, TypeName};
 use std::alloc::Global;
+
+/// To how many elements a thin pointer leads, from where it points on, and whether it may be NULL.
+#[derive(Clone, Copy)]
+pub enum Reach {
+    /// It may be NULL, and leads to so many else.
+    MayBeNull(u32),
+    /// It is never NULL, and leads to so many.
+    NeverNull(u32),
+}
+
+impl Reach {
+    /// To how many elements.
+    pub fn count(self) -> u32
+        ensures { result ≡ count_of (reach_tree self) }
+    {
+        match self {
+            Reach::MayBeNull(count) | Reach::NeverNull(count) => count,
+        }
+    }
+}
 
 /// Whether what a pointer leads to is owned by it alone.
 #[derive(Clone, Copy)]
@@ -36,7 +56,7 @@ pub enum Owner {
 impl Owner {
     /// A pointer to one object, which is never NULL.
     fn pointing(self) -> Pointing
-        ensures { (signs : List Pointing) (s : shapes.Shape) → around (result ∷ signs) s ≡ ThinShape false (owner_tree self) (around signs s) }
+        ensures { (signs : List Pointing) (s : shapes.Shape) → around (result ∷ signs) s ≡ ThinShape (NeverNull 1) (owner_tree self) (around signs s) }
     {
         match self {
             Owner::Shared => Pointing::Shared,
@@ -61,7 +81,7 @@ pub enum Plain<'p> {
     Unsigned,
     Char,
     Void,
-    Thin(bool, Owner, Written<'p>),
+    Thin(Reach, Owner, Written<'p>),
     Fat(Written<'p>),
     Handle,
     Key,
@@ -89,8 +109,8 @@ pub enum Shape<'p> {
     Char,
     /// `void`
     Void,
-    /// A pointer to one object: whether it may be NULL, whether it is unique, and what it leads to.
-    Thin(bool, Owner, Written<'p>),
+    /// A pointer to so many elements: how many, whether it may be NULL, whether it is unique, and what it leads to.
+    Thin(Reach, Owner, Written<'p>),
     /// A pointer to one object as `&`, `new` and `rnew` give it, never NULL: whether it is unique, the pointers that it leads to, one after
     /// the other, and what the last one leads to.
     Address(Owner, Signs<'p>, Plain<'p>),
@@ -140,8 +160,8 @@ fn pointer_shape<'p>(pointer: &Pointer, given: bool, to: Written<'p>) -> Shape<'
 {
     let owner = owner_in(&pointer.region, given);
     match pointer.sign {
-        Sign::Nullable => Shape::Thin(true, owner, to),
-        Sign::NotNull => Shape::Thin(false, owner, to),
+        Sign::Nullable(count) => Shape::Thin(Reach::MayBeNull(count), owner, to),
+        Sign::NotNull(count) => Shape::Thin(Reach::NeverNull(count), owner, to),
         Sign::Fat => Shape::Fat(Pointee::Written(to)),
     }
 }
@@ -179,7 +199,7 @@ impl<'p> Plain<'p> {
             Plain::Unsigned => Shape::Unsigned,
             Plain::Char => Shape::Char,
             Plain::Void => Shape::Void,
-            Plain::Thin(may_be_null, owner, to) => Shape::Thin(may_be_null, owner, to),
+            Plain::Thin(bound, owner, to) => Shape::Thin(bound, owner, to),
             Plain::Fat(to) => Shape::Fat(Pointee::Written(to)),
             Plain::Handle => Shape::Handle,
             Plain::Key => Shape::Key,
@@ -230,9 +250,9 @@ impl<'p> Shape<'p> {
 
     /// The shape of `NULL`.
     pub fn null() -> Shape<'p>
-        ensures { shape_tree result ≡ ThinShape true Shared VoidShape }
+        ensures { shape_tree result ≡ ThinShape (MayBeNull 1) Shared VoidShape }
     {
-        Shape::Thin(true, Owner::Shared, Written::Nothing)
+        Shape::Thin(Reach::MayBeNull(1), Owner::Shared, Written::Nothing)
     }
 
     /// The shape of a string.
@@ -276,7 +296,7 @@ impl<'p> Shape<'p> {
             Shape::Unsigned => Plain::Unsigned,
             Shape::Char => Plain::Char,
             Shape::Void => Plain::Void,
-            Shape::Thin(may_be_null, owner, to) => Plain::Thin(may_be_null, owner, to),
+            Shape::Thin(bound, owner, to) => Plain::Thin(bound, owner, to),
             Shape::Fat(Pointee::Written(to)) => Plain::Fat(to),
             Shape::Handle => Plain::Handle,
             Shape::Key => Plain::Key,
@@ -296,7 +316,7 @@ impl<'p> Shape<'p> {
         arena: &'p Bump,
         owner: Owner,
     ) -> Result<Shape<'p>, LowerFault>
-        ensures address { IfOk result (λ shape. shape_tree shape ≡ ThinShape false (owner_tree owner) (shape_tree self.entry)) }
+        ensures address { IfOk result (λ shape. shape_tree shape ≡ ThinShape (NeverNull 1) (owner_tree owner) (shape_tree self.entry)) }
         ensures taken { NeverRefused result }
     {
         let pointers = self.pointers(alloc, arena)?;

@@ -7,14 +7,14 @@ ghost use Rattle.source_lowering.specs.Lowered.{thinned_code};
 ghost use Rattle.source_lowering.specs.Programs.{first_code};
 ghost use Rattle.source_meaning.specs.Programs.{world_of};
 ghost use Rattle.lower_checks.specs.Room.{HasRoom};
-ghost use Rattle.lower_checks.specs.Views.{shape_tree};
+ghost use Rattle.lower_checks.specs.Views.{reach_tree, shape_tree};
 ghost use Rattle.lower_checks.specs.Writing.{Emits};
 
 use crate::body::Body;
 use crate::fat::{lower_fat, lower_to_fat, lower_to_thin};
 use crate::names::behind;
 use crate::operator::applied;
-use crate::shape::Shape;
+use crate::shape::{Reach, Shape};
 use crate::table::Table;
 use cyc_core::{Binary, Operation, Temporary};
 use cyc_tree::Operator;
@@ -130,7 +130,7 @@ pub fn lower_check(body: &mut Body<'_>, shape: &Shape<'_>, value: Temporary)
     ensures { Emits body.old body.new (check_code (shape_tree shape.now) value.0) }
 {
     match shape {
-        Shape::Thin(true, _, _) => body.raise_unless(value, Kind::NullException),
+        Shape::Thin(Reach::MayBeNull(_), _, _) => body.raise_unless(value, Kind::NullException),
         _ => {}
     }
 }
@@ -140,21 +140,20 @@ pub fn lower_check(body: &mut Body<'_>, shape: &Shape<'_>, value: Temporary)
 fn lower_thinned(
     program: &Table<'_>,
     body: &mut Body<'_>,
-    may_be_null: bool,
+    bound: Reach,
     element: &Shape<'_>,
     from: &Shape<'_>,
     value: Temporary,
 )
-    requires room { HasRoom value.0 2 }
-    ensures { Emits body.old body.new (thinned_code (world_of program.now) may_be_null (shape_tree element.now) (shape_tree from.now) value.0) }
+    requires room { HasRoom value.0 3 }
+    ensures { Emits body.old body.new (thinned_code (world_of program.now) (reach_tree bound) (shape_tree element.now) (shape_tree from.now) value.0) }
 {
     match from {
-        Shape::Fat(_) => lower_to_thin(program, may_be_null, element, body, value),
-        _ => {
-            if !may_be_null {
-                lower_check(body, from, value)
-            }
-        }
+        Shape::Fat(_) => lower_to_thin(program, bound, element, body, value),
+        _ => match bound {
+            Reach::MayBeNull(_) => {}
+            Reach::NeverNull(_) => lower_check(body, from, value),
+        },
     }
 }
 
@@ -166,7 +165,7 @@ pub fn lower_conversion(
     from: &Shape<'_>,
     value: Temporary,
 )
-    requires room { HasRoom value.0 2 }
+    requires room { HasRoom value.0 3 }
     ensures { Emits body.old body.new (conversion_code (world_of program.now) (shape_tree to.now) (shape_tree from.now) value.0) }
 {
     match to {
@@ -174,10 +173,19 @@ pub fn lower_conversion(
             Shape::Char => {}
             _ => body.operation(Operation::Narrow(value, value)),
         },
-        Shape::Thin(may_be_null, _, element) => {
-            lower_thinned(program, body, *may_be_null, &element.shape(), from, value)
+        Shape::Thin(bound, _, element) => {
+            lower_thinned(program, body, *bound, &element.shape(), from, value)
         }
-        Shape::Address(_, _, _) => lower_thinned(program, body, false, &to.pointee(), from, value),
+        Shape::Address(_, _, _) => {
+            lower_thinned(
+                program,
+                body,
+                Reach::NeverNull(1),
+                &to.pointee(),
+                from,
+                value,
+            )
+        }
         Shape::Fat(_) => lower_to_fat(body, from, value),
         _ => {}
     }

@@ -105,7 +105,7 @@ fn lower_word_member(
     body: &mut Body<'_>,
     slot: Slot,
 )
-    requires room { rooms.HasRoom slot.to.0 3 }
+    requires room { rooms.HasRoom slot.to.0 4 }
     requires near { slot.bytes ≤ 4096 }
     ensures { Emits body.old body.new
         (word_member_code (world_of program.now) (shape_tree shape.now) (shape_tree from.now) slot.to.0 slot.cells slot.bytes) }

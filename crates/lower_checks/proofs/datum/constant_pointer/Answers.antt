@@ -1,5 +1,6 @@
 use Rattle.std.proofs.Common.{◌∙◌, ap, sym}
 use Rattle.cyc_tree.specs.View.{constant_tree}
+use Rattle.source_meaning.specs.Places.{literal_string}
 use Rattle.source_meaning.specs.Shapes.{ThinShape}
 use Rattle.source_meaning.specs.Programs.{world_of}
 use Rattle.source_lowering.specs.Programs.{constant_content, datum_of, text_content}
@@ -7,8 +8,9 @@ use Rattle.lower_checks.proofs.datum.constant_pointer.Goals as goal
 
 pub returns-in-Text-clause-datum : goal.returns-in-Text-clause-datum
 returns-in-Text-clause-datum c =
-    λ may_be_null owner to.
+    λ bound owner to.
     let w = world_of c.args.program.now in
-    let s = ThinShape may_be_null owner to in
-    c.string_pointer.ensures w may_be_null owner to ∙ ap (λ z. datum_of w s (text_content z 0)) c.text_at.ensures ∙
-    ap (λ k. datum_of w s (constant_content w (constant_tree k) s)) (sym c.in-Text.is)
+    let s = ThinShape bound owner to in
+    c.string_pointer.ensures w bound owner to ∙ ap (datum_of w s) c.literal_text.ensures.pointer
+    ∙ ap (λ b. datum_of w s (text_content (literal_string w.strings c.in-Text.at b) 0)) c.deref.ensures.value
+    ∙ ap (λ k. datum_of w s (constant_content w (constant_tree k) s)) (sym c.in-Text.is)

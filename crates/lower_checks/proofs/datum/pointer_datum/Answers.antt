@@ -6,6 +6,6 @@ use Rattle.lower_checks.proofs.datum.pointer_datum.Goals as goal
 
 pub returns-in-Constant-clause-taken : goal.returns-in-Constant-clause-taken
 returns-in-Constant-clause-taken c =
-    λ may_be_null owner to takes.
-    c.constant_pointer.ensures.taken may_be_null owner to
-    (subst (λ i. TakesGlobal (ThinShape may_be_null owner to) (initial_tree i)) c.in-Constant.is takes)
+    λ bound owner to takes.
+    c.constant_pointer.ensures.taken bound owner to
+    (subst (λ i. TakesGlobal (ThinShape bound owner to) (initial_tree i)) c.in-Constant.is takes)

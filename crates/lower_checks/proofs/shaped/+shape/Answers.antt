@@ -28,7 +28,7 @@ use Rattle.cyc_tree.specs.Tree.{Expression, MoreLinks}
 use Rattle.cyc_tree.specs.View.{expression_tree, link_tree, links_of, made_tree, suffix_tree, suffixes_of}
 use Rattle.source_meaning.specs.Expressions.{is_unique_region}
 use Rattle.source_meaning.specs.Operators.{operator_shape}
-use Rattle.source_meaning.specs.Shapes.{Shape, FatShape, ThinShape, UnionShape}
+use Rattle.source_meaning.specs.Shapes.{Shape, FatShape, NeverNull, ThinShape, UnionShape}
 use Rattle.source_lowering.specs.Lowered.{
   call_shape,
   linked_shape,
@@ -224,9 +224,9 @@ new_shape-returns-in_ok-shape_of-in-One-clause-shape t c =
     let w = world_in c.args.scope.now in
     let n = names_in c.args.scope.now in
     let o = owner_tree c.args.owner in
-    shaped_as c.address.result (ThinShape false o (shape_tree c.in_ok-shape_of-in-One.field-0)) (new_shape w n o (made_tree c.args.made.now))
+    shaped_as c.address.result (ThinShape (NeverNull 1) o (shape_tree c.in_ok-shape_of-in-One.field-0)) (new_shape w n o (made_tree c.args.made.now))
     c.address.ensures.address
-    (ap (ThinShape false o) (c.in_ok-shape_of-in-One.ensures.shape ∙ ap (λ e. static_shape w n (expression_tree e)) c.deref.ensures)
+    (ap (ThinShape (NeverNull 1) o) (c.in_ok-shape_of-in-One.ensures.shape ∙ ap (λ e. static_shape w n (expression_tree e)) c.deref.ensures)
     ∙ ap (new_shape w n o) (sym (ap made_tree c.in-One.is ∙ one_tree c.in-One.value)))
 
 pub new_shape-returns-in-Array-clause-shape : goal.new_shape-returns-in-Array-clause-shape

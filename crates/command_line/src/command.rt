@@ -4,7 +4,7 @@ ghost use Rattle.std.specs.Prelude.{◌≡◌, ◌≤◌, ◌↔◌, IsSome, IfS
 
 use std::marker::Model;
 
-/// A number of arena pages, 1 to 4,096.
+/// A number of pages, of the arena or of the stack: 1 to 4,096.
 #[derive(Clone, Copy, Debug)]
 pub struct Pages {
     number: u32,
@@ -57,11 +57,13 @@ pub enum Command<'a> {
         input: &'a str,
         output: &'a str,
         pages: Pages,
+        stack_pages: Pages,
     },
     /// Compiles a source and runs it, for at most so many instructions.
     Run {
         input: &'a str,
         pages: Pages,
+        stack_pages: Pages,
         steps: u64,
         shows_ending: bool,
     },

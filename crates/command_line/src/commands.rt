@@ -50,6 +50,13 @@ const PAGES: Choice = Choice {
     takes: Takes::Number(ValueParser::Signed(1, 4096), "1024"),
 };
 
+/// The stack's pages.
+const STACK_PAGES: Choice = Choice {
+    name: "stack-pages",
+    help: "Pages of the stack, of 4,096 bytes: 1 to 4,096",
+    takes: Takes::Number(ValueParser::Signed(1, 4096), "256"),
+};
+
 /// The most instructions.
 const STEPS: Choice = Choice {
     name: "steps",
@@ -91,13 +98,13 @@ pub const COMMANDS: [Words; 6] = [
         name: "compile",
         about: "Writes the image of a source",
         faults: SOURCE_FAULTS,
-        choices: &[SOURCE, OUTPUT, PAGES],
+        choices: &[SOURCE, OUTPUT, PAGES, STACK_PAGES],
     },
     Words {
         name: "run",
         about: "Compiles a source and runs it",
         faults: SOURCE_FAULTS,
-        choices: &[SOURCE, PAGES, STEPS, ENDING],
+        choices: &[SOURCE, PAGES, STACK_PAGES, STEPS, ENDING],
     },
     Words {
         name: "eval",

@@ -35,9 +35,9 @@ What each wants, with a source that has it: cycc explain NAME";
 /// The faults of an image, below the help of the commands that read one.
 pub const IMAGE_FAULTS: &str = "\
 An image is refused for the first of these, written IMAGE: NAME (status 8):
-  Short     under 24 bytes, or fewer than the header speaks of
+  Short     under 24 bytes, or fewer than the header and what it speaks of
   Magic     other first bytes than CYI1
-  Version   another version than 1
+  Version   another version than 1 and 2
   Limit     a length of the code or the data, or a number of pages, out of range
   Entry     an entry that is no word of the code
   Trailing  bytes after the data";

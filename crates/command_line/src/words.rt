@@ -65,19 +65,19 @@ fn parser<'a>(alloc: Global) -> Result<Parser<'a>, AllocError> {
     program(alloc)?.subcommands(commands)
 }
 
-/// The pages of words that have them.
-fn pages_of(matches: &ArgMatches<'_>) -> Option<Pages> {
-    Pages::new(matches.get_one("pages")?)
+/// The pages of words that have them, by the name of the option.
+fn pages_of(matches: &ArgMatches<'_>, name: &str) -> Option<Pages> {
+    Pages::new(matches.get_one(name)?)
 }
 
 /// What `compile` is given.
 fn compile<'a>(input: &'a str, matches: &ArgMatches<'a>) -> Option<Command<'a>> {
     let output = matches.get_str("output")?;
-    let pages = pages_of(matches)?;
     Some(Command::Compile {
         input,
         output,
-        pages,
+        pages: pages_of(matches, "pages")?,
+        stack_pages: pages_of(matches, "stack-pages")?,
     })
 }
 
@@ -88,7 +88,8 @@ fn bounded<'a>(name: &str, input: &'a str, matches: &ArgMatches<'a>) -> Option<C
     match name {
         "run" => Some(Command::Run {
             input,
-            pages: pages_of(matches)?,
+            pages: pages_of(matches, "pages")?,
+            stack_pages: pages_of(matches, "stack-pages")?,
             steps,
             shows_ending,
         }),

@@ -38,22 +38,22 @@ abbrev pub IsChecked : (text : List ℕ) (writer_old writer_new : Option (List �
 IsChecked text writer_old writer_new status = IsAccepted text writer_old writer_new status ⊎ IsRefused (λ fault. IsRefusedFor fault text) status
 
 -- what `compile` says: there is an image exactly where the status is 0, and it is the source's
-abbrev pub IsCompiled : List ℕ → ℕ → Option (List ℕ) → ℕ → Type 0
-IsCompiled text pages (Some bytes) status = IsTextImage text pages bytes × (status ≡ 0)
-IsCompiled text pages None status = IsRefused (λ fault. HasNoImageFor fault text) status
+abbrev pub IsCompiled : (text : List ℕ) (pages stack_pages : ℕ) → Option (List ℕ) → ℕ → Type 0
+IsCompiled text pages stack_pages (Some bytes) status = IsTextImage text pages stack_pages bytes × (status ≡ 0)
+IsCompiled text pages stack_pages None status = IsRefused (λ fault. HasNoImageFor fault text) status
 
 -- a source's run that ended, and the status is the ending's
-pub record HasRun (text : List ℕ) (pages steps : ℕ) (reader_old reader_new writer_old writer_new : Option (List ℕ)) (status : ℕ) : Type 0 where
+pub record HasRun (text : List ℕ) (pages stack_pages steps : ℕ) (reader_old reader_new writer_old writer_new : Option (List ℕ)) (status : ℕ) : Type 0 where
   pub why : Ending
-  pub run : IsTextRun text pages steps why reader_old reader_new writer_old writer_new
+  pub run : IsTextRun text pages stack_pages steps why reader_old reader_new writer_old writer_new
   -- the machine and its store took all their memory before the run
   pub memory : why ≢ ending.HostMemory
   pub shown : status ≡ status_of why
 
 -- what `run` says
-abbrev pub IsRun : (text : List ℕ) (pages steps : ℕ) (reader_old reader_new writer_old writer_new : Option (List ℕ)) → ℕ → Type 0
-IsRun text pages steps reader_old reader_new writer_old writer_new status =
-    HasRun text pages steps reader_old reader_new writer_old writer_new status ⊎ IsRefused (λ fault. HasNoImageFor fault text) status
+abbrev pub IsRun : (text : List ℕ) (pages stack_pages steps : ℕ) (reader_old reader_new writer_old writer_new : Option (List ℕ)) → ℕ → Type 0
+IsRun text pages stack_pages steps reader_old reader_new writer_old writer_new status =
+    HasRun text pages stack_pages steps reader_old reader_new writer_old writer_new status ⊎ IsRefused (λ fault. HasNoImageFor fault text) status
 
 -- a source's evaluation that ended, and the status is the ending's
 pub record HasEvaluated (text : List ℕ) (fuel : ℕ) (reader_old reader_new writer_old writer_new : Option (List ℕ)) (status : ℕ) : Type 0 where

@@ -20,7 +20,7 @@ use std::io::Write;
 const SOURCE_BYTES: u64 = 1048577;
 
 /// The most bytes of an image that are read: one more than an image may have.
-const IMAGE_BYTES: u64 = 2097177;
+const IMAGE_BYTES: u64 = 2097181;
 
 /// The most bytes of a command's file that are read: one more than a text, or an image, may have.
 pub fn longest_file(command: &Command<'_>) -> u64
@@ -59,10 +59,16 @@ pub fn answer<R: Input, W: Output, E: Write>(
         Command::Check { input } => {
             Ok(Answer::plain(checked(alloc, input, file, writer, faults)?))
         }
-        Command::Compile { input, pages, .. } => compiled(alloc, input, pages, file, faults),
+        Command::Compile {
+            input,
+            pages,
+            stack_pages,
+            ..
+        } => compiled(alloc, input, pages, stack_pages, file, faults),
         Command::Run {
             input,
             pages,
+            stack_pages,
             steps,
             shows_ending,
         } => {
@@ -70,6 +76,7 @@ pub fn answer<R: Input, W: Output, E: Write>(
             let limits = Limits {
                 pages: pages.number(),
                 steps,
+                stack_pages: stack_pages.number(),
             };
             Ok(Answer::plain(ran(alloc, told, limits, file, reader, writer, faults)?))
         }

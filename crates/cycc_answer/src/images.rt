@@ -9,6 +9,7 @@ use crate::lines::{Told, ended, printed, unloaded};
 use byteorder::{ByteOrder, LittleEndian};
 use cyc_arena::{PagedStore, PagesFault};
 use cyc_host::GATHERED_BYTES;
+use cyc_image::BLOCK_LIMIT;
 use cycc_driver::{Image, ImageFault, Input, Machine, Output, decode, load, run};
 use rv32_machine::CODE_BASE;
 use std::alloc::{AllocError, Global};
@@ -81,13 +82,17 @@ pub fn dump<W: Output, E: Write>(
     Ok(printed(succeeded, faults))
 }
 
-/// The first line of a dump.
+/// The first line of a dump. It has the stack's pages for version 2 alone, which its longer blocks tell.
 fn header_of(alloc: Global, image: &Image) -> Result<String, AllocError> {
     let entry = image.entry();
     let code = image.code().len();
     let data = image.statics().len();
     let pages = image.pages();
-    format!(in alloc; "entry {entry} code {code} data {data} pages {pages}\n")
+    if image.block_limit() != BLOCK_LIMIT {
+        return format!(in alloc; "entry {entry} code {code} data {data} pages {pages}\n");
+    }
+    let stack = image.stack_pages();
+    format!(in alloc; "entry {entry} code {code} data {data} pages {pages} stack {stack}\n")
 }
 
 /// Prints code a line a word. False where a write failed.

@@ -39,12 +39,13 @@ pub fn compiled<E: Write>(
     alloc: Global,
     input: &str,
     pages: Pages,
+    stack_pages: Pages,
     file: &[u8],
     faults: &mut E,
 ) -> Result<Answer, AllocError>
-    ensures { IfOk result (λ a. IsCompiled file.now pages (option_map (λ bytes. bytes.items) a.image) a.status) }
+    ensures { IfOk result (λ a. IsCompiled file.now pages stack_pages (option_map (λ bytes. bytes.items) a.image) a.status) }
 {
-    match compile(alloc, file, pages.number()) {
+    match compile(alloc, file, pages.number(), stack_pages.number()) {
         Ok(image) => Ok(Answer {
             status: SUCCESS,
             image: Some(image),
@@ -65,7 +66,9 @@ pub fn ran<R: Input, W: Output, E: Write>(
 ) -> Result<u8, AllocError>
     requires some { 1 ≤ limits.pages }
     requires within { limits.pages ≤ 4096 }
-    ensures run { IfOk result (IsRun file.now limits.pages limits.steps
+    requires some_stack { 1 ≤ limits.stack_pages }
+    requires stack_within { limits.stack_pages ≤ 4096 }
+    ensures run { IfOk result (IsRun file.now limits.pages limits.stack_pages limits.steps
         (R.remaining reader.old) (R.remaining reader.new) (W.contents writer.old) (W.contents writer.new)) }
     // a refusal leaves the reader and the writer as they were
     ensures untouched { IfOk result (λ status. status ≡ 8 → (reader.new ≡ reader.old) × (writer.new ≡ writer.old)) }

@@ -8,6 +8,7 @@ use Rattle.cyc_words.specs.Events.{AreBytes, Event, SourceEvent, SourceEnding, R
 use Rattle.cyc_words.proofs.Events.{output_append}
 use Rattle.cyc_tree.specs.Tree.{Program}
 use Rattle.source_meaning.specs.Programs.{source, world_of}
+use Rattle.arena_laws.specs.Counts.{block_limit}
 use Rattle.arena_laws.specs.Holdings.{Holdings, fresh}
 use Rattle.rv32_machine.specs.Arrays.{Arrays, IsStart, areas_of, state_of, stack_length}
 use Rattle.rv32_machine.specs.State.{State, Areas, Stop, Mode, Runs, Over}
@@ -21,7 +22,8 @@ use Rattle.cycc_driver.specs.Outcome.{WantsRoom, WritesBeginning, WritesAll, End
 use Rattle.exhaustion_proof.specs.Room.{is_refused_after}
 use Rattle.exhaustion_proof.specs.Laws.{NeverExhausted, ExhaustedAt}
 use Rattle.exhaustion_proof.proofs.Exhausted.{exhaustion_is_exact}
-use Rattle.cycc_driver.proofs.Longer.{same_state, same_events, same_exact, runs_before}
+use Rattle.cycc_driver.proofs.Longer.{same_state, same_events, same_exact}
+use Rattle.cycc_driver.proofs.EnoughSteps.{ends_with_enough}
 use Rattle.cycc_driver.proofs.Exhaustions.{bytes_and, meaning_grows, room_as, ends_at, stopped_before}
 use Rattle.core_lines.proofs.memory.Whole.{cut_begins}
 
@@ -107,11 +109,12 @@ runs_on n r steps count end starts at =
     (cases_lt 0 steps)
 
 -- a run of the image of a text, from its start on, over a store whose bytes are 0
-pub text_run : (text bytes : List ℕ) (pages steps : ℕ) (why : Ending) (made : IsTextImage text pages bytes) (arena : ℕ → ℕ)
-    (start : Arrays) → ((at : ℕ) → arena at ≡ 0) → IsStart made.parts (fresh pages) arena start → (end : State) → {reader_old reader_new writer_old writer_new : Option (List ℕ)}
+pub text_run : (text bytes : List ℕ) (pages stack_pages steps : ℕ) (why : Ending) (made : IsTextImage text pages stack_pages bytes) (arena : ℕ → ℕ)
+    (start : Arrays) → ((at : ℕ) → arena at ≡ 0) → IsStart made.parts (fresh pages) arena start → (end : State)
+    → {reader_old reader_new writer_old writer_new : Option (List ℕ)}
     → IsHosted why (areas_of start) steps (state_of start) end reader_old reader_new writer_old writer_new
-    → IsTextRun text pages steps why reader_old reader_new writer_old writer_new
-text_run text bytes pages steps why made arena start blank starts end {reader_old} {reader_new} {writer_old} {writer_new} hosted =
+    → IsTextRun text pages stack_pages steps why reader_old reader_new writer_old writer_new
+text_run text bytes pages stack_pages steps why made arena start blank starts end {reader_old} {reader_new} {writer_old} {writer_new} hosted =
     let n = areas_of start in
     let s = state_of start in
     let h = hosted in
@@ -126,18 +129,16 @@ text_run text bytes pages steps why made arena start blank starts end {reader_ol
     let stays : why ≡ ending.StepLimit → (run_steps n h.count r).state.mode ≡ Runs = λ same. runs_on n r steps h.count end starts.runs (at_limit same) in
     let bound = frame_bound_of (world_of made.program) in
     let page_count : n.pages ≡ pages = ap (λ (k : Holdings). k.pages) starts.held in
-    let stack_count : n.stack ≡ stack_length = starts.stack in
+    let stack_count : n.stack ≡ stack_length stack_pages = starts.stack ∙ ap stack_length made.stack_as_asked in
     let is_fresh : s.holdings ≡ fresh n.pages = starts.held ∙ ap fresh (sym page_count) in
+    let limit_is : n.block_limit ≡ block_limit = starts.block_limit ∙ made.blocks in
     let exact : (more : List ℕ) → AreBytes more → NeverExhausted bound n s (h.input ++ more) (meaning_of made.program (h.input ++ more))
     × ExhaustedAt bound n s (h.input ++ more) (meaning_of made.program (h.input ++ more)) = λ more bytes.
-    exhaustion_is_exact bound n s (h.input ++ more) (meaning_of made.program (h.input ++ more)) is_fresh (meaning_grows made.program (h.input ++ more))
+    exhaustion_is_exact bound n s (h.input ++ more) (meaning_of made.program (h.input ++ more)) is_fresh limit_is (meaning_grows made.program (h.input ++ more))
     (made.implemented arena start small with_its (h.input ++ more) (bytes_and h.input more h.bytes bytes)) in
     record {
-      program = made.program;
-      accepted = made.accepted;
-      parts = made.parts;
-      as_asked = made.as_asked;
-      implemented = made.implemented;
+      bytes = bytes;
+      image = made;
       arena = arena;
       blank = blank;
       start = start;
@@ -146,18 +147,21 @@ text_run text bytes pages steps why made arena start blank starts end {reader_ol
       hosted = hosted;
       goes_on = λ same. ap (λ (x : State). x.mode) (at_limit same).0 ∙ stays same;
       ends = ends n made.program h.input (run_steps n h.count r) agrees.0 writer_old writer_new why steps h.count end agrees.1 h.ends h.written;
-      limit = λ more none fuel count over reached within is_limit.
+      limit = λ more none fuel count over reached within.
           let longer = from s (h.input ++ more) h.answers in
           let same = same_state n h.count s h.input h.answers more none in
-          let later : steps < count = runs_before n count steps longer (meaning_of made.program (h.input ++ more)) fuel over (reached h.answers)
-          (ap (λ k. (run_steps n k longer).state.mode) (sym (at_limit is_limit).1) ∙ ap (λ (x : State). x.mode) same ∙ stays is_limit) in
-          omega (arith, later, within);
+          ends_with_enough n longer made.program (h.input ++ more) fuel count writer_old writer_new over (reached h.answers) why h.count
+          (λ stop is. ap (λ (x : State). x.mode) same ∙ ends_at n why steps h.count (run_steps n h.count r) end h.ends stop is)
+          (λ is_limit. (omega (arith, within, (at_limit is_limit).1), ap (λ (x : State). x.mode) same ∙ stays is_limit))
+          (subst (λ (es : List Event). Written why writer_old writer_new (output es)) (sym (same_events n h.count s h.input h.answers more none)) h.written);
       roomy = λ more bytes none room is_exhausted.
           let longer = from s (h.input ++ more) h.answers in
           let law = exact more bytes in
           let at : EndsAs ending.Exhausted n steps h.count (run_steps n h.count r) end =
           subst (λ (w : Ending). EndsAs w n steps h.count (run_steps n h.count r) end) is_exhausted h.ends in
-          law.0 (λ fuel. room_as bound pages stack_length n.pages n.stack (source made.program (h.input ++ more) fuel).events page_count stack_count (room fuel))
+          law.0
+          (λ fuel. room_as bound pages (stack_length stack_pages) n.pages n.stack (source made.program (h.input ++ more) fuel).events page_count stack_count
+          (room fuel))
           h.answers h.count (same_exact n h.count s h.input h.answers more none h.exact)
           (ap (λ (x : State). x.mode) (same_state n h.count s h.input h.answers more none) ∙ at.1);
       short = λ more bytes none fuel before e rest split room refused enough reached within.
@@ -165,7 +169,8 @@ text_run text bytes pages steps why made arena start blank starts end {reader_ol
           let law = exact more bytes in
           let same = same_state n h.count s h.input h.answers more none in
           stopped_before n steps enough longer before writer_old writer_new within
-          (λ count less exactly. law.1 fuel before e rest split (room_as bound pages stack_length n.pages n.stack before page_count stack_count room)
+          (λ count less exactly. law.1 fuel before e rest split
+          (room_as bound pages (stack_length stack_pages) n.pages n.stack before page_count stack_count room)
           (ap (λ k. is_refused_after k (visible before) e) page_count ∙ refused) enough reached h.answers count less exactly)
           why h.count (same_exact n h.count s h.input h.answers more none h.exact)
           (λ stop is. ap (λ (x : State). x.mode) same ∙ ends_at n why steps h.count (run_steps n h.count r) end h.ends stop is)

@@ -39,19 +39,19 @@ room_as bound pages stack n m events a b room =
 exact_beyond : (n : Areas) (count more : ℕ) (r : Run) (why : Stop) → (run_steps n count r).state.mode ≡ Over why → AreExact n count r → AreExact n (count + more) r
 exact_beyond n count more r why over exact = λ k less. ⊎_elim (λ under. exact k under) (λ within. there k within) (cases_lt k count)
   where
-    there : (k : ℕ) → count ≤ k → IsShortage (asked_at n (run_steps n k r).state) (run_steps n k r).state.holdings
+    there : (k : ℕ) → count ≤ k → IsShortage n (asked_at n (run_steps n k r).state) (run_steps n k r).state.holdings
         (step n ((run_steps n k r).answers 0) (run_steps n k r).state).shown
     there k within =
         let parts : count + (k - count) ≡ k = omega (arith, within) in
         let same = ap (λ j. run_steps n j r) (sym parts) ∙ run_more n count (k - count) r ∙ over_steps n (k - count) (run_steps n count r) why over in
         let mode : (run_steps n k r).state.mode ≡ Over why = ap (λ (x : Run). x.state.mode) same ∙ over in
-        subst (λ (o : Mode). IsShortage (asked_in o n (run_steps n k r).state) (run_steps n k r).state.holdings
+        subst (λ (o : Mode). IsShortage n (asked_in o n (run_steps n k r).state) (run_steps n k r).state.holdings
         (step n ((run_steps n k r).answers 0) (run_steps n k r).state).shown) (sym mode) tt
 
 -- ---- how a run that is long enough was stopped
 
 -- what an ending says of the stop that the machine is at
-abbrev ending_stop : Ending → Stop → Type 0
+abbrev pub ending_stop : Ending → Stop → Type 0
 ending_stop (ending.Ended status) stop = stop ≡ Stop.Ended (word status)
 ending_stop (ending.Raised kind) stop = stop ≡ Stop.Raised kind
 ending_stop ending.Exhausted stop = stop ≡ Stop.Exhausted

@@ -1,6 +1,6 @@
 -- From the layers to the whole: an image of a program's placed code and data does what the program does.
 use Rattle.std.specs.Prelude.{slice_index, nat_eq, nat_le, if◌then◌else◌}
-use Rattle.std.proofs.Common.{◌≡◌, ℕ, ◌+◌, ◌^◌, ◌≤◌, ◌<◌, Bool, true, false, List, length, refl, sym, ap, ◌∙◌, subst, arith}
+use Rattle.std.proofs.Common.{◌≡◌, ℕ, ◌+◌, ◌*◌, ◌%◌, ◌^◌, ◌≤◌, ◌<◌, Bool, true, false, List, length, refl, sym, ap, ◌∙◌, subst, arith}
 use Rattle.std.proofs.lemmas.Bool.{leb-true, leb-false}
 use Rattle.arena_laws.specs.Holdings.{Holdings, fresh}
 use Rattle.compile_proof.proofs.AcceptedDo.{accepted_do}
@@ -12,10 +12,10 @@ use Rattle.core_lines.specs.Statics.{data_bytes}
 use Rattle.core_lines.proofs.Images.{IsFirst, begins_as, data_length}
 use Rattle.rv32_layout.specs.Holding.{IsCodeOf}
 use Rattle.rv32_layout.specs.Placed.{AreInstructions}
-use Rattle.cyc_image.specs.Format.{Contents, Fits, IsImage, code_limit, data_limit}
+use Rattle.cyc_image.specs.Format.{Contents, Fits, IsImage, First, Second, code_limit, data_limit, stack_page_limit, second_block_limit}
 use Rattle.cyc_tree.specs.Tree.{Program}
 use Rattle.rv32_machine.specs.State.{stack_base}
-use Rattle.rv32_machine.specs.Arrays.{Arrays, IsStart, areas_of, state_of, first_register, stack_length}
+use Rattle.rv32_machine.specs.Arrays.{Arrays, IsStart, areas_of, state_of, first_register, stack_length, longest_stack}
 use Rattle.compile_proof.proofs.Joined.{never_stuck}
 use Rattle.source_meaning.specs.Programs.{unions_of}
 use Rattle.source_lowering.specs.Programs.{program_code}
@@ -35,27 +35,39 @@ pub record AreLayers (program : Program) (code statics : List ℕ) : Type 0 wher
   pub statics_are : statics ≡ data_bytes (data_offsets (program_code program).data_objects) 0 (program_code program).data_objects
 
 -- each register begins as a word: the stack's end, or 0
-first_small : (register : ℕ) → first_register register < 2 ^ 32
-first_small register = by (nat_eq register 2)
+first_small : (pages register : ℕ) → pages ≤ stack_page_limit → first_register pages register < 2 ^ 32
+first_small pages register within = by (nat_eq register 2)
   where
-    by : (c : Bool) → (if c then stack_base + stack_length else 0) < 2 ^ 32
-    by true = omega arith
+    by : (c : Bool) → (if c then stack_base + stack_length pages else 0) < 2 ^ 32
+    by true = omega (arith, within)
     by false = omega arith
 
-register_small : (parts : Contents) (holdings : Holdings) (arena : ℕ → ℕ) (start : Arrays) → IsStart parts holdings arena start
+register_small : (parts : Contents) (holdings : Holdings) (arena : ℕ → ℕ) (start : Arrays) → IsStart parts holdings arena start → Fits parts
     → (register : ℕ) → slice_index start.registers register < 2 ^ 32
-register_small parts holdings arena start starts register = by (nat_le 32 register) refl
+register_small parts holdings arena start starts fits register = by (nat_le 32 register) refl
   where
     by : (c : Bool) → nat_le 32 register ≡ c → slice_index start.registers register < 2 ^ 32
     by true e = let none = starts.no_more register (leb-true 32 register e) in omega (arith, none)
     by false e =
         let below = leb-false 32 register e in
         let first = starts.registers register (omega (arith, below)) in
-        let small = first_small register in
+        let small = first_small parts.stack_pages register fits.stack_within in
         omega (arith, first, small)
 
+-- the stack is of whole pages, and no longer than the longest
+stack_within : (parts : Contents) (holdings : Holdings) (arena : ℕ → ℕ) (start : Arrays) → IsStart parts holdings arena start → Fits parts
+    → length start.stack ≤ longest_stack
+stack_within parts holdings arena start starts fits =
+    let long : length start.stack ≡ 4096 * parts.stack_pages = starts.stack in
+    let within : parts.stack_pages ≤ 4096 = fits.stack_within in
+    omega (arith, long, within)
+
+stack_whole : (parts : Contents) (holdings : Holdings) (arena : ℕ → ℕ) (start : Arrays) → IsStart parts holdings arena start
+    → length start.stack % 4096 ≡ 0
+stack_whole parts holdings arena start starts = let long : length start.stack ≡ 4096 * parts.stack_pages = starts.stack in omega (arith, long)
+
 module _ (program : Program) (code statics : List ℕ) (parts : Contents) (layers : AreLayers program code statics) (is_code : parts.code ≡ code)
-    (is_statics : parts.statics ≡ statics) (from_first : parts.entry ≡ 0) (fits : Fits parts) where
+    (is_statics : parts.statics ≡ statics) (from_first : parts.entry ≡ 0) (blocks : parts.block_limit ≡ second_block_limit) (fits : Fits parts) where
   first_machine : (arena : ℕ → ℕ) (start : Arrays) → ((at : ℕ) → arena at < 256) → IsStart parts (fresh parts.pages) arena start → IsFirst start
   first_machine arena start small starts =
       let objects = (program_code program).data_objects in
@@ -64,11 +76,13 @@ module _ (program : Program) (code statics : List ℕ) (parts : Contents) (layer
       record {
         runs = starts.runs;
         at_first = starts.at_entry ∙ omega (arith, from_first);
-        pointer = starts.registers 2 (omega arith);
-        words = register_small parts (fresh parts.pages) arena start starts;
+        pointer = starts.registers 2 (omega arith) ∙ ap (λ k. stack_base + k) (sym starts.stack);
+        words = register_small parts (fresh parts.pages) arena start starts fits;
         code_within = let within = fits.code_within in omega (arith, within, ap (λ (bs : List ℕ). length bs) starts.code);
         statics_within = let within = fits.data_within in omega (arith, within, ap (λ (bs : List ℕ). length bs) starts.statics);
-        stack_whole = starts.stack;
+        stack_within = stack_within parts (fresh parts.pages) arena start starts fits;
+        stack_pages = stack_whole parts (fresh parts.pages) arena start starts;
+        blocks = starts.block_limit ∙ blocks;
         pages_within = let within = fits.pages_within in omega (arith, within, pages);
         small = memory_small start.holdings.pages start.arena start.code start.statics start.stack
             (subst (λ (a : ℕ → ℕ). (at : ℕ) → a at < 256) (sym starts.arena_bytes) small)
@@ -107,15 +121,24 @@ data_fit program accepted few large =
     let long = data_length (data_offsets objects) 0 objects does.plain in
     omega (arith, within, long, large)
 
+-- what is an image is within the limits
+image_fits : (bytes : List ℕ) (parts : Contents) → IsImage bytes parts → Fits parts
+image_fits bytes parts (First laid stack limit fits) = fits
+image_fits bytes parts (Second laid limit fits) = fits
+
 -- the image of an accepted text
-pub text_image : (text bytes code statics : List ℕ) (program : Program) (parts : Contents) (pages : ℕ) → IsAcceptedAs text program → IsImage bytes parts
-    → parts.code ≡ code → parts.statics ≡ statics → parts.entry ≡ 0 → parts.pages ≡ pages
-    → ((p : Contents) → p.code ≡ code → p.statics ≡ statics → p.entry ≡ 0 → Fits p → IsImplementedBy program p) → IsTextImage text pages bytes
-text_image text bytes code statics program parts pages accepted image is_code is_statics from_first as_asked does = record {
+pub text_image : (text bytes code statics : List ℕ) (program : Program) (parts : Contents) (pages stack_pages : ℕ) → IsAcceptedAs text program
+    → IsImage bytes parts → parts.code ≡ code → parts.statics ≡ statics → parts.entry ≡ 0 → parts.pages ≡ pages → parts.stack_pages ≡ stack_pages
+    → parts.block_limit ≡ second_block_limit
+    → ((p : Contents) → p.code ≡ code → p.statics ≡ statics → p.entry ≡ 0 → p.block_limit ≡ second_block_limit → Fits p → IsImplementedBy program p)
+    → IsTextImage text pages stack_pages bytes
+text_image text bytes code statics program parts pages stack_pages accepted image is_code is_statics from_first as_asked stack_as_asked blocks does = record {
   program = program;
   accepted = accepted;
   parts = parts;
   image = image;
   as_asked = as_asked;
-  implemented = does parts is_code is_statics from_first image.fits;
+  stack_as_asked = stack_as_asked;
+  blocks = blocks;
+  implemented = does parts is_code is_statics from_first blocks (image_fits bytes parts image);
 }

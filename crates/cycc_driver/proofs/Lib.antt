@@ -1,5 +1,6 @@
 pub mod Small
 pub mod Longer
+pub mod EnoughSteps
 pub mod Implementing
 pub mod Breaking
 pub mod Refusing

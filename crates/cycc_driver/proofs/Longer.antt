@@ -90,7 +90,7 @@ same_exact n count s input answers more none exact = λ k less.
     (subst IsTold (sym (run_more n k (count - k) (from s input answers)) ∙ ap (λ j. run_steps n j (from s input answers)) (whole k less))
     (told_then n (count - k) (run_steps n k (from s input answers)) told)) in
     let same = same_seen (λ (r : Run). (r.state, r.answers)) n k s input answers more (λ r. refl) told_later in
-    subst (λ (p : State × (ℕ → Answer)). IsShortage (asked_at n p.0) p.0.holdings (step n (p.1 0) p.0).shown) (sym same) (exact k less)
+    subst (λ (p : State × (ℕ → Answer)). IsShortage n (asked_at n p.0) p.0.holdings (step n (p.1 0) p.0).shown) (sym same) (exact k less)
   where
     whole : (k : ℕ) → k < count → k + (count - k) ≡ count
     whole k less = omega (arith, less)
@@ -119,20 +119,7 @@ ends_over (SourceEnding.Raised kind) meant r over ends runs = absurd (cc (ends.0
 ends_over SourceEnding.Running meant r over ends runs = over
 ends_over SourceEnding.Stuck meant r over ends runs = over
 
-reached_is_over : (r : Run) (m : Meaning) (fuel : ℕ) → IsOver (m.ending fuel) → Reaches r m fuel → (why : Stop) × (r.state.mode ≡ Over why)
+pub reached_is_over : (r : Run) (m : Meaning) (fuel : ℕ) → IsOver (m.ending fuel) → Reaches r m fuel → (why : Stop) × (r.state.mode ≡ Over why)
 reached_is_over r m fuel over (inl cut) = ended_is_over r.state.mode r.refused (cut_is_over (ending_of r) cut)
 reached_is_over r m fuel over (inr (begins, ends)) =
     ended_is_over r.state.mode r.refused (ends_over (m.ending fuel) (visible (m.events fuel)) r over ends)
-
--- so one that runs after so many steps has ended in none of them
-pub runs_before : (n : Areas) (count steps : ℕ) (r : Run) (m : Meaning) (fuel : ℕ) → IsOver (m.ending fuel) → Reaches (run_steps n count r) m fuel
-    → (run_steps n steps r).state.mode ≡ Runs → steps < count
-runs_before n count steps r m fuel over reached runs = ⊎_elim (λ less. less) (λ within. absurd (still within)) (cases_lt steps count)
-  where
-    still : count ≤ steps → ⊥
-    still within =
-        let o = reached_is_over (run_steps n count r) m fuel over reached in
-        let later = ap (λ k. run_steps n k r) (sym (add-sub_of_le within)) ∙ run_more n count (steps - count) r
-        ∙ over_steps n (steps - count) (run_steps n count r) o.0 o.1 in
-        let same : Runs ≡ Over o.0 = sym runs ∙ ap (λ (x : Run). x.state.mode) later ∙ o.1 in
-        absurd (cc)

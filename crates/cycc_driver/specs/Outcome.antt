@@ -3,9 +3,10 @@ use Rattle.std.specs.Prelude.{◌≡◌, ◌≢◌, ℕ, ◌<◌, ◌≤◌, ◌
 use Rattle.std.specs.Io.KnownBytes.{Appends}
 use Rattle.cyc_words.specs.Words.{word}
 use Rattle.cyc_words.specs.Events.{AreBytes, Event, SourceEvent, Visible, ByteRead, SourceEnding, Request, output, visible}
+use Rattle.step_trees.specs.Trees.{Outcome}
 use Rattle.cyc_tree.specs.Tree.{Program}
 use Rattle.source_meaning.specs.Programs.{source, world_of}
-use Rattle.cyc_image.specs.Format.{Contents, IsImage, code_limit}
+use Rattle.cyc_image.specs.Format.{Contents, IsImage, code_limit, second_block_limit}
 use Rattle.rv32_machine.specs.Arrays.{Arrays, IsStart, areas_of, state_of, stack_length}
 use Rattle.arena_laws.specs.Holdings.{fresh}
 use Rattle.arena_laws.specs.Lawful.{Answer}
@@ -28,13 +29,15 @@ IsImplementedBy program parts =
     (arena : ℕ → ℕ) (start : Arrays) → ((at : ℕ) → arena at < 256) → IsStart parts (fresh parts.pages) arena start → (input : List ℕ) → AreBytes input
     → Implements (frame_bound_of (world_of program)) (areas_of start) (state_of start) input (meaning_of program input)
 
--- The image of an accepted text, with so many pages: it implements the program that the text spells.
-pub record IsTextImage (text : List ℕ) (pages : ℕ) (bytes : List ℕ) : Type 0 where
+-- The image of an accepted text, with so many pages of the arena and of the stack: it is of version 2, and implements the program that the text spells.
+pub record IsTextImage (text : List ℕ) (pages stack_pages : ℕ) (bytes : List ℕ) : Type 0 where
   pub program : Program
   pub accepted : IsAcceptedAs text program
   pub parts : Contents
   pub image : IsImage bytes parts
   pub as_asked : parts.pages ≡ pages
+  pub stack_as_asked : parts.stack_pages ≡ stack_pages
+  pub blocks : parts.block_limit ≡ second_block_limit
   pub implemented : IsImplementedBy program parts
 
 -- what `compile` puts into an image as its code: whole words, some, and no more than the limit
@@ -106,44 +109,54 @@ IsStoppedBefore (ending.Raised kind) shown old new = ⊥
 IsStoppedBefore (ending.Fault fault) shown old new = ⊥
 IsStoppedBefore ending.StepLimit shown old new = ⊥
 
--- A run between a reader and a writer of at most so many steps, of the image of an accepted text from its start on.
-pub record IsTextRun (text : List ℕ) (pages steps : ℕ) (why : Ending) (reader_old reader_new writer_old writer_new : Option (List ℕ)) : Type 0 where
-  pub program : Program
-  pub accepted : IsAcceptedAs text program
-  pub parts : Contents
-  pub as_asked : parts.pages ≡ pages
-  pub implemented : IsImplementedBy program parts
+-- The run ended as a program's outcome does that is over, when all its output was written; or it was exhausted, or a device failed it, or the host's memory.
+abbrev pub EndsOrIsStopped : Ending → Outcome SourceEvent → Option (List ℕ) → Option (List ℕ) → Type 0
+EndsOrIsStopped (ending.Ended status) meant old new = (meant.ending ≡ SourceEnding.Ended (word status)) × Appends old new (output (visible meant.events))
+EndsOrIsStopped (ending.Raised kind) meant old new = (meant.ending ≡ SourceEnding.Raised kind) × Appends old new (output (visible meant.events))
+EndsOrIsStopped ending.Exhausted meant old new = Unit {0}
+EndsOrIsStopped ending.HostMemory meant old new = Unit {0}
+EndsOrIsStopped ending.ReadFault meant old new = Unit {0}
+EndsOrIsStopped ending.WriteFault meant old new = Unit {0}
+EndsOrIsStopped ending.StepLimit meant old new = ⊥
+EndsOrIsStopped (ending.Fault fault) meant old new = ⊥
+
+-- A run between a reader and a writer of at most so many steps, of the image of an accepted text, as `compile` gives it, from its start on.
+pub record IsTextRun (text : List ℕ) (pages stack_pages steps : ℕ) (why : Ending) (reader_old reader_new writer_old writer_new : Option (List ℕ)) : Type 0 where
+  pub bytes : List ℕ
+  pub image : IsTextImage text pages stack_pages bytes
   -- the store was just made, and all its bytes are 0
   pub arena : ℕ → ℕ
   pub blank : (at : ℕ) → arena at ≡ 0
   pub start : Arrays
-  pub starts : IsStart parts (fresh pages) arena start
+  pub starts : IsStart image.parts (fresh pages) arena start
   pub end : State
   pub hosted : IsHosted why (areas_of start) steps (state_of start) end reader_old reader_new writer_old writer_new
   -- at the step limit, also after no step, the machine runs on
   pub goes_on : why ≡ ending.StepLimit → end.mode ≡ Runs
   -- what is written, on the bytes that the reader gave, is the program's, and the ending is its
-  pub ends : EndsAsProgram why (areas_of start) program hosted.input writer_old writer_new
-  -- The step limit isn't what ended it where enough steps were given: where, on some input that begins with what was read, and is that where its
-  -- end was told, the image comes to the program's end by a number of steps up to the limit, whatever the store answers.
+  pub ends : EndsAsProgram why (areas_of start) image.program hosted.input writer_old writer_new
+  -- Where enough steps were given, the run ends as the program does, with its output, or is exhausted, or a device failed it: where, on some input that begins
+  -- with what was read, and is that where its end was told, the image comes to the program's end by a number of steps up to the limit, whatever the store
+  -- answers.
   pub limit : (more : List ℕ)
       → (Contains (run_steps (areas_of start) hosted.count (from (state_of start) hosted.input hosted.answers)).events (ByteRead None) → more ≡ [])
-      → (fuel count : ℕ) → IsOver (source program (hosted.input ++ more) fuel).ending
+      → (fuel count : ℕ) → IsOver (source image.program (hosted.input ++ more) fuel).ending
       → ((answers : ℕ → Answer) →
-      Reaches (run_steps (areas_of start) count (from (state_of start) (hosted.input ++ more) answers)) (meaning_of program (hosted.input ++ more)) fuel)
-      → count ≤ steps → why ≢ ending.StepLimit
+      Reaches (run_steps (areas_of start) count (from (state_of start) (hosted.input ++ more) answers)) (meaning_of image.program (hosted.input ++ more)) fuel)
+      → count ≤ steps → EndsOrIsStopped why (source image.program (hosted.input ++ more) fuel) writer_old writer_new
   -- No run is exhausted where, on some input that begins with what was read, and is that where its end was told, there are pages for each of the program's
   -- events and stack for each of its calls.
   pub roomy : (more : List ℕ) → AreBytes more
       → (Contains (run_steps (areas_of start) hosted.count (from (state_of start) hosted.input hosted.answers)).events (ByteRead None) → more ≡ [])
-      → ((fuel : ℕ) → HasRoom (frames_of program) pages stack_length (source program (hosted.input ++ more) fuel).events) → why ≢ ending.Exhausted
+      → ((fuel : ℕ) → HasRoom (frames_of image.program) pages (stack_length stack_pages) (source image.program (hosted.input ++ more) fuel).events) → why ≢ ending.Exhausted
   -- Where the first event that wants more is a request that the counts of pages refuse, and enough steps were given for it whatever the store answers, the run
   -- is exhausted, when just the output up to that request was written, if no device failed it.
   pub short : (more : List ℕ) → AreBytes more
       → (Contains (run_steps (areas_of start) hosted.count (from (state_of start) hosted.input hosted.answers)).events (ByteRead None) → more ≡ [])
       → (fuel : ℕ) (before : List SourceEvent) (e : Event) (rest : List SourceEvent)
-      → (source program (hosted.input ++ more) fuel).events ≡ before ++ Visible e ∷ rest → HasRoom (frames_of program) pages stack_length before
+      → (source image.program (hosted.input ++ more) fuel).events ≡ before ++ Visible e ∷ rest
+      → HasRoom (frames_of image.program) pages (stack_length stack_pages) before
       → is_refused_after pages (visible before) e ≡ true → (enough : ℕ)
       → ((answers : ℕ → Answer) →
-      Reaches (run_steps (areas_of start) enough (from (state_of start) (hosted.input ++ more) answers)) (meaning_of program (hosted.input ++ more)) fuel)
+      Reaches (run_steps (areas_of start) enough (from (state_of start) (hosted.input ++ more) answers)) (meaning_of image.program (hosted.input ++ more)) fuel)
       → enough ≤ steps → IsStoppedBefore why (visible before) writer_old writer_new

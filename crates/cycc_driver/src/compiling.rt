@@ -2,7 +2,7 @@
 
 ghost use Rattle.std.specs.Prelude.{◌≡◌, ◌⊎◌, ◌<◌, ◌≤◌, ◌^◌, ℕ, List, Some, length, IfOk, IfErr};
 ghost use Rattle.cyc_tree.specs.Tree.{Program as Tree};
-ghost use Rattle.cyc_image.specs.Format.{Contents, Fits, code_limit, data_limit};
+ghost use Rattle.cyc_image.specs.Format.{Contents, Fits, code_limit, data_limit, second_block_limit};
 ghost use Rattle.cyc_core.specs.Trees.{program_tree};
 ghost use Rattle.source_meaning.specs.Programs.{unions_of};
 ghost use Rattle.source_lowering.specs.Programs.{program_code};
@@ -157,7 +157,7 @@ fn lay_out(alloc: Global, checked: &Checked) -> Result<Placed, CompileFault>
     ensures data { IfOk result (λ placed. length placed.data.items ≤ data_limit) }
     // an image with this code and these data implements the program
     ensures implemented { IfOk result (λ placed. (parts : Contents) → parts.code ≡ placed.code.items → parts.statics ≡ placed.data.items
-        → parts.entry ≡ 0 → Fits parts → IsImplementedBy checked.now parts) }
+        → parts.entry ≡ 0 → parts.block_limit ≡ second_block_limit → Fits parts → IsImplementedBy checked.now parts) }
     ensures refused { IfErr result (λ fault. HasNoCodeFor fault checked.now) }
 {
     let core = core_of(alloc, checked)?;
@@ -181,15 +181,22 @@ fn lay_out(alloc: Global, checked: &Checked) -> Result<Placed, CompileFault>
     }
 }
 
-/// The image of an accepted text, for a machine whose arena has so many pages of 4,096 bytes.
+/// The image of an accepted text, of version 2, for a machine whose arena and whose stack have so many pages of 4,096 bytes.
 ///
 /// Refuses what `check` refuses, with the same fault; a text whose code is over 1,048,576 bytes, with
 /// `TooLarge` at line 1, column 1; and with `Memory` where no host memory is left.
-pub fn compile(alloc: Global, text: &[u8], pages: u32) -> Result<Vec<u8>, CompileFault>
+pub fn compile(
+    alloc: Global,
+    text: &[u8],
+    pages: u32,
+    stack_pages: u32,
+) -> Result<Vec<u8>, CompileFault>
     requires some { 1 ≤ pages }
     requires within { pages ≤ 4096 }
+    requires some_stack { 1 ≤ stack_pages }
+    requires stack_within { stack_pages ≤ 4096 }
     // the image implements the program that the text spells
-    ensures implemented { IfOk result (λ bytes. IsTextImage text.now pages bytes.items) }
+    ensures implemented { IfOk result (λ bytes. IsTextImage text.now pages stack_pages bytes.items) }
     // the fault is that of `check`, or the code of an accepted text is too large
     ensures refused { IfErr result (λ fault. HasNoImageFor fault text.now) }
 {
@@ -206,6 +213,7 @@ pub fn compile(alloc: Global, text: &[u8], pages: u32) -> Result<Vec<u8>, Compil
         code: &placed.code,
         statics: &placed.data,
         pages,
+        stack_pages,
     };
     Ok(write(alloc, &parts)?)
 }

@@ -14,11 +14,15 @@ use cyc_words::{Input, Output};
 use rv32_machine::Machine;
 use std::alloc::Global;
 
-/// What a run may use: the arena's pages, of 4,096 bytes each, and the number of steps.
+/// What a run may use.
 #[derive(Clone, Copy)]
 pub struct Limits {
+    /// The pages of the arena, of 4,096 bytes each.
     pub pages: u32,
+    /// The number of steps.
     pub steps: u64,
+    /// The pages of the stack, of 4,096 bytes each.
+    pub stack_pages: u32,
 }
 
 /// Compiles a text and runs its image.
@@ -35,8 +39,10 @@ pub fn execute<R: Input, W: Output>(
 ) -> Result<Ending, CompileFault>
     requires some { 1 ≤ limits.pages }
     requires within { limits.pages ≤ 4096 }
+    requires some_stack { 1 ≤ limits.stack_pages }
+    requires stack_within { limits.stack_pages ≤ 4096 }
     // what is written is the program's output on the bytes that the reader gave, and the ending is its; or the run was stopped after a beginning of it
-    ensures run { IfOk result (λ ending. IsTextRun text.now limits.pages limits.steps ending
+    ensures run { IfOk result (λ ending. IsTextRun text.now limits.pages limits.stack_pages limits.steps ending
         (R.remaining reader.old) (R.remaining reader.new) (W.contents writer.old) (W.contents writer.new)) }
     // a run that has begun lacks no host memory
     ensures memory { IfOk result (λ ending. ending ≢ Ending.HostMemory) }
@@ -47,7 +53,7 @@ pub fn execute<R: Input, W: Output>(
     ensures refused { IfErr result (λ fault. HasNoImageFor fault text.now) }
     ensures untouched { IfErr result (λ _. (reader.new ≡ reader.old) × (writer.new ≡ writer.old)) }
 {
-    let bytes = compile(alloc, text, limits.pages)?;
+    let bytes = compile(alloc, text, limits.pages, limits.stack_pages)?;
     let image = match load(alloc, &bytes) {
         Ok(image) => image,
         Err(ImageFault::Memory) => return Err(CompileFault::Memory),

@@ -8,7 +8,8 @@ use Rattle.cycc_answer.proofs.sources.ran.Goals as goal
 pub returns-in-Ok-clause-run : goal.returns-in-Ok-clause-run
 returns-in-Ok-clause-run g c =
     IfOk-weaker c.ended.result (λ (status : ℕ). status ≡ status_of c.in-Ok.ending)
-    (IsRun c.args.file.now c.args.limits.pages c.args.limits.steps (g.R.Read.remaining c.args.reader.now) (g.R.Read.remaining c.execute.new.reader)
+    (IsRun c.args.file.now c.args.limits.pages c.args.limits.stack_pages c.args.limits.steps (g.R.Read.remaining c.args.reader.now)
+    (g.R.Read.remaining c.execute.new.reader)
     (g.W.Write.contents c.args.writer.now) (g.W.Write.contents c.execute.new.writer))
     (λ status shown. inl (record { why = c.in-Ok.ending; run = c.in-Ok.ensures.run; memory = c.in-Ok.ensures.memory; shown = shown })) c.ended.ensures
 

@@ -39,7 +39,7 @@ returns-in-Ok-data-clause-code c =
     is_code c.in-Ok.code.bytes.items placed.words (omega (arith, some)) (omega (arith, placed.within))
 
 pub returns-in-Ok-data-clause-implemented : goal.returns-in-Ok-data-clause-implemented
-returns-in-Ok-data-clause-implemented c = λ parts is_code is_statics from_first fits.
+returns-in-Ok-data-clause-implemented c = λ parts is_code is_statics from_first blocks fits.
     let made = c.in_ok-core.ensures in
     let are = subst (λ (p : core.Program). AreLinesOf p c.in_ok-labelled.labelled.lines) made.code c.in_ok-labelled.ensures.lines in
     let placed = c.in-Ok.ensures in
@@ -49,7 +49,7 @@ returns-in-Ok-data-clause-implemented c = λ parts is_code is_statics from_first
       words = placed.words;
       has = placed.has are.once;
       statics_are = c.in-Ok-data.ensures.bytes ∙ ap (λ (p : core.Program). data_bytes (data_offsets p.data_objects) 0 p.data_objects) made.code;
-    } is_code is_statics from_first fits made.accepted made.few
+    } is_code is_statics from_first blocks fits made.accepted made.few
 
 pub unreachable-requires : goal.unreachable-requires
 unreachable-requires c =

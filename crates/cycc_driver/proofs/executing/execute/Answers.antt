@@ -24,7 +24,7 @@ returns-clause-run g c =
     subst (λ parts. IsStart parts held arena start) same c.in-Ok-new-2.ensures.starts in
     let starts : IsStart made.parts (fresh c.args.limits.pages) arena start =
     subst (λ (h : Holdings). IsStart made.parts h arena start) c.in-Ok-new.ensures.made with_parts in
-    text_run c.args.text.now c.in_ok-bytes.bytes.items c.args.limits.pages c.args.limits.steps c.run.result made arena start blank starts (state_of end)
+    text_run c.args.text.now c.in_ok-bytes.bytes.items c.args.limits.pages c.args.limits.stack_pages c.args.limits.steps c.run.result made arena start blank starts (state_of end)
     c.run.ensures.hosted
 
 pub returns-clause-memory : goal.returns-clause-memory

@@ -79,10 +79,11 @@ pub fn run_over_plain(
     match *command {
         Command::Run {
             pages,
+            stack_pages,
             steps,
             shows_ending,
             ..
-        } => match compile(alloc, source, pages.number()) {
+        } => match compile(alloc, source, pages.number(), stack_pages.number()) {
             Ok(bytes) => bytes_run(alloc, &bytes, given, Told::of_run(steps, shows_ending)),
             Err(_) => Ok(None),
         },

@@ -198,9 +198,9 @@ fn expect_rows(alloc: Global, table: &str) -> Result<(), Fail> {
 // are the block, the `return`, the sum, the call, the argument, and as unary expressions `-2` and `2`. Places. An `else` belongs to the nearest `if`.
 // `Id . Id (` makes a union value, and else a `.` is a suffix.
 const PARTS: &str = "\
-pointers$char *`H *@fat`U @`r ?*@thin*@notnull x = -5u;$[Pointer { sign: Nullable, region: Some(Heap(6)) }, Pointer { sign: Fat, region: Some(Unique(14)) \
-}, Pointer { sign: NotNull, region: Some(Named(Name { at: 18, text: [114] })) }, Pointer { sign: Fat, region: None }, Pointer { sign: Nullable, region: \
-None }, Pointer { sign: NotNull, region: None }]
+pointers$char *`H *@fat`U @`r ?*@thin*@notnull x = -5u;$[Pointer { sign: Nullable(1), region: Some(Heap(6)) }, Pointer { sign: Fat, region: Some(Unique(14)) \
+}, Pointer { sign: NotNull(1), region: Some(Named(Name { at: 18, text: [114] })) }, Pointer { sign: Fat, region: None }, Pointer { sign: Nullable(1), region: \
+None }, Pointer { sign: NotNull(1), region: None }]
 signature$int f() { }$0 None 0 10
 signature$int f(void) { }$0 None 0 14
 signature$int f(void v) { }$1 None 0 16

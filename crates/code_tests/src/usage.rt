@@ -120,11 +120,12 @@ fn is_so(alloc: Global, row: &str) -> Result<bool, Fail> {
 
 // Words, and the command that they are; what the help of words has to say; a path that is no text, which is shown and marked; and words that are no text.
 const WORDS: &str = r#"command cycc check a.cyc -> Check { input: "a.cyc" }
-command cycc compile a b --pages 7 -> Compile { input: "a", output: "b", pages: Pages { number: 7 } }
-command cycc compile a b -> Compile { input: "a", output: "b", pages: Pages { number: 1024 } }
-command cycc run a -> Run { input: "a", pages: Pages { number: 1024 }, steps: 4294967295, shows_ending: false }
-command cycc run --ending --pages=4096 a --steps 18446744073709551615 -> Run { input: "a", pages: Pages { number: 4096 }, steps: 18446744073709551615, shows_ending: true }
-command cycc run a --pages 1 -> Run { input: "a", pages: Pages { number: 1 }, steps: 4294967295, shows_ending: false }
+command cycc compile a b --pages 7 -> Compile { input: "a", output: "b", pages: Pages { number: 7 }, stack_pages: Pages { number: 256 } }
+command cycc compile a b -> Compile { input: "a", output: "b", pages: Pages { number: 1024 }, stack_pages: Pages { number: 256 } }
+command cycc compile a b --stack-pages=4096 -> Compile { input: "a", output: "b", pages: Pages { number: 1024 }, stack_pages: Pages { number: 4096 } }
+command cycc run a -> Run { input: "a", pages: Pages { number: 1024 }, stack_pages: Pages { number: 256 }, steps: 4294967295, shows_ending: false }
+command cycc run --ending --pages=4096 a --steps 18446744073709551615 -> Run { input: "a", pages: Pages { number: 4096 }, stack_pages: Pages { number: 256 }, steps: 18446744073709551615, shows_ending: true }
+command cycc run a --pages 2 --stack-pages 1 -> Run { input: "a", pages: Pages { number: 2 }, stack_pages: Pages { number: 1 }, steps: 4294967295, shows_ending: false }
 command cycc eval i -> Eval { input: "i", fuel: 4294967295, shows_ending: false }
 command cycc eval i --steps 7 --ending -> Eval { input: "i", fuel: 7, shows_ending: true }
 command cycc exec i --steps 2 -> Exec { input: "i", steps: 2, shows_ending: false }
@@ -138,6 +139,7 @@ help cycc exec --help -> Trailing
 help cycc dump --help -> Magic
 marked cycc check f?.cyc -> f�.cyc
 no_text cycc run a --pages=1?
+no_text cycc run a --stack-pages=1?
 no_text cycc run a --ending?
 no_text cycc check? a b"#;
 

@@ -43,6 +43,7 @@ fn image_of(alloc: Global, words: &str, pages: u32) -> Result<Image, Fail> {
         code: &code,
         statics: DATA,
         pages,
+        stack_pages: 256,
     };
     loaded(alloc, &parts)
 }

@@ -37,6 +37,91 @@ plain 2, paged 2, blocks 2:
 1 region_alloc 4097 BadHandle
 1 region_new 0 Ok
 
+plain 4, paged 4, blocks 4:
+1 region_new 0 Ok
+1 region_alloc 8193 Ok
+1 live 8199 1
+1 live 8200 0
+1 live 12288 0
+1 region_alloc 4096 Ok
+1 region_alloc 1 Full
+1 region_free 0 Ok
+1 live 0 0
+1 region_new 0 Ok
+1 region_alloc 4097 Full
+1 region_alloc 4096 Ok
+1 region_alloc 1 Ok
+
+plain 258, paged 258, blocks 258:
+1 region_new 0 Ok
+1 region_alloc 1048577 Full
+1 region_alloc 4294967295 Full
+1 region_alloc 1048576 Ok
+1 live 1048575 1
+1 load8 0 255
+1 region_alloc 4096 Ok
+1 region_alloc 1 Ok
+1 region_alloc 4096 Full
+1 region_free 0 Ok
+1 live 0 0
+1 region_alloc 4097 BadHandle
+258 region_new 0 Ok
+1 region_new 0 Full
+
+plain 256, paged 256, blocks 256:
+1 region_new 0 Ok
+1 region_alloc 1048576 Full
+1 region_alloc 1044480 Ok
+1 region_alloc 4096 Ok
+1 region_alloc 1 Full
+
+plain 2, paged 2, blocks 2:
+1 region_alloc 8000 Ok
+1 region_alloc 4 Full
+
+plain 3, paged 3, blocks 3:
+1 region_alloc 8000 Ok
+1 region_alloc 4 Ok
+1 region_alloc 4088 Ok
+1 region_alloc 1 Full
+
+plain 3, paged 3, blocks 3:
+1 region_new 0 Ok
+1 region_alloc 4 Ok
+1 region_alloc 8000 Ok
+1 region_alloc 4088 Ok
+1 region_alloc 4 Full
+
+plain 5, paged 5:
+1 key_new 0 Ok
+1 region_alloc 8000 BadHandle
+1 key_open 0 Ok
+2 region_alloc 8000 Ok
+1 region_alloc 4097 Full
+1 key_close 0 Ok
+1 key_free 0 Ok
+1 key_new 0 Ok
+1 key_open 0 Ok
+1 region_alloc 4097 Full
+5 region_alloc 4096 Ok
+1 region_alloc 1 Full
+
+blocks 6:
+1 region_new 0 Ok
+1 region_alloc 12000 Ok
+1 free 0 2
+1 fresh 0 2
+1 region_free 0 Ok
+1 touched 0 Ok
+1 free 0 6
+1 fresh 0 2
+1 unique_alloc 32 Ok
+1 region_new 0 Ok
+1 fresh 0 2
+1 region_alloc 8192 Ok
+1 fresh 0 0
+1 free 0 2
+
 plain 64, paged 64, blocks 64:
 1 region_new 0 Ok
 60 region_alloc 4096 Ok

@@ -4,7 +4,7 @@
 // unique, the first of them also NULL. A number behind a pointer, behind `key:` or behind `union:NAME:` is the level of a region, and without one it is the
 // heap.
 
-use cyc_types::{BaseType, CType, Layer, Member, RegionArguments, RegionId, Tag};
+use cyc_types::{BaseType, CType, Layer, Member, Reach, RegionArguments, RegionId, Tag};
 use smallvec::SmallVec;
 use std::alloc::Global;
 
@@ -21,8 +21,8 @@ fn layer_of(text: &str) -> Option<Layer> {
     let (sign, level) = text.split_at_checked(1)?;
     let region = region_of(level);
     match sign {
-        "*" => Some(Layer::Thin(true, region)),
-        "!" => Some(Layer::Thin(false, region)),
+        "*" => Some(Layer::Thin(Reach::single(true), region)),
+        "!" => Some(Layer::Thin(Reach::single(false), region)),
         "?" => Some(Layer::Fat(region)),
         "^" => Some(Layer::Unique(true)),
         "@" => Some(Layer::Unique(false)),

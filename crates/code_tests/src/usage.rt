@@ -130,7 +130,7 @@ command cycc eval i -> Eval { input: "i", fuel: 4294967295, shows_ending: false 
 command cycc eval i --steps 7 --ending -> Eval { input: "i", fuel: 7, shows_ending: true }
 command cycc exec i --steps 2 -> Exec { input: "i", steps: 2, shows_ending: false }
 command cycc dump i -> Dump { input: "i" }
-help cycc --help -> 9  the words of the command line are out of order
+help cycc --help -> 9  the arguments are wrong
 help cycc check --help -> Outlives
 help cycc compile --help -> TooLarge
 help cycc run --help -> TooDeep

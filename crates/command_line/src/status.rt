@@ -24,7 +24,7 @@ pub const FILE_FAULT: u8 = 6;
 pub const MEMORY: u8 = 7;
 /// The source or the image was refused.
 pub const REFUSED: u8 = 8;
-/// The words of the command line are out of order.
+/// The arguments are wrong.
 pub const USAGE: u8 = 9;
 
 /// The status of words that are no command: `SUCCESS` where help was asked for, `MEMORY` where none is left, else `USAGE`.

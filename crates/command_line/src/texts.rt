@@ -1,7 +1,7 @@
 // What help says below the words of a command.
 
-/// The exit statuses, below the program's help.
-pub const STATUSES: &str = "\
+/// The exit statuses and what a service needs, below the program's help.
+pub const STATUSES_AND_RUNS: &str = "\
 Statuses:
   0  the run ended with 0, or the command succeeded
   1  the run ended with another status
@@ -12,7 +12,11 @@ Statuses:
   6  a file, standard input or standard output failed
   7  the host's memory is used up
   8  the source or the image is refused
-  9  the words of the command line are out of order";
+  9  the arguments are wrong
+
+Runs:
+  Output is written when 4,096 bytes are gathered, before each read, and when the run ends.
+  By default a run stops after 4,294,967,295 steps: a service that has to go on for longer needs --steps.";
 
 /// The faults of a source, below the help of the commands that read one.
 pub const SOURCE_FAULTS: &str = "\

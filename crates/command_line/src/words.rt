@@ -2,7 +2,7 @@
 
 use crate::command::{Command, Pages};
 use crate::commands::{COMMANDS, Choice, Takes, Words};
-use crate::texts::STATUSES;
+use crate::texts::STATUSES_AND_RUNS;
 use clap::builder::ValueParser;
 use clap::error::ErrorKind;
 use clap::{Arg, ArgAction, ArgMatches, Command as Parser, Error};
@@ -54,7 +54,7 @@ fn parsers<'a>(alloc: Global) -> Result<Vec<Parser<'a>>, AllocError> {
 /// The parser of the program's words, without its commands.
 fn program<'a>(alloc: Global) -> Result<Parser<'a>, AllocError> {
     let about = "Checks, compiles and runs a source in a safe C with regions";
-    described(alloc, "cycc", about, STATUSES)
+    described(alloc, "cycc", about, STATUSES_AND_RUNS)
         .subcommand_required(true)
         .bin_name("cycc")
 }

@@ -5,7 +5,7 @@
 #![tactic(auto)]
 
 use command_line::status::{FILE_FAULT, MEMORY, SUCCESS, usage_status};
-use command_line::{Command, command_of, shown, shown_error, words_of};
+use command_line::{Command, command_of, is_same_file, shown, shown_error, words_of};
 use cycc_answer::{Counted, longest_file, printed};
 pub use cycc_answer::{Answer, answer};
 use std::alloc::AllocError;
@@ -32,21 +32,30 @@ fn out_of_memory(rt: &HostRuntime) -> u8 {
     MEMORY
 }
 
-/// What is said where a file can't be read or written, and the status.
-fn file_fault(rt: &HostRuntime, what: &str, path: &str, error: &io::Error) -> u8 {
-    if is_memory(error) {
-        return out_of_memory(rt);
-    }
+/// Says that a file can't be read or written, and answers the status.
+fn refused(rt: &HostRuntime, what: &str, path: &str) -> u8 {
     let path = shown(path);
     let _ = eprintln!(rt; "cannot {what} {path}");
     FILE_FAULT
 }
 
-/// Writes OUT, and answers the status.
-fn written(rt: &HostRuntime, path: &str, image: &[u8]) -> u8 {
-    match fs::write(rt, path, image) {
+/// What is said where a file can't be read or written, and the status.
+fn file_fault(rt: &HostRuntime, what: &str, path: &str, error: &io::Error) -> u8 {
+    if is_memory(error) {
+        out_of_memory(rt)
+    } else {
+        refused(rt, what, path)
+    }
+}
+
+/// Writes OUT, and answers the status. Where OUT is the source's file, nothing is written.
+fn written(rt: &HostRuntime, input: &str, output: &str, image: &[u8]) -> u8 {
+    if is_same_file(rt, input, output) {
+        return refused(rt, "write", output);
+    }
+    match fs::write(rt, output, image) {
         Ok(()) => SUCCESS,
-        Err(error) => file_fault(rt, "write", path, &error),
+        Err(error) => file_fault(rt, "write", output, &error),
     }
 }
 
@@ -67,7 +76,9 @@ fn answered(rt: &HostRuntime, command: &Command<'_>, file: &[u8]) -> u8 {
         return out_of_memory(rt);
     };
     match (&answer.image, command) {
-        (Some(image), Command::Compile { output, .. }) => written(rt, output, image.as_slice()),
+        (Some(image), Command::Compile { input, output, .. }) => {
+            written(rt, input, output, image.as_slice())
+        }
         _ => answer.status,
     }
 }

@@ -8,6 +8,9 @@ use std::time::{Duration, Instant};
 /// The pages of a store.
 const STORE_PAGES: u32 = 4096;
 
+/// The bytes of the longest block.
+const LARGE: u32 = 1048576;
+
 /// A region with 1,000 blocks of 16 bytes, which is freed: whether each call was granted.
 fn fills_a_region<S: BlockStore>(store: &mut S) -> bool {
     let Ok(handle) = store.region_new() else {
@@ -28,42 +31,87 @@ fn makes_a_block<S: BlockStore>(store: &mut S) -> bool {
     }
 }
 
-/// A region of so many pages, which is freed: how long the freeing took, or none where a call was refused.
+/// The nanoseconds of a region: of all its calls, and of its freeing alone.
+#[derive(Clone, Copy)]
+struct Taken {
+    all: u128,
+    freeing: u128,
+}
+
+impl Taken {
+    /// The lesser of each.
+    fn least(self, other: Taken) -> Taken {
+        Taken {
+            all: self.all.min(other.all),
+            freeing: self.freeing.min(other.freeing),
+        }
+    }
+}
+
+/// The blocks of a region: how many, and the bytes of each.
+#[derive(Clone, Copy)]
+struct Blocks {
+    count: u32,
+    bytes: u32,
+}
+
+/// Makes a region with such blocks and frees it: how long that took, or none where a call was refused.
 fn frees_a_region<S: BlockStore>(
     rt: &HostRuntime,
     store: &mut S,
-    pages: u32,
-) -> io::Result<Option<Duration>> {
+    blocks: Blocks,
+) -> io::Result<Option<Taken>> {
+    let start = Instant::now(rt)?;
     let Ok(handle) = store.region_new() else {
         return Ok(None);
     };
-    for _ in 0..pages {
-        if store.region_alloc(handle, 4096).is_err() {
+    for _ in 0..blocks.count {
+        if store.region_alloc(handle, blocks.bytes).is_err() {
             return Ok(None);
         }
     }
-    let start = Instant::now(rt)?;
+    let made = Instant::now(rt)?;
     let freed = store.region_free(handle).is_ok();
-    let taken = start.elapsed(rt)?;
-    Ok(if freed { Some(taken) } else { None })
+    let freeing = made.elapsed(rt)?.as_nanos();
+    let all = start.elapsed(rt)?.as_nanos();
+    Ok(if freed {
+        Some(Taken { all, freeing })
+    } else {
+        None
+    })
 }
 
-/// Frees regions of so many pages: the least time of one, in nanoseconds.
+/// Makes and frees regions with such blocks: the least times of one.
 fn least<S: BlockStore>(
     rt: &HostRuntime,
     store: &mut S,
     times: u32,
-    pages: u32,
-) -> io::Result<Option<u128>> {
-    let mut least = None;
+    blocks: Blocks,
+) -> io::Result<Option<Taken>> {
+    let mut least: Option<Taken> = None;
     for _ in 0..times {
-        let Some(taken) = frees_a_region(rt, store, pages)? else {
+        let Some(taken) = frees_a_region(rt, store, blocks)? else {
             return Ok(None);
         };
-        let taken = taken.as_nanos();
-        least = Some(least.unwrap_or(taken).min(taken));
+        least = Some(least.unwrap_or(taken).least(taken));
     }
     Ok(least)
+}
+
+/// Writes the least nanoseconds of a region with such blocks, of all its calls and of its freeing: whether all calls were granted.
+fn shows_least<S: BlockStore>(
+    rt: &HostRuntime,
+    store: &mut S,
+    times: u32,
+    blocks: Blocks,
+) -> io::Result<bool> {
+    match least(rt, store, times, blocks)? {
+        Some(Taken { all, freeing }) => {
+            println!(rt; "{all} {freeing}")?;
+            Ok(true)
+        }
+        None => Ok(false),
+    }
 }
 
 /// The calls of a loop, so many times, and the pages of a region that is freed.
@@ -88,10 +136,20 @@ fn drive<S: BlockStore>(rt: &HostRuntime, store: &mut S, work: Work<'_>) -> io::
                 granted = makes_a_block(store) && granted;
             }
         }
-        "frees" => match least(rt, store, work.times, work.pages)? {
-            Some(nanoseconds) => println!(rt; "{nanoseconds}")?,
-            None => granted = false,
-        },
+        "frees" => {
+            let blocks = Blocks {
+                count: work.pages,
+                bytes: 4096,
+            };
+            granted = shows_least(rt, store, work.times, blocks)?;
+        }
+        "large" => {
+            let blocks = Blocks {
+                count: 1,
+                bytes: LARGE,
+            };
+            granted = shows_least(rt, store, work.times, blocks)?;
+        }
         _ => {}
     }
     Ok(granted)
@@ -101,7 +159,9 @@ fn drive<S: BlockStore>(rt: &HostRuntime, store: &mut S, work: Work<'_>) -> io::
 ///
 /// STORE is `paged` or `plain`, with 4,096 pages. LOOP is `regions` (a region, 1,000 blocks of 16 bytes, and
 /// the region freed), `blocks` (a unique block of 24 bytes, and that freed), `frees` (a region of so many
-/// PAGES is freed, which alone is timed), or `none`.
+/// PAGES is made and freed), `large` (a region with one block of 1,048,576 bytes, which a store of so many
+/// pages has 15 times), or `none`. Of `frees` and `large` the nanoseconds are written, of a whole region
+/// and of its freeing.
 pub fn makes_calls(rt: &HostRuntime, words: &[String]) -> io::Result<bool> {
     let [store, name, times, pages] = words else {
         return Ok(false);

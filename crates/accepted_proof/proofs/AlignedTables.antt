@@ -225,7 +225,7 @@ module _ (g h : Tables) (k : AreAligned g h) (i : ℕ) where
   initial_same : (c : Initial) (t : Verdict StaticType) → initial_faults (at_item false g i) c t ≡ initial_faults (at_item false h i) c t
   initial_same Initial.Unset t = refl
   initial_same (Initial.Elements n) t = refl
-  initial_same (Initial.Given c) t = ap (λ fs. (faults_of (constant c) ++ fs) ++ string_faults c t) (converted_same (constant c) t)
+  initial_same (Initial.Given c) t = ap (λ fs. (faults_of (constant c) ++ fs) ++ string_faults (constant c) c t) (converted_same (constant c) t)
 
   -- a global has the same faults by both
   pub global_faults_same : (x : tree.Global) → global_faults (at_item false g i) x ≡ global_faults (at_item false h i) x

@@ -21,7 +21,7 @@ use Rattle.source_typing.specs.Declarations.{converted_to}
 use Rattle.source_typing.specs.Converts.{Converts, FatToThin, Fats, Integers, IsInteger, NullToFat, NullToThin, NullToUnique, Same, ThinToFat, Thins, Uniques}
 use Rattle.source_typing.specs.Operators.{string_sized}
 use Rattle.source_typing.specs.Regions.{Region, Regions, TheHeap}
-use Rattle.source_typing.specs.Scope.{Env}
+use Rattle.source_typing.specs.Scope.{Env, value}
 use Rattle.source_typing.specs.Types.{Fat, Handle, Char, Int, Key, Null, StaticType, Struct, Thin, Union, Unique, Unsigned, integer_type, is_integer, shape_of}
 use Rattle.source_typing.specs.Verdicts.{Of, faults_of}
 use Rattle.source_typing.proofs.Converting.{broken_is, conversion_is}
@@ -76,7 +76,7 @@ null_good r at place _ w e = absurd w
 
 -- a string converts to pointers to chars
 text_first : (r : Regions) (t : StaticType) (place : ℕ) (bytes : List ℕ) (u : StaticType) → IsObjectType u → t ≡ Fat TheHeap Char → Converts r t u
-    → string_faults (Constant.Text place bytes) (Of u) ≡ []
+    → string_faults (value place t) (Constant.Text place bytes) (Of u) ≡ []
     → ConstantGood u (Constant.Text place bytes)
 text_first r t place bytes u w h Same f =
     subst (λ (y : StaticType). ConstantGood y (Constant.Text place bytes)) (sym h) (record { first = refl; taken = λ b. tt })
@@ -101,7 +101,8 @@ text_first r t place bytes u w h (ThinToFat o) f = absurd cc
 text_first r t place bytes u w h Uniques f = absurd cc
 
 text_good : (g : Env) (at : ℕ) (bytes : List ℕ) (u : StaticType) (b : Bool) → IsObjectType u
-    → faults_of (string_sized b at) ++ converted_to g (string_sized b at) (Of u) ≡ [] → string_faults (Constant.Text at bytes) (Of u) ≡ [] → ConstantGood u (Constant.Text at bytes)
+    → faults_of (string_sized b at) ++ converted_to g (string_sized b at) (Of u) ≡ []
+    → string_faults (string_sized b at) (Constant.Text at bytes) (Of u) ≡ [] → ConstantGood u (Constant.Text at bytes)
 text_good g at bytes u true w e f =
     text_first g.regions (Fat TheHeap Char) at bytes u w refl
     (conversion_is g.regions (Fat TheHeap Char) u (broken_is at (conversion g.regions (Fat TheHeap Char) u) e)) f
@@ -109,8 +110,8 @@ text_good g at bytes u false w e f = absurd cc
 
 -- ---- all of them
 
-constant_good : (g : Env) (c : Constant) (u : StaticType) → IsObjectType u → faults_of (constant c) ++ converted_to g (constant c) (Of u) ≡ [] → string_faults c (Of u) ≡ []
-    → ConstantGood u c
+constant_good : (g : Env) (c : Constant) (u : StaticType) → IsObjectType u → faults_of (constant c) ++ converted_to g (constant c) (Of u) ≡ []
+    → string_faults (constant c) c (Of u) ≡ [] → ConstantGood u c
 constant_good g (Constant.Number at n suffix) u w e f =
     let i : IsInteger u = from_integer g.regions (number_type n suffix) at u e in
     record {
@@ -150,5 +151,5 @@ pub initial_good : (g : Env) (i : Initial) (u : StaticType) → IsObjectType u �
 initial_good g Initial.Unset u w e = record { first = tt; taken = λ h few. h }
 initial_good g (Initial.Elements n) u w e = record { first = tt; taken = λ h few. (few, h) }
 initial_good g (Initial.Given c) u w e =
-    let q = none_of_both (faults_of (constant c) ++ converted_to g (constant c) (Of u)) (string_faults c (Of u)) e in
+    let q = none_of_both (faults_of (constant c) ++ converted_to g (constant c) (Of u)) (string_faults (constant c) c (Of u)) e in
     let k : ConstantGood u c = constant_good g c u w q.0 q.1 in record { first = k.first; taken = λ h few. k.taken h }

@@ -13,6 +13,7 @@ use Rattle.cyc_types.specs.declared.layer.Layer.{Layer}
 use Rattle.cyc_types.specs.declared.layer.Layer.TheVariants as pointer
 use Rattle.source_typing.specs.Faults.{earliest, fault, test, type_rule}
 use Rattle.source_typing.specs.Globals.{string_faults}
+use Rattle.source_typing.specs.Scope.{Value}
 use Rattle.source_typing.specs.Types.{Char, Fat, Handle, Int, Key, Null, StaticType, Struct, Thin, Union, Unique, Unsigned, Void}
 use Rattle.source_typing.specs.Verdicts.{Faulty, Of, Unjudged, Verdict}
 use Rattle.check_declarations.proofs.Answered.{of_short}
@@ -57,26 +58,45 @@ unjudged_enough n (Of t) e = absurd cc
 
 -- ---- faults
 
-text_is : (at : ℕ) (bytes : List ℕ) (v : Verdict StaticType) → string_faults (Constant.Text at bytes) v ≡ test (enough_for (length bytes + 1) v) type_rule at
-text_is at bytes (Faulty f fs) = refl
-text_is at bytes Unjudged = refl
-text_is at bytes (Of (Thin n r t)) = refl
-text_is at bytes (Of Int) = refl
-text_is at bytes (Of Unsigned) = refl
-text_is at bytes (Of Char) = refl
-text_is at bytes (Of Void) = refl
-text_is at bytes (Of Null) = refl
-text_is at bytes (Of (Fat r t)) = refl
-text_is at bytes (Of (Unique b t)) = refl
-text_is at bytes (Of (Handle r)) = refl
-text_is at bytes (Of (Key r)) = refl
-text_is at bytes (Of (Struct tag rs)) = refl
-text_is at bytes (Of (Union tag rs)) = refl
+text_is : (at : ℕ) (bytes : List ℕ) (x : Value) (v : Verdict StaticType)
+    → string_faults (Of x) (Constant.Text at bytes) v ≡ test (enough_for (length bytes + 1) v) type_rule at
+text_is at bytes x (Faulty f fs) = refl
+text_is at bytes x Unjudged = refl
+text_is at bytes x (Of (Thin n r t)) = refl
+text_is at bytes x (Of Int) = refl
+text_is at bytes x (Of Unsigned) = refl
+text_is at bytes x (Of Char) = refl
+text_is at bytes x (Of Void) = refl
+text_is at bytes x (Of Null) = refl
+text_is at bytes x (Of (Fat r t)) = refl
+text_is at bytes x (Of (Unique b t)) = refl
+text_is at bytes x (Of (Handle r)) = refl
+text_is at bytes x (Of (Key r)) = refl
+text_is at bytes x (Of (Struct tag rs)) = refl
+text_is at bytes x (Of (Union tag rs)) = refl
 
-pub enough_faults : (at : ℕ) (bytes : List ℕ) (v : Verdict StaticType) → enough_for (length bytes + 1) v ≡ true
-    → None ≡ earliest (string_faults (Constant.Text at bytes) v)
-enough_faults at bytes v e = sym (ap earliest (text_is at bytes v ∙ ap (λ b. test b type_rule at) e))
+pub enough_faults : (at : ℕ) (bytes : List ℕ) (x : Value) (v : Verdict StaticType) → enough_for (length bytes + 1) v ≡ true
+    → None ≡ earliest (string_faults (Of x) (Constant.Text at bytes) v)
+enough_faults at bytes x v e = sym (ap earliest (text_is at bytes x v ∙ ap (λ b. test b type_rule at) e))
 
-pub short_faults : (at : ℕ) (bytes : List ℕ) (v : Verdict StaticType) → enough_for (length bytes + 1) v ≡ false
-    → Some (fault type_rule at) ≡ earliest (string_faults (Constant.Text at bytes) v)
-short_faults at bytes v e = sym (ap earliest (text_is at bytes v ∙ ap (λ b. test b type_rule at) e))
+pub short_faults : (at : ℕ) (bytes : List ℕ) (x : Value) (v : Verdict StaticType) → enough_for (length bytes + 1) v ≡ false
+    → Some (fault type_rule at) ≡ earliest (string_faults (Of x) (Constant.Text at bytes) v)
+short_faults at bytes x v e = sym (ap earliest (text_is at bytes x v ∙ ap (λ b. test b type_rule at) e))
+
+-- ---- by the constant's value
+
+pub of_value : (o : Option rules.Fault) (c : Constant) (x : Value) (w : Verdict Value) (v : Verdict StaticType) → Is x ≡ shortened w
+    → o ≡ earliest (string_faults (Of x) c v) → o ≡ earliest (string_faults w c v)
+of_value o c x w v e f = f ∙ ap (λ u. earliest (string_faults u c v)) (sym (of_short w x e))
+
+pub of_wrong : (c : Constant) (f : rules.Fault) (w : Verdict Value) (v : Verdict StaticType) → Wrong f ≡ shortened w
+    → None ≡ earliest (string_faults w c v)
+of_wrong c f (Faulty g gs) v e = refl
+of_wrong c f Unjudged v e = refl
+of_wrong c f (Of x) v e = absurd cc
+
+pub of_unjudged : (c : Constant) (w : Verdict Value) (v : Verdict StaticType) → NotJudged ≡ shortened w
+    → None ≡ earliest (string_faults w c v)
+of_unjudged c (Faulty g gs) v e = refl
+of_unjudged c Unjudged v e = refl
+of_unjudged c (Of x) v e = absurd cc

@@ -110,8 +110,8 @@ fn is_long_enough(bytes: &[u8], to: &Verdict<CType<'_>>) -> bool
 /// The fault of a string at a place that has fewer elements than the pointer of its global leads to.
 #[tactic(auto, using(crate::proofs::Texts::enough_faults, crate::proofs::Texts::short_faults))]
 fn text_fault(at: u32, bytes: &[u8], to: &Verdict<CType<'_>>) -> Option<Fault>
-    ensures { (t : rules.Verdict StaticType) → short_of static_type to.now ≡ shortened t
-        → faults_of result ≡ earliest (string_faults (tree.Constant.Text at bytes.now) t) }
+    ensures { (v : judged.Value) (t : rules.Verdict StaticType) → short_of static_type to.now ≡ shortened t
+        → faults_of result ≡ earliest (string_faults (rules.Of v) (tree.Constant.Text at bytes.now) t) }
 {
     if is_long_enough(bytes, to) {
         None
@@ -123,15 +123,32 @@ fn text_fault(at: u32, bytes: &[u8], to: &Verdict<CType<'_>>) -> Option<Fault>
     }
 }
 
-/// The same of a constant, which may be a string.
-fn string_fault(given: &Constant, to: &Verdict<CType<'_>>) -> Option<Fault>
-    ensures { (t : rules.Verdict StaticType) → short_of static_type to.now ≡ shortened t
-        → faults_of result ≡ earliest (string_faults (constant_tree given.now) t) }
+/// The same of a constant that is in order, which may be a string.
+fn constant_fault(given: &Constant, to: &Verdict<CType<'_>>) -> Option<Fault>
+    ensures { (v : judged.Value) (t : rules.Verdict StaticType) → short_of static_type to.now ≡ shortened t
+        → faults_of result ≡ earliest (string_faults (rules.Of v) (constant_tree given.now) t) }
 {
     match given {
         Constant::Text(at, text) => text_fault(*at, text, to),
         Constant::Number(_, _, _) | Constant::Negative(_, _, _) => None,
         Constant::Character(_, _) | Constant::Null(_) => None,
+    }
+}
+
+/// The same of a constant by its value: one with a fault of its own isn't judged.
+#[tactic(auto, using(crate::proofs::Texts::of_value, crate::proofs::Texts::of_wrong, crate::proofs::Texts::of_unjudged))]
+fn string_fault(
+    given: &Constant,
+    value: &Verdict<Value<'_>>,
+    to: &Verdict<CType<'_>>,
+) -> Option<Fault>
+    ensures { (v : rules.Verdict judged.Value) (t : rules.Verdict StaticType)
+        → short_of value_of value.now ≡ shortened v → short_of static_type to.now ≡ shortened t
+        → faults_of result ≡ earliest (string_faults v (constant_tree given.now) t) }
+{
+    match value {
+        Verdict::Of(_) => constant_fault(given, to),
+        Verdict::Wrong(_) | Verdict::NotJudged => None,
     }
 }
 
@@ -150,7 +167,7 @@ pub(crate) fn initial_fault(
         Initial::Constant(constant) => {
             let value = constant_value(alloc, constant)?;
             let fault = given_fault(alloc, &value, to)?;
-            Ok(sooner(fault, string_fault(constant, to)))
+            Ok(sooner(fault, string_fault(constant, &value, to)))
         }
     }
 }

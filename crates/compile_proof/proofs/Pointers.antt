@@ -1,6 +1,7 @@
 -- The code of values of one word and of three, of fat pointers, and of members of structs and unions and of elements names temporaries alone; an element has no
 -- more bytes than a word says.
-use Rattle.std.proofs.Common.{ℕ, zero, suc, ◌+◌, List, [], ◌∷◌, ◌++◌, length}
+use Rattle.std.proofs.Common.{Bool, true, false, ℕ, zero, suc, ◌+◌, List, [], ◌∷◌, ◌++◌, length}
+use Rattle.std.specs.Prelude.{nat_eq, if◌then◌else◌}
 use Rattle.cyc_words.specs.declared.faults.Kind.TheVariants.{NullException, ArrayBounds}
 use Rattle.source_meaning.specs.Shapes.{
   Reach,
@@ -39,7 +40,7 @@ use Rattle.source_lowering.specs.Lowered.{
   store_to,
 }
 use Rattle.source_lowering.specs.Members.{all_of, bound_code, bounds_code, raised, reached_code, element_code, subscript_code, words_in}
-use Rattle.source_lowering.specs.Operators.{enough_code}
+use Rattle.source_lowering.specs.Operators.{enough_code, one_code, several_code}
 use Rattle.source_lowering.specs.Layouts.{cell_pieces}
 use Rattle.source_lowering.specs.Programs.{value_exchange, words_read, words_written, exchange_code}
 use Rattle.source_lowering.specs.Lowerable.{IsTarget, IsObject}
@@ -145,7 +146,11 @@ module _ (blocks : List ℕ) (own n : ℕ) where
 
     -- so many elements of a fat pointer are there
     pub enough_names : (count : ℕ) (to : Shape) (d : ℕ) → IsTarget to → CodeNames blocks own n (enough_code w count to d)
-    enough_names count to d h = (tt, ((tt, (tt, tt)), (tt, (tt, (tt, (((tt, tt), tt), (target_small w to plain h, tt)))))))
+    enough_names count to d h = by (nat_eq count 1)
+      where
+        by : (x : Bool) → CodeNames blocks own n (if x then one_code w to d else several_code w count to d)
+        by true = (tt, reached_names to d d (raised ArrayBounds) h (tt, tt))
+        by false = (tt, ((tt, (tt, tt)), (tt, (tt, (tt, (((tt, tt), tt), (target_small w to plain h, tt)))))))
 
     -- ---- members
 

@@ -9,7 +9,7 @@ ghost use Rattle.source_lowering.specs.Lowered.{all_of, count_code, fat_code, re
 ghost use Rattle.source_lowering.specs.Pieces.{bounds_code, element_code, raised, reached_code};
 ghost use Rattle.source_lowering.specs.Layouts.{extent_of};
 ghost use Rattle.source_lowering.specs.Members.{index_code};
-ghost use Rattle.source_lowering.specs.Operators.{enough_code};
+ghost use Rattle.source_lowering.specs.Operators.{enough_code, one_code, several_code};
 ghost use Rattle.source_meaning.specs.Conversions.{cells_of};
 ghost use Rattle.lower_checks.specs.Room.{HasRoom};
 ghost use Rattle.lower_checks.specs.Views.{reach_tree, shape_tree};
@@ -213,8 +213,34 @@ fn lower_remaining(body: &mut Body<'_>, pointer: Temporary, least: u32)
     body.branch(count, bounds, Vec::new(body.alloc));
 }
 
-/// Appends what leaves a pointer to the element of a shape to which a fat pointer leads that isn't NULL; raises where fewer elements than
-/// so many are left from there on.
+/// Appends what leaves a pointer to the element of a shape to which a fat pointer leads that isn't NULL; raises where its index isn't below
+/// its count.
+fn lower_one(program: &Table<'_>, element: &Shape<'_>, body: &mut Body<'_>, pointer: Temporary)
+    requires room { HasRoom pointer.0 3 }
+    ensures { Emits body.old body.new (one_code (world_of program.now) (shape_tree element.now) pointer.0) }
+{
+    lower_below(body, pointer);
+    let bounds = body.raising(Kind::ArrayBounds);
+    lower_reached(program, element, body, pointer, pointer, bounds);
+}
+
+/// Appends the same; raises also where fewer elements than so many are left from there on.
+fn lower_several(
+    program: &Table<'_>,
+    element: &Shape<'_>,
+    body: &mut Body<'_>,
+    pointer: Temporary,
+    least: u32,
+)
+    requires room { HasRoom pointer.0 3 }
+    ensures { Emits body.old body.new (several_code (world_of program.now) least (shape_tree element.now) pointer.0) }
+{
+    let index = behind(pointer, 2);
+    lower_remaining(body, pointer, least);
+    lower_moved(program, element, body, pointer, pointer, index);
+}
+
+/// Appends either: where one element is asked for, the current one is enough.
 fn lower_enough(
     program: &Table<'_>,
     element: &Shape<'_>,
@@ -225,9 +251,11 @@ fn lower_enough(
     requires room { HasRoom pointer.0 3 }
     ensures { Emits body.old body.new (enough_code (world_of program.now) least (shape_tree element.now) pointer.0) }
 {
-    let index = behind(pointer, 2);
-    lower_remaining(body, pointer, least);
-    lower_moved(program, element, body, pointer, pointer, index);
+    if least == 1 {
+        lower_one(program, element, body, pointer);
+    } else {
+        lower_several(program, element, body, pointer, least);
+    }
 }
 
 /// Appends the same where a fat pointer isn't NULL, which stays as it is.

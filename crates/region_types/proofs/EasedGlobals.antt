@@ -26,7 +26,7 @@ type_same g x =
     (λ i t. fitting_same g x.of.at (count_of x.initial) (has_none names && not (is_key t) && has_beginning g.tables t) t i)
 
 initial_same : (g : Env) (i : Initial) (t : Verdict StaticType) → initial_faults (eased g) i t ≡ initial_faults g i t
-initial_same g (Initial.Given c) t = ap (λ fs. (faults_of (constant c) ++ fs) ++ string_faults c t) (converted_same g (constant c) t)
+initial_same g (Initial.Given c) t = ap (λ fs. (faults_of (constant c) ++ fs) ++ string_faults (constant c) c t) (converted_same g (constant c) t)
 initial_same g Initial.Unset t = refl
 initial_same g (Initial.Elements n) t = refl
 

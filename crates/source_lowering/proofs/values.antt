@@ -7,6 +7,7 @@ pub mod ThinConversions
 pub mod Conversions
 pub mod Tests
 pub mod Joined
+pub mod Enough
 pub mod FatConversions
 pub mod Widening
 pub mod FatOperators

@@ -1,5 +1,5 @@
 -- The code of conversions and of operators.
-use Rattle.std.specs.Prelude.{ℕ, ◌%◌, ◌^◌, ◌+◌, List, [], ◌∷◌, ◌++◌}
+use Rattle.std.specs.Prelude.{ℕ, ◌%◌, ◌^◌, ◌+◌, nat_eq, if◌then◌else◌, List, [], ◌∷◌, ◌++◌}
 use Rattle.cyc_words.specs.declared.faults.Kind.TheVariants.{ArrayBounds}
 use Rattle.cyc_tree.specs.declared.expression.Operator.{Operator}
 use Rattle.cyc_tree.specs.declared.expression.Operator.TheVariants as operator
@@ -9,7 +9,7 @@ use Rattle.source_meaning.specs.Shapes.{Reach, MayBeNull, NeverNull, Shape, IntS
 use Rattle.source_meaning.specs.Memory.{IntegerType, AsInt, AsUnsigned, AsChar}
 use Rattle.source_meaning.specs.Steps.{World}
 use Rattle.source_meaning.specs.Operators.{common, by_type}
-use Rattle.source_lowering.specs.Members.{null_check, all_of, loads_code, check_code, bounds_code, raised, reach_code}
+use Rattle.source_lowering.specs.Members.{null_check, all_of, loads_code, check_code, bounds_code, raised, reached_code, reach_code}
 use Rattle.source_meaning.specs.Conversions.{cells_of}
 use Rattle.std.specs.Prelude.{length}
 use Rattle.source_lowering.specs.Layouts.{extent_of}
@@ -30,12 +30,20 @@ to_fat_code (ThinShape (MayBeNull count) owner to) d =
     If d (all_of (Do (Constant (d + 1) (count % 2 ^ 32)) ∷ [])) (all_of (Do (Constant (d + 1) 0) ∷ [])) ∷ Do (Constant (d + 2) 0) ∷ []
 to_fat_code s d = []
 
--- The element of a fat pointer that isn't NULL, where its index is below the count, and so many elements are left from there on.
-abbrev pub enough_code : World → (count : ℕ) → Shape → ℕ → List Statement
-enough_code w count to d =
+-- The element of a fat pointer that isn't NULL, where its index is below the count.
+abbrev pub one_code : World → Shape → ℕ → List Statement
+one_code w to d = Do (Apply core.LessUnsigned (d + 1) (d + 2) (d + 1)) ∷ reached_code w to d d (raised ArrayBounds)
+
+-- And so many elements are left from there on.
+abbrev pub several_code : World → (count : ℕ) → Shape → ℕ → List Statement
+several_code w count to d =
     Do (Apply core.LessUnsigned (d + 3) (d + 2) (d + 1)) ∷ If (d + 3) NoStatements (raised ArrayBounds) ∷ Do (Apply core.Subtract (d + 1) (d + 1) (d + 2))
     ∷ Do (Constant (d + 3) count) ∷ Do (Apply core.LessUnsigned (d + 1) (d + 1) (d + 3)) ∷ If (d + 1) (raised ArrayBounds) NoStatements
     ∷ Do (core.Element d d (d + 2) (length (cells_of w to)) (extent_of w to).size) ∷ []
+
+-- one element is there wherever the current one is
+abbrev pub enough_code : World → (count : ℕ) → Shape → ℕ → List Statement
+enough_code w count to d = (if nat_eq count 1 then one_code w to d else several_code w count to d)
 
 -- fat to thin: NULL stays NULL or raises, and so many elements of another one have to be there from the current one on
 abbrev pub to_thin_code : World → Reach → Shape → ℕ → List Statement

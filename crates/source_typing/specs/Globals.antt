@@ -56,14 +56,15 @@ global_type_by g x names =
 abbrev pub global_type : Env → tree.Global → Verdict StaticType
 global_type g x = global_type_by g x (foreign_names (spots_of g.tables x.of))
 
--- A thin pointer to a string has no greater bound than the string has elements: its bytes, and a 0 behind them.
-abbrev pub string_faults : Constant → Verdict StaticType → List Fault
-string_faults (Constant.Text at bytes) (Of (Thin n r t)) = test (nat_le (elements_of n) (length bytes + 1)) type_rule at
-string_faults c t = []
+-- A thin pointer to a string has no greater bound than the string has elements: its bytes, and a 0 behind them. The bound of a string that is too long
+-- isn't judged.
+abbrev pub string_faults : Verdict Value → Constant → Verdict StaticType → List Fault
+string_faults (Of v) (Constant.Text at bytes) (Of (Thin n r t)) = test (nat_le (elements_of n) (length bytes + 1)) type_rule at
+string_faults v c t = []
 
 -- A constant converts to its global's type.
 abbrev pub initial_faults : Env → Initial → Verdict StaticType → List Fault
-initial_faults g (Initial.Given c) t = (faults_of (constant c) ++ converted_to g (constant c) t) ++ string_faults c t
+initial_faults g (Initial.Given c) t = (faults_of (constant c) ++ converted_to g (constant c) t) ++ string_faults (constant c) c t
 initial_faults g Initial.Unset t = []
 initial_faults g (Initial.Elements n) t = []
 

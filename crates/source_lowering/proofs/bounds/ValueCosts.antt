@@ -1,10 +1,11 @@
 -- What the code of values takes, of one word or of three: loads and stores, checks, conversions, operators and variables.
-use Rattle.std.proofs.Common.{ℕ, suc, ◌+◌, ◌≤◌, [], ◌∷◌, length, Option, Some, arith}
+use Rattle.std.proofs.Common.{Bool, true, false, ℕ, suc, ◌+◌, ◌≤◌, [], ◌∷◌, length, Option, Some, arith}
 use Rattle.cyc_words.specs.declared.faults.Kind.TheVariants.{ArrayBounds, NullException}
 use Rattle.cyc_tree.specs.declared.expression.Operator.{Operator}
 use Rattle.cyc_tree.specs.declared.expression.Operator.TheVariants as operator
 use Rattle.std.proofs.Common.{◌%◌, ◌^◌}
-use Rattle.source_lowering.specs.Operators.{enough_code}
+use Rattle.std.specs.Prelude.{nat_eq, if◌then◌else◌}
+use Rattle.source_lowering.specs.Operators.{enough_code, one_code, several_code}
 use Rattle.source_meaning.specs.Shapes.{count_of, pointee}
 use Rattle.source_lowering.specs.Members.{bound_code, subscript_code}
 use Rattle.source_meaning.specs.Shapes.{Reach, MayBeNull, NeverNull}
@@ -121,8 +122,15 @@ to_fat_costs (ThinShape (MayBeNull count) owner to) t p d h =
     (does_one t p (Constant (d + 2) 0) (omega (arith, h)))
 to_fat_costs _ t p d h = nothing t p 4
 
-enough_costs : (w : World) (count : ℕ) (to : Shape) (t p d : ℕ) → d + 4 ≤ t → Costs t p 0 7 (enough_code w count to d)
-enough_costs w count to t p d h =
+one_element_costs : (w : World) (to : Shape) (t p d : ℕ) → d + 4 ≤ t → Costs t p 0 3 (one_code w to d)
+one_element_costs w to t p d h =
+    does_then t p 2 (Apply core.LessUnsigned (d + 1) (d + 2) (d + 1)) _ (omega (arith, h))
+    (both_cost t p 0 1 0 1 (If (d + 1) NoStatements (raised ArrayBounds) ∷ []) _
+    (one_costs t p 0 1 (If (d + 1) NoStatements (raised ArrayBounds)) (omega (arith, h)) (omega arith) (omega arith) (omega arith))
+    (does_one t p (Element d d (d + 2) (length (cells_of w to)) (extent_of w to).size) (omega (arith, h))))
+
+several_costs : (w : World) (count : ℕ) (to : Shape) (t p d : ℕ) → d + 4 ≤ t → Costs t p 0 7 (several_code w count to d)
+several_costs w count to t p d h =
     does_then t p 6 (Apply core.LessUnsigned (d + 3) (d + 2) (d + 1)) _ (omega (arith, h))
     (both_cost t p 0 1 0 5 (If (d + 3) NoStatements (raised ArrayBounds) ∷ []) _
     (one_costs t p 0 1 (If (d + 3) NoStatements (raised ArrayBounds)) (omega (arith, h)) (omega arith) (omega arith) (omega arith))
@@ -132,11 +140,24 @@ enough_costs w count to t p d h =
     (one_costs t p 0 1 (If (d + 1) (raised ArrayBounds) NoStatements) (omega (arith, h)) (omega arith) (omega arith) (omega arith))
     (does_one t p (Element d d (d + 2) (length (cells_of w to)) (extent_of w to).size) (omega (arith, h))))))))
 
+enough_costs : (w : World) (count : ℕ) (to : Shape) (t p d : ℕ) → d + 4 ≤ t → Costs t p 0 7 (enough_code w count to d)
+enough_costs w count to t p d h = by (nat_eq count 1)
+  where
+    by : (x : Bool) → Costs t p 0 7 (if x then one_code w to d else several_code w count to d)
+    by true = at_most t p 3 7 _ (omega arith) (one_element_costs w to t p d h)
+    by false = several_costs w count to t p d h
+
 pub to_thin_costs : (w : World) (may_be_null : Reach) (to : Shape) (t p d : ℕ) → d + 4 ≤ t → Costs t p 0 8 (to_thin_code w may_be_null to d)
 to_thin_costs w (NeverNull count) to t p d h =
     both_cost t p 0 1 0 7 (null_check d) _ (check_one t p d (omega (arith, h))) (enough_costs w (count % 2 ^ 32) to t p d h)
-to_thin_costs w (MayBeNull count) to t p d h =
-    one_costs t p 0 8 (If d (all_of (enough_code w (count % 2 ^ 32) to d)) NoStatements) (omega (arith, h)) (omega arith) (omega arith) (omega arith)
+to_thin_costs w (MayBeNull count) to t p d h = by (nat_eq (count % 2 ^ 32) 1)
+  where
+    least : ℕ
+    least = count % 2 ^ 32
+
+    by : (x : Bool) → Costs t p 0 8 (If d (all_of (if x then one_code w to d else several_code w least to d)) NoStatements ∷ [])
+    by true = one_costs t p 0 8 (If d (all_of (one_code w to d)) NoStatements) (omega (arith, h)) (omega arith) (omega arith) (omega arith)
+    by false = one_costs t p 0 8 (If d (all_of (several_code w least to d)) NoStatements) (omega (arith, h)) (omega arith) (omega arith) (omega arith)
 
 -- ---- operators
 

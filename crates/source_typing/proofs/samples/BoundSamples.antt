@@ -1,6 +1,6 @@
 -- Numbers of elements in pointers: which are types, what converts and compares, strings at globals, and subscripts.
 use Rattle.std.proofs.Common.{◌≡◌, refl, false, Some, None, [], ◌∷◌}
-use Rattle.std.specs.Prelude.{codes}
+use Rattle.std.specs.Prelude.{codes, replicate}
 use Rattle.cyc_tree.specs.declared.expression.Operator.TheVariants.{Add, Equal}
 use Rattle.cyc_tree.specs.declared.expression.Prefix.TheVariants.{AddressOf}
 use Rattle.cyc_tree.specs.declared.name.Sign.TheVariants as sign
@@ -8,10 +8,11 @@ use Rattle.cyc_tree.specs.Tree as tree
 use Rattle.cyc_tree.specs.Tree.{Expression, NoExpressions, MoreExpressions, NoLinks, MoreLinks, NoSuffixes, Index, One, Array, Initializer, Statement}
 use Rattle.cyc_tree.specs.Tree.{NoItems, Declare, Execute, Constant, Initial}
 use Rattle.source_meaning.proofs.Trees.{pointer}
-use Rattle.source_typing.specs.Faults.{fault, consumed_rule, copy_rule, lent_rule, name_rule, outlives_rule, region_rule, type_rule}
+use Rattle.source_typing.specs.Faults.{fault, consumed_rule, copy_rule, lent_rule, name_rule, outlives_rule, region_rule, size_rule, type_rule}
 use Rattle.source_typing.specs.Answers.{first_fault}
 use Rattle.source_typing.specs.Programs.{typing_fault, typing_faults}
 use Rattle.source_typing.proofs.samples.SampleTrees.{name_at, region_at, type_at, int_at, number, variable_at, returns, member, global, routine, main_at}
+use Rattle.source_typing.proofs.samples.SampleTrees.{main_returns}
 
 -- ---- Which numbers a thin pointer converts to, and what its pointee is.
 
@@ -246,89 +247,97 @@ bound_26 : typing_fault false
     ≡ Some (fault type_rule 13)
 bound_26 = refl
 
+-- a string that is too long: its bound isn't judged
+-- char *{5000} g = "aaaaaaaaaaaaaaaaaaaaaaaaaaaaaaaaaaaaa .. aaaaaaaaaaaaaaaaaaaaaaaaa"; int main() { return 0; }
+bound_27 : typing_fault false
+    ((tree.GlobalItem (global (type_at 0 tree.Char ((pointer (sign.Nullable 5000) None) ∷ [])) (name_at 13 "g") (Initial.Given (Constant.Text 17 (replicate
+    4096 97))))) ∷ (main_returns 4117) ∷ [])
+    ≡ Some (fault size_rule 17)
+bound_27 = refl
+
 -- ---- What a subscript takes.
 
 -- int main() { int x = 5; int *p = &x; p[0] = p[0] + 1; return (new 3)[0] + x; }
-bound_27 : typing_fault false
+bound_28 : typing_fault false
     ((main_at 0 (Declare (tree.Local (int_at 13) (name_at 17 "x") (Initializer.Value (number 21 5))) (Declare (tree.Local (type_at 24 tree.Int ((pointer
     (sign.Nullable 1) None) ∷ [])) (name_at 29 "p") (Initializer.Value (Expression.Prefixed 33 AddressOf (variable_at 34 "x")))) (Execute (Statement.Run
     (Expression.Assign (Expression.Suffixed (variable_at 37 "p") (Index (number 39 0) NoSuffixes)) (Expression.Chain (Expression.Suffixed (variable_at 44 "p")
     (Index (number 46 0) NoSuffixes)) (MoreLinks Add (number 51 1) NoLinks)))) (Execute (returns 54 (Expression.Chain (Expression.Suffixed (Expression.Grouped
     61 (Expression.New 62 (One (number 66 3)))) (Index (number 69 0) NoSuffixes)) (MoreLinks Add (variable_at 74 "x") NoLinks))) NoItems)))) 77) ∷ [])
     ≡ None
-bound_27 = refl
+bound_28 = refl
 
 -- int main() { NULL[0]; return 0; }
-bound_28 : typing_fault false
+bound_29 : typing_fault false
     ((main_at 0 (Execute (Statement.Run (Expression.Suffixed (Expression.Null 13) (Index (number 18 0) NoSuffixes))) (Execute (returns 22 (number 29 0))
     NoItems)) 32) ∷ [])
     ≡ Some (fault type_rule 13)
-bound_28 = refl
+bound_29 = refl
 
 -- int main() { int @`U u = rnew(unique_region) 4; u[0] = u[0] + 1; return u[1]; }
-bound_29 : first_fault
+bound_30 : first_fault
     ((main_at 0 (Declare (tree.Local (type_at 13 tree.Int ((pointer (sign.NotNull 1) (Some (tree.Unique 18))) ∷ [])) (name_at 21 "u") (Initializer.Value
     (Expression.NewIn 25 (Expression.UniqueRegion 30) (One (number 45 4))))) (Execute (Statement.Run (Expression.Assign (Expression.Suffixed (variable_at 48
     "u") (Index (number 50 0) NoSuffixes)) (Expression.Chain (Expression.Suffixed (variable_at 55 "u") (Index (number 57 0) NoSuffixes)) (MoreLinks Add
     (number 62 1) NoLinks)))) (Execute (returns 65 (Expression.Suffixed (variable_at 72 "u") (Index (number 74 1) NoSuffixes))) NoItems))) 78) ∷ [])
     ≡ None
-bound_29 = refl
+bound_30 = refl
 
 -- int *`U g; int main() { g[0]; return 0; }
-bound_30 : first_fault
+bound_31 : first_fault
     ((tree.GlobalItem (global (type_at 0 tree.Int ((pointer (sign.Nullable 1) (Some (tree.Unique 5))) ∷ [])) (name_at 8 "g") Initial.Unset)) ∷ (main_at 11
     (Execute (Statement.Run (Expression.Suffixed (variable_at 24 "g") (Index (number 26 0) NoSuffixes))) (Execute (returns 30 (number 37 0)) NoItems)) 40) ∷
     [])
     ≡ Some (fault copy_rule 24)
-bound_30 = refl
+bound_31 = refl
 
 -- int main() { (rnew(unique_region) 3)[0]; return 0; }
-bound_31 : first_fault
+bound_32 : first_fault
     ((main_at 0 (Execute (Statement.Run (Expression.Suffixed (Expression.Grouped 13 (Expression.NewIn 14 (Expression.UniqueRegion 19) (One (number 34 3))))
     (Index (number 37 0) NoSuffixes))) (Execute (returns 41 (number 48 0)) NoItems)) 51) ∷ [])
     ≡ Some (fault copy_rule 13)
-bound_31 = refl
+bound_32 = refl
 
 -- int main() { int @`U u = rnew(unique_region) 1; &u[0]; return 0; }
-bound_32 : first_fault
+bound_33 : first_fault
     ((main_at 0 (Declare (tree.Local (type_at 13 tree.Int ((pointer (sign.NotNull 1) (Some (tree.Unique 18))) ∷ [])) (name_at 21 "u") (Initializer.Value
     (Expression.NewIn 25 (Expression.UniqueRegion 30) (One (number 45 1))))) (Execute (Statement.Run (Expression.Prefixed 48 AddressOf (Expression.Suffixed
     (variable_at 49 "u") (Index (number 51 0) NoSuffixes)))) (Execute (returns 55 (number 62 0)) NoItems))) 65) ∷ [])
     ≡ Some (fault copy_rule 48)
-bound_32 = refl
+bound_33 = refl
 
 -- int main() { int @`U u = rnew(unique_region) 1; { let alias<`r> int @`r x = u; x[0]; u[0]; } return 0; }
-bound_33 : first_fault
+bound_34 : first_fault
     ((main_at 0 (Declare (tree.Local (type_at 13 tree.Int ((pointer (sign.NotNull 1) (Some (tree.Unique 18))) ∷ [])) (name_at 21 "u") (Initializer.Value
     (Expression.NewIn 25 (Expression.UniqueRegion 30) (One (number 45 1))))) (Execute (Statement.Block 48 (Declare (tree.Alias 50 (region_at 60 "r") (type_at
     64 tree.Int ((pointer (sign.NotNull 1) (Some (region_at 69 "r"))) ∷ [])) (name_at 72 "x") (name_at 76 "u")) (Execute (Statement.Run (Expression.Suffixed
     (variable_at 79 "x") (Index (number 81 0) NoSuffixes))) (Execute (Statement.Run (Expression.Suffixed (variable_at 85 "u") (Index (number 87 0)
     NoSuffixes))) NoItems)))) (Execute (returns 93 (number 100 0)) NoItems))) 103) ∷ [])
     ≡ Some (fault lent_rule 85)
-bound_33 = refl
+bound_34 = refl
 
 -- int eat(int *`U p) { ufree(p); return 0; } int main() { int *`U v = NULL; v[eat(v)]; return 0; }
-bound_34 : first_fault
+bound_35 : first_fault
     ((tree.FunctionItem (routine (int_at 0) (name_at 4 "eat") ((member (type_at 8 tree.Int ((pointer (sign.Nullable 1) (Some (tree.Unique 13))) ∷ []))
     (name_at 16 "p")) ∷ []) None [] (Execute (Statement.FreeUnique 21 (name_at 27 "p")) (Execute (returns 31 (number 38 0)) NoItems)) 41)) ∷ (main_at 43
     (Declare (tree.Local (type_at 56 tree.Int ((pointer (sign.Nullable 1) (Some (tree.Unique 61))) ∷ [])) (name_at 64 "v") (Initializer.Value (Expression.Null
     68))) (Execute (Statement.Run (Expression.Suffixed (variable_at 74 "v") (Index (Expression.Call (name_at 76 "eat") (MoreExpressions (variable_at 80 "v")
     NoExpressions)) NoSuffixes))) (Execute (returns 85 (number 92 0)) NoItems))) 95) ∷ [])
     ≡ Some (fault consumed_rule 74)
-bound_34 = refl
+bound_35 = refl
 
 -- ---- An array of which the handle has an error is not checked.
 
 -- int main() { rnew(y) {for i < 1 : NULL}; return 0; }
-bound_35 : typing_faults false
+bound_36 : typing_faults false
     ((main_at 0 (Execute (Statement.Run (Expression.NewIn 13 (variable_at 18 "y") (Array (name_at 26 "i") (number 30 1) (Expression.Null 34)))) (Execute
     (returns 41 (number 48 0)) NoItems)) 51) ∷ [])
     ≡ fault name_rule 18 ∷ []
-bound_35 = refl
+bound_36 = refl
 
 -- int main() { rnew(y) {for i < NULL : 1}; return 0; }
-bound_36 : typing_faults false
+bound_37 : typing_faults false
     ((main_at 0 (Execute (Statement.Run (Expression.NewIn 13 (variable_at 18 "y") (Array (name_at 26 "i") (Expression.Null 30) (number 37 1)))) (Execute
     (returns 41 (number 48 0)) NoItems)) 51) ∷ [])
     ≡ fault name_rule 18 ∷ []
-bound_36 = refl
+bound_37 = refl

@@ -21,10 +21,10 @@ returns-in_ok-fault-in-Constant c lenient g i v e =
     let conversion = converted_to env given v in
     ap faults_of c.sooner.ensures ∙ found_sooner c.in_ok-fault-in-Constant.fault c.string_fault.result
     ∙ ap (λ o. first_of o (faults_of c.string_fault.result)) (c.in_ok-fault-in-Constant.ensures lenient g i given v c.in_ok-value-in-Constant.ensures e)
-    ∙ ap (first_of (earliest (set_faults env given v))) (c.string_fault.ensures v e)
-    ∙ sym (earliest_of_both (set_faults env given v) (string_faults tree v))
-    ∙ ap (λ fs. earliest (fs ++ string_faults tree v)) (append_assoc (rules.faults_of v) (rules.faults_of given) conversion)
-    ∙ ap earliest (append_assoc (rules.faults_of v) (rules.faults_of given ++ conversion) (string_faults tree v))
+    ∙ ap (first_of (earliest (set_faults env given v))) (c.string_fault.ensures given v c.in_ok-value-in-Constant.ensures e)
+    ∙ sym (earliest_of_both (set_faults env given v) (string_faults given tree v))
+    ∙ ap (λ fs. earliest (fs ++ string_faults given tree v)) (append_assoc (rules.faults_of v) (rules.faults_of given) conversion)
+    ∙ ap earliest (append_assoc (rules.faults_of v) (rules.faults_of given ++ conversion) (string_faults given tree v))
     ∙ ap (λ b. earliest (faults_by env (initial_tree b) v)) (sym c.in-Constant.is)
 
 pub returns-in-None : goal.returns-in-None

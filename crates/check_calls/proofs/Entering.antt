@@ -1,8 +1,11 @@
 -- Calls of functions whose arguments fit.
-use Rattle.std.specs.Prelude.{nat_le, ◌+◌, ◌*◌, ◌++◌, if◌then◌else◌}
-use Rattle.std.proofs.Common.{◌≡◌, ℕ, Bool, true, false, refl, ap, arith}
+use Rattle.std.specs.Prelude.{nat_le, ◌&&◌, ◌+◌, ◌*◌, ◌++◌, if◌then◌else◌}
+use Rattle.std.proofs.Common.{◌≡◌, ◌∙◌, ℕ, Bool, true, false, refl, sym, ap, arith}
 use Rattle.std.proofs.lemmas.Bool.Decides.{nat_tests}
 use Rattle.source_typing.specs.Faults.{effect_rule, fault, outlives_rule, test}
+use Rattle.source_typing.proofs.Converting.{id_is}
+use Rattle.source_typing.specs.Regions.{Region, same_id}
+use Rattle.source_typing.specs.Scope.{Env, outlives}
 use Rattle.source_typing.specs.Verdicts.{Verdict, unless_faulty}
 use Rattle.check_faults.specs.Verdicts.{Short, Wrong, shortened}
 
@@ -20,3 +23,14 @@ tests_entered false true at v = refl
 tests_entered false false at v =
     let later : nat_le (at * 16 + 8) (at * 16 + 7) ≡ false = grind (arith, nat_tests) in
     ap (λ (b : Bool). Wrong (if b then fault effect_rule at else fault outlives_rule at)) later
+
+-- ---- bounds
+
+-- the same is asked again
+pub same_asked : (g : Env) (a b c d : Region) → same_id a c && same_id b d ≡ true → outlives g a b ≡ true → true ≡ outlives g c d
+same_asked g a b c d e h = by (same_id a c) (same_id b d) refl refl e
+  where
+    by : (s t : Bool) → same_id a c ≡ s → same_id b d ≡ t → s && t ≡ true → true ≡ outlives g c d
+    by true true p q z = sym h ∙ (λ j. outlives g (id_is a c p j) (id_is b d q j))
+    by true false p q z = absurd (grind (arith, z))
+    by false t p q z = absurd (grind (arith, z))

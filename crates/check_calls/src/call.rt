@@ -1,7 +1,7 @@
 // Calls.
 
-ghost use Rattle.std.specs.Prelude.{◌≡◌, ◌++◌, IfOk, List, map, option_map};
-ghost use Rattle.cyc_types.specs.Regions.{regions_of};
+ghost use Rattle.std.specs.Prelude.{◌≡◌, ◌++◌, ◌&&◌, IfOk, List, map, option_map, true};
+ghost use Rattle.cyc_types.specs.Regions.{region_of, regions_of};
 ghost use Rattle.cyc_types.specs.Types.{static_type};
 ghost use Rattle.check_operators.specs.Values.{value_of};
 ghost use Rattle.check_scopes.specs.Knows.{Sees};
@@ -9,8 +9,8 @@ ghost use Rattle.check_scopes.specs.Means.{signature_of};
 ghost use Rattle.check_scopes.specs.Fields.{pair_of};
 ghost use Rattle.source_typing.specs.Calls.{ToBuiltin, ToFunction, all_live, all_ordered, builtin_parameters, call_entered, called};
 ghost use Rattle.source_typing.specs.Faults.{effect_rule, outlives_rule, test};
-ghost use Rattle.source_typing.specs.Regions.{Region};
-ghost use Rattle.source_typing.specs.Scope.{Env, value};
+ghost use Rattle.source_typing.specs.Regions.{Region, same_id};
+ghost use Rattle.source_typing.specs.Scope.{Env, outlives, value};
 ghost use Rattle.source_typing.specs.Tables.{argument};
 ghost use Rattle.source_typing.specs.Types.{Int, renamed};
 ghost use Rattle.source_typing.specs.Verdicts.{after, unless_faulty};
@@ -54,6 +54,28 @@ fn are_live(scope: &Scope, regions: &[RegionId], effect: &[RegionId]) -> bool
     true
 }
 
+/// Whether two pairs are of the same regions.
+fn are_same(one: (RegionId, RegionId), other: (RegionId, RegionId)) -> bool
+    ensures { result ≡ (same_id (region_of one.0) (region_of other.0) && same_id (region_of one.1) (region_of other.1)) }
+{
+    one.0.is_same(other.0) && one.1.is_same(other.1)
+}
+
+/// Whether a region outlives another, where of one pair it is known that it does. Fails only where no host memory is left.
+fn is_ordered(
+    scope: &Scope,
+    known: (RegionId, RegionId),
+    asked: (RegionId, RegionId),
+) -> Result<bool, AllocError>
+    ensures { (g : Env) → Sees scope.now g → outlives g (region_of known.0) (region_of known.1) ≡ true
+        → IfOk result (λ b. b ≡ outlives g (region_of asked.0) (region_of asked.1)) }
+{
+    if are_same(known, asked) {
+        return Ok(true);
+    }
+    scope.outlives(asked.0, asked.1)
+}
+
 /// Whether a function's bounds are in order, where its variables stand for these. Fails only where no host memory is left.
 fn are_ordered(
     scope: &Scope,
@@ -62,12 +84,13 @@ fn are_ordered(
 ) -> Result<bool, AllocError>
     ensures { (g : Env) → Sees scope.now g → IfOk result (λ b. b ≡ all_ordered g (regions_of regions.now) (map pair_of bounds.now)) }
 {
+    let mut known = (RegionId::Heap, RegionId::Heap);
     'each: for bound in bounds {
-        let one = argument(regions, bound.0);
-        let other = argument(regions, bound.1);
-        if !scope.outlives(one, other)? {
+        let asked = (argument(regions, bound.0), argument(regions, bound.1));
+        if !is_ordered(scope, known, asked)? {
             return Ok(false);
         }
+        known = asked;
     }
     Ok(true)
 }

@@ -1,5 +1,5 @@
 -- The names in scope outside of functions, and where a function's body begins, are those of the rules.
-use Rattle.std.specs.Prelude.{length, map, nat_eq, nat_lt, slice_get, ◌||◌, ◌<◌, ◌++◌, if◌then◌else◌}
+use Rattle.std.specs.Prelude.{length, nat_eq, nat_lt, slice_get, ◌||◌, ◌<◌, ◌++◌, if◌then◌else◌}
 use Rattle.std.proofs.Common.{◌≡◌, ℕ, zero, suc, ◌≤◌, Bool, true, false, Option, Some, None, List, [], ◌∷◌, refl, sym, ◌∙◌, ap, subst, arith}
 use Rattle.std.proofs.lemmas.Bool.Decides.{nat_tests}
 use Rattle.std.proofs.lemmas.Option.{slice_get_past}
@@ -7,7 +7,7 @@ use Rattle.cyc_types.specs.declared.region.RegionId.{RegionId}
 use Rattle.source_typing.specs.Named.{AllBelow, Below, BoundsBelow}
 use Rattle.source_typing.specs.Regions.{Level, Region, TheHeap, any_of, by_bounds, entry_regions, is_among, no_regions, reaches, same_id}
 use Rattle.check_regions.specs.Begun.{begins_live, is_over_heap, is_over_later}
-use Rattle.check_regions.specs.Fields.{pair_of, scoped}
+use Rattle.check_regions.specs.Fields.{scoped}
 use Rattle.check_regions.specs.Entered.{variable_at, variables_at}
 use Rattle.check_regions.specs.Reached.{has, is_near, outlives_by, reaches_any}
 use Rattle.check_regions.specs.Scopes.{AreThose, Scoped, live_in, of_name, outlives_in, over_earlier, over_later_in, over_this}
@@ -205,10 +205,10 @@ module _ (count : ℕ) (effect : List Region) (bs : List (Region × Region)) (li
   }
 
   -- as they stand in code
-  pub enters_as : (begun : List Begun) (opened : List RegionId) (given copied : List (RegionId × RegionId)) → bs ≡ map pair_of given
-      → begun ≡ variables_at live heap later count → opened ≡ [] → copied ≡ given
-      → AreThose (scoped begun opened copied) (entry_regions count effect bs)
-  enters_as begun opened given copied b v o k =
-      subst (λ l. AreThose (scoped l opened copied) (entry_regions count effect bs)) (sym v)
-      (subst (λ l. AreThose (scoped (variables_at live heap later count) l copied) (entry_regions count effect bs)) (sym o)
-      (subst (λ l. AreThose (with_bounds (variables_at live heap later count) l) (entry_regions count effect bs)) (b ∙ ap (λ l. map pair_of l) (sym k)) enters))
+  pub enters_as : (begun : List Begun) (opened : List RegionId) (bounds : List (Region × Region))
+      → begun ≡ variables_at live heap later count → opened ≡ [] → bounds ≡ bs
+      → AreThose (scoped begun opened bounds) (entry_regions count effect bs)
+  enters_as begun opened bounds v o b =
+      subst (λ l. AreThose (scoped l opened bounds) (entry_regions count effect bs)) (sym v)
+      (subst (λ l. AreThose (scoped (variables_at live heap later count) l bounds) (entry_regions count effect bs)) (sym o)
+      (subst (λ l. AreThose (with_bounds (variables_at live heap later count) l) (entry_regions count effect bs)) (sym b) enters))

@@ -52,6 +52,20 @@ turned (Level j) (Level k) = by (nat_eq k j) refl
     by true p = grind (arith, nat_tests, p)
     by false p = grind (arith, nat_tests, p)
 
+-- ---- one more region
+
+pub among_last : (rs : List Region) (r q : Region) → is_among (rs ++ r ∷ []) q ≡ is_among rs q || same_id r q
+among_last [] r q = or_none (same_id r q)
+  where
+    or_none : (c : Bool) → c || false ≡ false || c
+    or_none true = refl
+    or_none false = refl
+among_last (p ∷ rs) r q = ap (λ c. same_id p q || c) (among_last rs r q) ∙ sym (or_or (same_id p q) (is_among rs q) (same_id r q))
+  where
+    or_or : (a c d : Bool) → (a || c) || d ≡ a || (c || d)
+    or_or true c d = refl
+    or_or false c d = refl
+
 -- ---- regions that aren't in scope
 
 -- such a one is none of those that are
@@ -314,18 +328,6 @@ module _ (s : Scoped) (g : Regions) (h : AreThose s g) where
   }
 
   -- ---- a region that is opened
-
-  among_last : (rs : List Region) (r q : Region) → is_among (rs ++ r ∷ []) q ≡ is_among rs q || same_id r q
-  among_last [] r q = or_none (same_id r q)
-    where
-      or_none : (c : Bool) → c || false ≡ false || c
-      or_none true = refl
-      or_none false = refl
-  among_last (p ∷ rs) r q = ap (λ c. same_id p q || c) (among_last rs r q) ∙ sym (or_or (same_id p q) (is_among rs q) (same_id r q))
-    where
-      or_or : (a c d : Bool) → (a || c) || d ≡ a || (c || d)
-      or_or true c d = refl
-      or_or false c d = refl
 
   all_below_and : (rs : List Region) (r : Region) → AllBelow n rs → Below n r → AllBelow n (rs ++ r ∷ [])
   all_below_and [] r a l = (l, tt)

@@ -1,16 +1,15 @@
--- Regions that reach others by bounds, round by round: what is marked is what reaches them in so many steps.
-use Rattle.std.specs.Prelude.{Err, IfOk, Ok, Result, length, max, nat_eq, nat_lt, replicate, slice_get, slice_set, unwrap_or, ◌&&◌, ◌||◌, ◌≤◌, ◌<◌}
-use Rattle.std.proofs.Common.{◌≡◌, ℕ, zero, suc, Bool, true, false, List, [], ◌∷◌, Vec, refl, sym, ◌∙◌, ap, subst, arith}
-use Rattle.std.proofs.lemmas.Bool.Decides.{nat_tests}
+-- Marks of regions, and regions that reach others by bounds in so many steps.
+use Rattle.std.specs.Prelude.{length, max, nat_eq, replicate, slice_get, slice_set, unwrap_or, ◌&&◌, ◌||◌, ◌≤◌, ◌<◌}
+use Rattle.std.proofs.Common.{◌≡◌, ℕ, zero, suc, Bool, true, false, List, [], ◌∷◌, refl, sym, ◌∙◌, ap, subst, arith}
 use Rattle.std.proofs.lemmas.List.{length-replicate, length-set}
 use Rattle.source_typing.specs.Named.{Below, BoundsBelow}
 use Rattle.source_typing.specs.Regions.{Level, Region, TheHeap, any_of, by_bounds, is_among, is_heap, reaches, same_id}
-use Rattle.check_regions.specs.Reached.{has, is_near, mark_if, marks_of, most, past, reaches_any, reaches_near, rounds, spread, with_mark, with_marks}
+use Rattle.check_regions.specs.Reached.{has, is_near, marks_of, most, past, reaches_near, with_mark, with_marks}
 use Rattle.check_regions.proofs.Extending.{turned}
 
 -- ---- answers, joined
 
-or_none : (a : Bool) → a ≡ a || false
+pub or_none : (a : Bool) → a ≡ a || false
 or_none true = refl
 or_none false = refl
 
@@ -18,23 +17,19 @@ or_all : (a : Bool) → true ≡ a || true
 or_all true = refl
 or_all false = refl
 
-or_or : (a b c : Bool) → (a || b) || c ≡ a || (b || c)
+pub or_or : (a b c : Bool) → (a || b) || c ≡ a || (b || c)
 or_or true b c = refl
 or_or false b c = refl
 
 -- ---- marks
 
-kept_long : (x : Region) (m : List Bool) → length (with_mark x m) ≡ length m
+pub kept_long : (x : Region) (m : List Bool) → length (with_mark x m) ≡ length m
 kept_long TheHeap m = refl
 kept_long (Level k) m = length-set m k true
 
 all_long : (ts : List Region) (m : List Bool) → length (with_marks ts m) ≡ length m
 all_long [] m = refl
 all_long (t ∷ ts) m = all_long ts (with_mark t m) ∙ kept_long t m
-
-long_if : (b : Bool) (x : Region) (m : List Bool) → length (mark_if b x m) ≡ length m
-long_if true x m = kept_long x m
-long_if false x m = refl
 
 pub so_many : (size : ℕ) (ts : List Region) → length (marks_of size ts) ≡ size
 so_many size ts = all_long ts (replicate size false) ∙ length-replicate size false
@@ -51,24 +46,11 @@ marked_at (b ∷ m) (suc j) (suc k) l =
     let e : nat_eq j k ≡ nat_eq (suc j) (suc k) = grind arith in
     marked_at m j k (grind (arith, l)) ∙ ap (λ t. unwrap_or (slice_get m k) false || t) e
 
-marked : (x : Region) (m : List Bool) (a : Region) → Below (length m) a → has (with_mark x m) a ≡ has m a || same_id x a
+pub marked : (x : Region) (m : List Bool) (a : Region) → Below (length m) a → has (with_mark x m) a ≡ has m a || same_id x a
 marked TheHeap m TheHeap l = refl
 marked TheHeap m (Level k) l = or_none (has m (Level k))
 marked (Level j) m TheHeap l = refl
 marked (Level j) m (Level k) l = marked_at m j k l
-
-marked_if : (b : Bool) (x : Region) (m : List Bool) (a : Region) → Below (length m) a
-    → has (mark_if b x m) a ≡ has m a || (same_id x a && b)
-marked_if true x m a l = marked x m a l ∙ ap (λ t. has m a || t) (and_yes (same_id x a))
-  where
-    and_yes : (t : Bool) → t ≡ t && true
-    and_yes true = refl
-    and_yes false = refl
-marked_if false x m a l = or_none (has m a) ∙ ap (λ t. has m a || t) (and_no (same_id x a))
-  where
-    and_no : (t : Bool) → false ≡ t && false
-    and_no true = refl
-    and_no false = refl
 
 all_marked : (ts : List Region) (m : List Bool) (a : Region) → Below (length m) a → has (with_marks ts m) a ≡ has m a || is_among ts a
 all_marked [] m a l = or_none (has m a)
@@ -90,43 +72,14 @@ first_marked size ts a l =
     all_marked ts (replicate size false) a (subst (λ n. Below n a) (sym (length-replicate size false)) l)
     ∙ ap (λ b. b || is_among ts a) (none_marked size a l)
 
--- ---- a round
+-- ---- steps
 
-spread_marks : (reached : List Bool) (bs : List (Region × Region)) (m : List Bool) (a : Region) → Below (length m) a
-    → has (spread reached bs m) a ≡ has m a || by_bounds bs a (has reached)
-spread_marks reached [] m a l = or_none (has m a)
-spread_marks reached ((x, y) ∷ bs) m a l =
-    let r : Bool = has reached y in
-    spread_marks reached bs (mark_if r x m) a (subst (λ n. Below n a) (sym (long_if r x m)) l)
-    ∙ ap (λ b. b || by_bounds bs a (has reached)) (marked_if r x m a l)
-    ∙ or_or (has m a) (same_id x a && r) (by_bounds bs a (has reached))
-
-bounds_agree : (size : ℕ) (bs : List (Region × Region)) (a : Region) (f g : Region → Bool) → BoundsBelow size bs
+pub bounds_agree : (size : ℕ) (bs : List (Region × Region)) (a : Region) (f g : Region → Bool) → BoundsBelow size bs
     → ((c : Region) → Below size c → f c ≡ g c) → by_bounds bs a f ≡ by_bounds bs a g
 bounds_agree size [] a f g h same = refl
 bounds_agree size ((x, y) ∷ bs) a f g h same =
     ap (λ b. (same_id x a && b) || by_bounds bs a f) (same y h.1)
     ∙ ap (λ b. (same_id x a && g y) || b) (bounds_agree size bs a f g h.2 same)
-
-pub rounds_reach : (size : ℕ) (ts : List Region) (bs : List (Region × Region)) → BoundsBelow size bs → (n : ℕ) (a : Region) → Below size a
-    → has (rounds (marks_of size ts) bs n) a ≡ reaches_near (is_near ts) bs n a
-rounds_reach size ts bs h zero a l = first_marked size ts a l
-rounds_reach size ts bs h (suc n) a l =
-    let first : List Bool = marks_of size ts in
-    spread_marks (rounds first bs n) bs first a (subst (λ m. Below m a) (sym (so_many size ts)) l)
-    ∙ ap (λ b. b || by_bounds bs a (has (rounds first bs n))) (first_marked size ts a l)
-    ∙ ap (λ b. is_near ts a || b)
-    (bounds_agree size bs a (has (rounds first bs n)) (λ c. reaches_near (is_near ts) bs n c) h (λ c m. rounds_reach size ts bs h n c m))
-
--- a round that adds nothing is the last one
-pub settled : (first : List Bool) (bs : List (Region × Region)) (n m : ℕ) → spread (rounds first bs n) bs first ≡ rounds first bs n → n ≤ m
-    → rounds first bs m ≡ rounds first bs n
-settled first bs n zero s l = let e : zero ≡ n = omega (arith, l) in ap (λ k. rounds first bs k) e
-settled first bs n (suc m) s l = by (nat_lt m n) refl (λ h. settled first bs n m s h)
-  where
-    by : (t : Bool) → nat_lt m n ≡ t → (n ≤ m → rounds first bs m ≡ rounds first bs n) → rounds first bs (suc m) ≡ rounds first bs n
-    by true e before = let q : suc m ≡ n = grind (arith, nat_tests, e, l) in ap (λ k. rounds first bs k) q
-    by false e before = let q : n ≤ m = grind (arith, nat_tests, e) in ap (λ r. spread r bs first) (before q) ∙ s
 
 -- ---- room for all
 
@@ -145,13 +98,6 @@ has_room ((x, y) ∷ bs) n =
     let h : m ≤ most bs m = at_least bs m in
     (below_past x (most bs m) (omega (arith, h)), below_past y (most bs m) (omega (arith, h)), has_room bs m)
 
-pub room_past : (bs : List (Region × Region)) (r : Region) (n : ℕ) → past r ≤ n → Below (most bs n) r
-room_past bs r n l = let h = at_least bs n in below_past r (most bs n) (omega (arith, h, l))
-
-pub below_room : (bs : List (Region × Region)) (n : ℕ) (r : Region) → Below n r → Below (most bs n) r
-below_room bs n TheHeap l = tt
-below_room bs n (Level k) l = let h = at_least bs n in omega (arith, h, l)
-
 -- ---- what is near, in the rules
 
 agree : (bs : List (Region × Region)) (a : Region) (f g : Region → Bool) → ((c : Region) → f c ≡ g c) → by_bounds bs a f ≡ by_bounds bs a g
@@ -169,7 +115,7 @@ reaches_one near b h bs (suc n) a =
     (agree bs a (λ c. reaches_near near bs n c) (λ c. reaches n bs c b) (λ c. reaches_one near b h bs n c))
 
 -- what is near is near one way or the other
-both_bounds : (bs : List (Region × Region)) (a : Region) (f g : Region → Bool)
+pub both_bounds : (bs : List (Region × Region)) (a : Region) (f g : Region → Bool)
     → by_bounds bs a (λ c. f c || g c) ≡ by_bounds bs a f || by_bounds bs a g
 both_bounds [] a f g = refl
 both_bounds ((x, y) ∷ bs) a f g =
@@ -236,12 +182,3 @@ reaches_each (t ∷ ts) bs n a =
 
     near : (a : Region) → is_near (t ∷ ts) a ≡ is_near ts a || is_near (t ∷ []) a
     near a = parted (is_heap a) (same_id t a) (is_among ts a)
-
--- the marks after as many rounds as there are bounds
-module _ {E Z : Type 0} (size : ℕ) (ts : List Region) (bs : List (Region × Region)) (h : BoundsBelow size bs)
-    (first : List Bool) (is : first ≡ marks_of size ts) where
-  pub reached_by_all : (r : Result (Vec Bool Z) E) (n : ℕ) → n ≡ length bs → IfOk r (λ v. v.items ≡ rounds first bs n)
-      → IfOk r (λ v. (a : Region) → Below size a → has v.items a ≡ reaches_any ts bs a)
-  reached_by_all (Ok v) n m e = λ a l.
-      ap (λ m. has m a) (e ∙ ap (λ f. rounds f bs n) is ∙ ap (λ k. rounds (marks_of size ts) bs k) m) ∙ rounds_reach size ts bs h (length bs) a l
-  reached_by_all (Err e) n m u = tt

@@ -5,6 +5,7 @@ pub mod Reached
 pub mod Begun
 pub mod Entered
 pub mod Scopes
+pub mod Walked
 pub use Rattle.cyc_types.specs.declared.ctype.CType
 pub use Rattle.cyc_types.specs.declared.region.RegionId
 pub use Rattle.cyc_types.specs.Regions

@@ -1,4 +1,4 @@
--- Regions that reach others by bounds: a set of regions in code, round by round, and in the rules.
+-- Regions that reach others by bounds: a set of regions in code, and in the rules.
 use Rattle.std.specs.Prelude.{Bool, List, false, length, max, replicate, slice_get, slice_set, suc, true, unwrap_or, zero, ℕ, ◌+◌, ◌||◌, [], ◌∷◌}
 use Rattle.source_typing.specs.Regions.{Level, Region, TheHeap, by_bounds, is_among, is_heap, reaches}
 
@@ -16,23 +16,9 @@ abbrev pub with_marks : List Region → List Bool → List Bool
 with_marks [] marks = marks
 with_marks (r ∷ rs) marks = with_marks rs (with_mark r marks)
 
-abbrev pub mark_if : Bool → Region → List Bool → List Bool
-mark_if true r marks = with_mark r marks
-mark_if false r marks = marks
-
 -- so many marks, of these regions
 abbrev pub marks_of : ℕ → List Region → List Bool
 marks_of size targets = with_marks targets (replicate size false)
-
--- what a bound leads to the reached ones is marked
-abbrev pub spread : List Bool → List (Region × Region) → List Bool → List Bool
-spread reached [] marks = marks
-spread reached ((x, y) ∷ bs) marks = spread reached bs (mark_if (has reached y) x marks)
-
--- so many rounds from the first ones
-abbrev pub rounds : List Bool → List (Region × Region) → ℕ → List Bool
-rounds first bounds zero = first
-rounds first bounds (suc n) = spread (rounds first bounds n) bounds first
 
 -- ---- how many marks there have to be
 

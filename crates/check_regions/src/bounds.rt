@@ -1,164 +1,178 @@
-// Regions that reach others by bounds.
+// The bounds of a function, and the regions that reach others by them.
 
-ghost use Rattle.std.specs.Prelude.{◌≡◌, IfOk, length, map};
+ghost use Rattle.std.specs.Prelude.{◌≡◌, ◌≤◌, ◌<◌, IfOk, OnOk, [], length, map};
 ghost use Rattle.cyc_types.specs.Regions.{region_of, regions_of};
 ghost use Rattle.source_typing.specs.Named.{Below, BoundsBelow};
 ghost use Rattle.source_typing.specs.Regions.{Region};
 ghost use Rattle.check_regions.specs.Fields.{pair_of};
-ghost use Rattle.check_regions.specs.Reached.{has, mark_if, marks_of, most, outlives_by, past, reaches_any, rounds, spread, with_mark, with_marks};
+ghost use Rattle.check_regions.specs.Reached.{has, most, outlives_by, past, reaches_any};
+ghost use Rattle.check_regions.specs.Walked.{AreRows, ends_in, no_rows, rows_of, with_bound, with_bounds, with_region};
 
+use crate::marks::{is_marked, past};
+use crate::walk::Walk;
 use cyc_types::RegionId;
 use std::alloc::{AllocError, Global};
+use std::marker::Model;
 
 /// A bound: the first region outlives the second.
 pub(crate) type Bound = (RegionId, RegionId);
 
-/// How many marks there are up to that of a region.
-fn past(region: RegionId) -> usize
-    ensures { result ≡ past (region_of region) }
-{
-    match region {
-        RegionId::Heap => 0,
-        RegionId::Level(level) => level as usize + 1,
+/// The bounds of a function. A contract sees them as they were given.
+pub(crate) struct Bounds {
+    given: Vec<Bound>,
+    /// By how many marks there are up to a region: those that outlive it by one bound.
+    rows: Vec<Vec<RegionId>>,
+}
+
+// Written out, so that a caller's proof sees one call and not the drop of each field.
+impl Drop for Bounds {
+    fn drop(self) {
+        let Bounds {
+            given: _given,
+            rows: _rows,
+        } = self;
     }
 }
 
-/// How many marks serve all regions of the bounds, at least so many.
-pub(crate) fn room_for(bounds: &[Bound], least: usize) -> usize
-    ensures { result ≡ most (map pair_of bounds.now) least }
+impl Model for Bounds {
+    ghost use Rattle.std.specs.Prelude.{List, map};
+    ghost use Rattle.source_typing.specs.Regions.{Region};
+    ghost use Rattle.check_regions.specs.Fields.{pair_of};
+    ghost use Rattle.check_regions.specs.Walked.{AreRows, rows_of};
+
+    ghost Value = { List (Region × Region) };
+
+    ghost view = { λ s. map pair_of s.given.items };
+
+    ghost invariant = { λ s. AreRows (rows_of s.rows.items) (map pair_of s.given.items) };
+}
+
+/// How many marks serve all regions of the bounds.
+fn room_for(bounds: &[Bound]) -> usize
+    ensures { result ≡ most (map pair_of bounds.now) 0 }
 {
-    let mut room = least;
+    let mut room = 0;
     'each: for bound in bounds {
         room = usize::max(room, usize::max(past(bound.0), past(bound.1)));
     }
     room
 }
 
-/// Whether a region is marked; the heap always is.
-pub(crate) fn is_marked(marks: &[bool], region: RegionId) -> bool
-    ensures { result ≡ has marks.now (region_of region) }
+/// Rows for so many marks and the heap, with nothing in them. Fails only where no host memory is left.
+fn no_rows(alloc: Global, size: usize) -> Result<Vec<Vec<RegionId>>, AllocError>
+    ensures { IfOk result (λ v. rows_of v.items ≡ no_rows size) }
 {
-    match region {
-        RegionId::Heap => true,
-        RegionId::Level(level) => match marks.get(level as usize) {
-            Some(mark) => *mark,
-            None => false,
-        },
+    let mut rows = vec![in alloc; Vec::new(alloc)]?;
+    'each: for _row in 0..size {
+        rows.push(Vec::new(alloc))?;
+    }
+    Ok(rows)
+}
+
+/// Whether a region is the last of these.
+#[tactic(auto, using(crate::proofs::Rows::last_region))]
+fn ends_in(row: &[RegionId], region: RegionId) -> bool
+    ensures { result ≡ ends_in (regions_of row.now) (region_of region) }
+{
+    match row.last() {
+        Some(last) => last.is_same(region),
+        None => false,
     }
 }
 
-/// Marks a region.
-fn mark(marks: &mut [bool], region: RegionId)
-    ensures { marks.new ≡ with_mark (region_of region) marks.old }
+/// One more region in a row. Equal bounds that follow each other are kept once.
+#[tactic(auto, using(crate::proofs::Ruled::regions_and))]
+fn add_region(row: &mut Vec<RegionId>, region: RegionId) -> Result<(), AllocError>
+    ensures { OnOk result (regions_of row.new.items ≡ with_region (regions_of row.old.items) (region_of region)) }
 {
-    if let RegionId::Level(level) = region {
-        let place = level as usize;
-        if place < marks.len() {
-            marks[place] = true;
-        }
+    if !ends_in(row.as_slice(), region) {
+        row.push(region)?;
     }
+    Ok(())
 }
 
-/// Marks these regions.
-fn mark_each(marks: &mut [bool], regions: &[RegionId])
-    ensures { marks.new ≡ with_marks (regions_of regions.now) marks.old }
+/// One more bound.
+fn add(rows: &mut [Vec<RegionId>], bound: Bound) -> Result<(), AllocError>
+    ensures { OnOk result (rows_of rows.new ≡ with_bound (region_of bound.0) (region_of bound.1) (rows_of rows.old)) }
 {
-    'each: for region in regions {
-        mark(marks, *region);
+    let place = past(bound.1);
+    if place < rows.len() {
+        add_region(&mut rows[place], bound.0)?;
     }
+    Ok(())
 }
 
-/// Marks a region where the other one of its bound is reached.
-fn mark_if(marks: &mut [bool], reached: bool, region: RegionId)
-    ensures { marks.new ≡ mark_if reached (region_of region) marks.old }
+/// The rows of these bounds. Fails only where no host memory is left.
+fn rows_of(alloc: Global, bounds: &[Bound]) -> Result<Vec<Vec<RegionId>>, AllocError>
+    ensures { IfOk result (λ v. rows_of v.items ≡ with_bounds (map pair_of bounds.now) (no_rows (most (map pair_of bounds.now) 0))) }
 {
-    if reached {
-        mark(marks, region);
-    }
-}
-
-/// Marks the regions that a bound leads to the reached ones.
-fn mark_next(marks: &mut [bool], reached: &[bool], bounds: &[Bound])
-    ensures { marks.new ≡ spread reached.now (map pair_of bounds.now) marks.old }
-{
+    let mut rows = no_rows(alloc, room_for(bounds))?;
     'each: for bound in bounds {
-        mark_if(marks, is_marked(reached, bound.1), bound.0);
+        add(rows.as_mut_slice(), *bound)?;
     }
+    Ok(rows)
 }
 
-/// So many marks, of these regions. Fails only where no host memory is left.
-pub(crate) fn marks_of(
-    alloc: Global,
-    size: usize,
-    regions: &[RegionId],
-) -> Result<Vec<bool>, AllocError>
-    ensures { IfOk result (λ v. v.items ≡ marks_of size (regions_of regions.now)) }
-{
-    let mut marks = vec![in alloc; false; size]?;
-    mark_each(marks.as_mut_slice(), regions);
-    Ok(marks)
-}
-
-/// The first ones, and those that a bound leads to the reached ones. Fails only where no host memory is left.
-fn next(
-    alloc: Global,
-    first: &[bool],
-    reached: &[bool],
-    bounds: &[Bound],
-) -> Result<Vec<bool>, AllocError>
-    ensures { IfOk result (λ v. v.items ≡ spread reached.now (map pair_of bounds.now) first.now) }
-{
-    let mut marks = Vec::from_slice(alloc, first)?;
-    mark_next(marks.as_mut_slice(), reached, bounds);
-    Ok(marks)
-}
-
-/// The first ones and all that reach them, by as many rounds as there are bounds. Fails only where no host memory is left.
-fn all_rounds(alloc: Global, first: &[bool], bounds: &[Bound]) -> Result<Vec<bool>, AllocError>
-    ensures { IfOk result (λ v. v.items ≡ rounds first.now (map pair_of bounds.now) (length bounds.now)) }
-{
-    let mut reached = Vec::from_slice(alloc, first)?;
-    'rounds: for _round in 0..bounds.len() {
-        let more = next(alloc, first, reached.as_slice(), bounds)?;
-        if more == reached {
-            return Ok(reached);
+impl Bounds {
+    /// No bounds.
+    pub(crate) fn none(alloc: Global) -> Bounds
+        ensures { result ≡ [] }
+    {
+        Bounds {
+            given: Vec::new(alloc),
+            rows: Vec::new(alloc),
         }
-        reached = more;
     }
-    Ok(reached)
-}
 
-/// So many marks, of the regions that reach the heap or one of these by bounds. Fails only where no host memory is left.
-pub(crate) fn reaching(
-    alloc: Global,
-    size: usize,
-    targets: &[RegionId],
-    bounds: &[Bound],
-) -> Result<Vec<bool>, AllocError>
-    requires { BoundsBelow size (map pair_of bounds.now) }
-    ensures { IfOk result (λ v. (a : Region) → Below size a
-        → has v.items a ≡ reaches_any (regions_of targets.now) (map pair_of bounds.now) a) }
-{
-    let first = marks_of(alloc, size, targets)?;
-    all_rounds(alloc, first.as_slice(), bounds)
-}
+    /// These bounds. Fails only where no host memory is left.
+    pub(crate) fn of(alloc: Global, bounds: &[Bound]) -> Result<Bounds, AllocError>
+        ensures { IfOk result (λ b. b ≡ map pair_of bounds.now) }
+    {
+        let rows = rows_of(alloc, bounds)?;
+        let given = Vec::from_slice(alloc, bounds)?;
+        Ok(Bounds { given, rows })
+    }
 
-/// Whether a region outlives another by bounds. Fails only where no host memory is left.
-pub(crate) fn outlives(
-    alloc: Global,
-    bounds: &[Bound],
-    one: RegionId,
-    other: RegionId,
-) -> Result<bool, AllocError>
-    ensures { IfOk result (λ b. b ≡ outlives_by (map pair_of bounds.now) (region_of one) (region_of other)) }
-{
-    if one.is_heap() || one.is_same(other) {
-        return Ok(true);
+    /// How many marks serve all regions of the bounds, at least so many.
+    pub(crate) fn size(&self, least: usize) -> usize
+        ensures all { BoundsBelow result self.now }
+        ensures enough { least ≤ result }
+    {
+        usize::max(self.rows.len(), least)
     }
-    if bounds.is_empty() {
-        return Ok(false);
+
+    /// So many marks, of the regions that reach the heap or one of these by bounds. Fails only where no host memory is left.
+    pub(crate) fn reaching(
+        &self,
+        alloc: Global,
+        size: usize,
+        targets: &[RegionId],
+    ) -> Result<Vec<bool>, AllocError>
+        requires { BoundsBelow size self.now }
+        ensures { IfOk result (λ v. (a : Region) → Below size a → has v.items a ≡ reaches_any (regions_of targets.now) self.now a) }
+    {
+        let walk = Walk::from(alloc, size, targets)?;
+        let walk = walk.levels(alloc, self.rows.as_slice(), self.given.len())?;
+        Ok(walk.marks())
     }
-    let size = room_for(bounds, past(one));
-    let marks = reaching(alloc, size, &[other], bounds)?;
-    Ok(is_marked(marks.as_slice(), one))
+
+    /// Whether a region outlives another by bounds. Fails only where no host memory is left.
+    pub(crate) fn outlives(
+        &self,
+        alloc: Global,
+        one: RegionId,
+        other: RegionId,
+    ) -> Result<bool, AllocError>
+        ensures { IfOk result (λ b. b ≡ outlives_by self.now (region_of one) (region_of other)) }
+    {
+        if one.is_heap() || one.is_same(other) {
+            return Ok(true);
+        }
+        if self.given.is_empty() {
+            return Ok(false);
+        }
+        let size = self.size(past(one));
+        let marks = self.reaching(alloc, size, &[other])?;
+        Ok(is_marked(marks.as_slice(), one))
+    }
 }

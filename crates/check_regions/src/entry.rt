@@ -4,7 +4,7 @@ ghost use Rattle.std.specs.Prelude.{◌≡◌, IfOk};
 ghost use Rattle.check_regions.specs.Entered.{variable_at, variables_at};
 
 use crate::begun::Begun;
-use crate::bounds::is_marked;
+use crate::marks::is_marked;
 use cyc_types::RegionId;
 use std::alloc::{AllocError, Global};
 

@@ -7,8 +7,10 @@
 mod begun;
 mod bounds;
 mod entry;
+mod marks;
 mod names;
 mod scope;
+mod walk;
 
 pub use begun::Begun;
 pub use cyc_types::{CType, RegionId, Tables};

@@ -24,8 +24,9 @@ ghost use Rattle.check_regions.specs.Scopes.{
 ghost use Rattle.check_regions.specs.declared.begun.Begun.TheVariants.{Block, Name};
 
 use crate::begun::Begun;
-use crate::bounds;
+use crate::bounds::Bounds;
 use crate::entry::{self, VariableMarks};
+use crate::marks;
 use cyc_types::RegionId;
 use std::alloc::{AllocError, Global};
 use std::marker::Model;
@@ -41,7 +42,7 @@ pub struct RegionMark {
 pub struct RegionScope {
     begun: Vec<Begun>,
     opened: Vec<RegionId>,
-    bounds: Vec<(RegionId, RegionId)>,
+    bounds: Bounds,
 }
 
 // Written out, so that a caller's proof sees one call and not the drop of each field.
@@ -61,7 +62,7 @@ impl Model for RegionScope {
 
     ghost Value = { Scoped };
 
-    ghost view = { λ s. scoped s.begun.items s.opened.items s.bounds.items };
+    ghost view = { λ s. scoped s.begun.items s.opened.items s.bounds };
 }
 
 /// Whether a region is one of these.
@@ -88,7 +89,7 @@ impl RegionScope {
         RegionScope {
             begun: Vec::new(alloc),
             opened: Vec::new(alloc),
-            bounds: Vec::new(alloc),
+            bounds: Bounds::none(alloc),
         }
     }
 
@@ -103,10 +104,11 @@ impl RegionScope {
         ensures { IfOk result (λ s. AllBelow variables (regions_of effect.now) → BoundsBelow variables (map pair_of bounds.now)
             → AreThose s (entry_regions variables (regions_of effect.now) (map pair_of bounds.now))) }
     {
-        let size = bounds::room_for(bounds, variables as usize);
-        let live = bounds::marks_of(alloc, size, effect)?;
-        let over_heap = bounds::reaching(alloc, size, &[], bounds)?;
-        let over_later = bounds::reaching(alloc, size, effect, bounds)?;
+        let bounds = Bounds::of(alloc, bounds)?;
+        let size = bounds.size(variables as usize);
+        let live = marks::marks_of(alloc, size, effect)?;
+        let over_heap = bounds.reaching(alloc, size, &[])?;
+        let over_later = bounds.reaching(alloc, size, effect)?;
         let marks = VariableMarks {
             live: live.as_slice(),
             over_heap: over_heap.as_slice(),
@@ -116,7 +118,7 @@ impl RegionScope {
         Ok(RegionScope {
             begun,
             opened: Vec::new(alloc),
-            bounds: Vec::from_slice(alloc, bounds)?,
+            bounds,
         })
     }
 
@@ -262,12 +264,9 @@ impl RegionScope {
     fn is_bound(&self, one: u32, other: u32) -> Result<bool, AllocError>
         ensures { IfOk result (λ b. b ≡ outlives_by self.now.bounds (Level one) (Level other)) }
     {
-        bounds::outlives(
-            *self.bounds.allocator(),
-            self.bounds.as_slice(),
-            RegionId::Level(one),
-            RegionId::Level(other),
-        )
+        let alloc = *self.begun.allocator();
+        let (one, other) = (RegionId::Level(one), RegionId::Level(other));
+        self.bounds.outlives(alloc, one, other)
     }
 
     /// Whether a name outlives a later one.

@@ -8,6 +8,7 @@ pub mod Located
 pub mod NameUses
 pub mod PrefixUses
 pub mod Programs
+pub mod Seeing
 pub mod Shortly
 pub mod Steps
 pub mod SuffixUses

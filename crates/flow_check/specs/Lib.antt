@@ -1,5 +1,6 @@
 pub mod Declarations
 pub mod Folded
+pub mod Seen
 pub mod Short
 pub mod Standing
 pub mod Suffixed

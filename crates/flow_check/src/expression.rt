@@ -1,16 +1,17 @@
 // What expressions do to locals that can't be copied.
 
-ghost use Rattle.std.specs.Prelude.{◌≡◌, ◌≤◌, ◌+◌, ◌&&◌, ◌||◌, IfOk, length, map, not};
-ghost use Rattle.cyc_tree.specs.Tree.{Prefixed};
+ghost use Rattle.std.specs.Prelude.{◌≡◌, ◌≤◌, IfOk, length, map};
+ghost use Rattle.cyc_tree.specs.Tree as tree;
 ghost use Rattle.cyc_tree.specs.View.{expression_tree, expressions_of, link_tree, links_of, made_tree, suffix_tree};
 ghost use Rattle.flow_summaries.specs.Expressions.{uses_made, uses_of};
-ghost use Rattle.flow_summaries.specs.Passages.{copied_if, in_turn, unchanged};
+ghost use Rattle.flow_summaries.specs.Passages.{unchanged};
 ghost use Rattle.flow_summaries.specs.Uses.{Uses, uses_as_value};
-ghost use Rattle.source_typing.specs.Scope.{Env};
-ghost use Rattle.check_faults.specs.Verdicts.{short_of};
-ghost use Rattle.check_expressions.specs.Suffixes.{short_suffix};
+ghost use Rattle.source_typing.specs.Expressions.{judge};
+ghost use Rattle.source_typing.specs.Scope.{Env, Value as TheValue};
+ghost use Rattle.check_faults.specs.Verdicts.{Short, short_of, shortened};
+ghost use Rattle.check_expressions.specs.Suffixes.{short_suffix, short_suffixes};
 ghost use Rattle.flow_check.specs.Folded.{all_short_uses, passed_all, passed_links, passed_tests, short_uses};
-ghost use Rattle.flow_check.specs.Short.{in_block_short, is_unique_short};
+ghost use Rattle.flow_check.specs.Seen.{IsSeen};
 ghost use Rattle.flow_effects.specs.Passed.{passage_of};
 ghost use Rattle.flow_check.specs.Suffixed.{IsSuffixed};
 ghost use Rattle.flow_effects.specs.Used.{IsUsed};
@@ -19,12 +20,15 @@ ghost use Rattle.flow_effects.specs.declared.used.Usage.TheVariants as usage;
 ghost use Rattle.flow_effects.specs.declared.used.Usage.{Usage as TheUsage};
 ghost use Rattle.check_operators.specs.Values.{value_of};
 
-use crate::facts::{in_block, is_moved, is_unique_value, place_of};
+use crate::facts::place_of;
 use crate::name::uses_of_name;
+use crate::parts::{idle, locals_around};
+use crate::pointing::{addressed, dereferenced, is_part, looked_at, pointed};
+use crate::seen::Seen;
 use crate::suffixed::Suffixed;
 use check_expressions::{
     Around, arrow_part, goal_part, indexed_parts, is_unique_region, judge_inside, member_part,
-    prefixed_part, with_counter,
+    with_counter,
 };
 use check_faults::Verdict;
 use check_operators::Value;
@@ -32,13 +36,6 @@ use check_scopes::Scope;
 use cyc_tree::{Expression, Link, Made, Prefix, Suffix};
 use flow_effects::{Passed, Usage, Used};
 use std::alloc::{AllocError, Global};
-
-/// An expression that does nothing.
-fn idle() -> Used
-    ensures { (how : TheUsage) → IsUsed how (uses_as_value unchanged) result }
-{
-    Used::value(Passed::nothing())
-}
 
 /// What an expression does that is used in this way, with this around. Fails only where no host memory is left.
 #[cycle(uses)]
@@ -68,19 +65,17 @@ pub(crate) fn uses<'p>(
             if suffixes.is_empty() {
                 return uses(scope, alloc, around, how, primary);
             }
-            let judged = judge_inside(scope, alloc, around, primary)?;
-            let used = uses(scope, alloc, around, Usage::Look, primary)?;
-            suffixed(scope, alloc, around, how, judged, used, suffixes)
+            let first = seen(scope, alloc, around, Usage::Look, primary)?;
+            Ok(suffixed(scope, alloc, around, how, first, suffixes)?.used)
         }
         Expression::Prefixed(at, operator, operand) => {
             prefixed(scope, alloc, around, how, *at, *operator, operand)
         }
         Expression::New(_, new) => made(scope, alloc, around, Passed::nothing(), new),
         Expression::NewIn(_, handle, new) => {
-            let judged = judge_inside(scope, alloc, around, handle)?;
-            let goal = goal_part(scope, is_unique_region(handle), judged);
-            let looked = uses(scope, alloc, around, Usage::Look, handle)?;
-            made(scope, alloc, around.inside(&goal), looked.passed, new)
+            let looked = seen(scope, alloc, around, Usage::Look, handle)?;
+            let goal = goal_part(scope, is_unique_region(handle), looked.judged);
+            made(scope, alloc, around.inside(&goal), looked.used.passed, new)
         }
         Expression::Chain(first, links) => {
             if links.is_empty() {
@@ -110,6 +105,42 @@ pub(crate) fn uses<'p>(
             let from = uses(scope, alloc, around, Usage::Value, from)?;
             let to = uses(scope, alloc, around, Usage::Target, to)?;
             Ok(Used::value(from.passed.in_turn(to.passed)))
+        }
+    }
+}
+
+/// What an expression is and what it does that is used in this way, with this around. Of `*`, `&`, members and subscripts within one
+/// another each is judged once; an expression of another kind is judged as a whole. Fails only where no host memory is left.
+#[cycle(uses)]
+fn seen<'p>(
+    scope: &Scope<'_, 'p>,
+    alloc: Global,
+    around: Around<'_>,
+    how: Usage,
+    expression: &Expression,
+) -> Result<Seen<'p>, AllocError>
+    ensures { (g : Env) → IsWithin scope.now around.entry g → let e = expression_tree expression.now in
+        IfOk result (IsSeen how (shortened (judge g e)) (uses_of g e)) }
+{
+    match expression {
+        Expression::Grouped(at, inner) => {
+            let inner = seen(scope, alloc, around, how, inner)?;
+            Ok(inner.grouped(*at))
+        }
+        Expression::Prefixed(at, operator, operand) => {
+            seen_prefixed(scope, alloc, around, how, *at, *operator, operand)
+        }
+        Expression::Suffixed(primary, suffixes) => {
+            if suffixes.is_empty() {
+                return seen(scope, alloc, around, how, primary);
+            }
+            let first = seen(scope, alloc, around, Usage::Look, primary)?;
+            suffixed(scope, alloc, around, how, first, suffixes)
+        }
+        _ => {
+            let judged = judge_inside(scope, alloc, around, expression)?;
+            let used = uses(scope, alloc, around, how, expression)?;
+            Ok(Seen { judged, used })
         }
     }
 }
@@ -230,63 +261,44 @@ fn prefixed(
     operand: &Expression,
 ) -> Result<Used, AllocError>
     ensures { (g : Env) → IsWithin scope.now around.entry g → IfOk result (IsUsed how (uses_of g
-        (Prefixed at operator (expression_tree operand.now)))) }
+        (tree.Prefixed at operator (expression_tree operand.now)))) }
 {
     match operator {
         Prefix::Negate | Prefix::Not | Prefix::Complement => looked(scope, alloc, around, operand),
-        Prefix::Dereference => {
-            let judged = judge_inside(scope, alloc, around, operand)?;
-            let used = uses(scope, alloc, around, Usage::Look, operand)?;
-            let passed = pointed(at, &judged, used);
-            let contents = prefixed_part(scope, alloc, at, operator, judged)?;
-            let moves = is_moved(scope.tables, &contents);
-            Ok(Used::place(how, at, moves, false, passed))
-        }
-        Prefix::AddressOf => {
-            let judged = judge_inside(scope, alloc, around, operand)?;
-            let used = uses(scope, alloc, around, Usage::Place, operand)?;
-            Ok(addressed(at, judged, used))
+        Prefix::Dereference | Prefix::AddressOf => {
+            Ok(seen_prefixed(scope, alloc, around, how, at, operator, operand)?.used)
         }
     }
 }
 
-/// Whether a unique pointer would be dereferenced that is no local by its name.
-fn is_led_away(judged: &Verdict<Value>, used: &Used) -> bool
-    ensures { result ≡ (is_unique_short (short_of value_of judged.now) && not used.now.whole) }
+/// What an operator before an operand is, and what it does. Fails only where no host memory is left.
+#[cycle(uses)]
+fn seen_prefixed<'p>(
+    scope: &Scope<'_, 'p>,
+    alloc: Global,
+    around: Around<'_>,
+    how: Usage,
+    at: u32,
+    operator: Prefix,
+    operand: &Expression,
+) -> Result<Seen<'p>, AllocError>
+    ensures { (g : Env) → IsWithin scope.now around.entry g → let e = tree.Prefixed at operator (expression_tree operand.now) in
+        IfOk result (IsSeen how (shortened (judge g e)) (uses_of g e)) }
 {
-    is_unique_value(judged) && !used.whole
-}
-
-/// Whether an element is a part of a noncopyable local: what a unique pointer leads to isn't.
-fn is_part(judged: &Verdict<Value>, used: &Used) -> bool
-    ensures { result ≡ (used.now.own && not (is_unique_short (short_of value_of judged.now))) }
-{
-    used.own && !is_unique_value(judged)
-}
-
-/// What is looked at where it is dereferenced at a place: a unique pointer is so through a local alone.
-fn pointed(at: u32, judged: &Verdict<Value>, used: Used) -> Passed
-    ensures { (u : Uses) → IsUsed usage.Look u used
-        → passage_of result ≡ in_turn u.look (copied_if (is_unique_short (short_of value_of judged.now) && not u.whole) at) }
-{
-    let copied = Passed::copied_if(is_led_away(judged, &used), at);
-    used.passed.in_turn(copied)
-}
-
-/// Whether it is a noncopyable local or a part of one, or a place in the block of a unique pointer.
-fn is_owned(judged: &Verdict<Value>, used: &Used) -> bool
-    ensures { result ≡ (used.now.own || in_block_short (short_of value_of judged.now)) }
-{
-    used.own || in_block(judged)
-}
-
-/// What is pointed to by `&` at a place.
-fn addressed(at: u32, judged: Verdict<Value>, used: Used) -> Used
-    ensures { (how : TheUsage) (u : Uses) → IsUsed usage.Place u used → IsUsed how (uses_as_value
-        (in_turn u.place (copied_if (u.own || in_block_short (short_of value_of judged.entry)) at))) result }
-{
-    let copied = Passed::copied_if(is_owned(&judged, &used), at);
-    Used::value(used.passed.in_turn(copied))
+    match operator {
+        Prefix::Negate | Prefix::Not | Prefix::Complement => {
+            let operand = seen(scope, alloc, around, Usage::Look, operand)?;
+            looked_at(scope, alloc, at, operator, operand)
+        }
+        Prefix::Dereference => {
+            let operand = seen(scope, alloc, around, Usage::Look, operand)?;
+            dereferenced(scope, alloc, how, at, operand)
+        }
+        Prefix::AddressOf => {
+            let operand = seen(scope, alloc, around, Usage::Place, operand)?;
+            addressed(scope, alloc, at, operand)
+        }
+    }
 }
 
 /// One suffix, after what stands before it. Fails only where no host memory is left.
@@ -306,11 +318,10 @@ fn suffix_after<'p>(
     let at = place_of(&judged);
     match suffix {
         Suffix::Index(index) => {
-            let subscript = judge_inside(scope, alloc, around, index)?;
-            let index = uses(scope, alloc, around, Usage::Look, index)?;
+            let index = seen(scope, alloc, around, Usage::Look, index)?;
             let own = is_part(&judged, &used);
-            let passed = index.passed.in_turn(pointed(at, &judged, used));
-            let judged = indexed_parts(scope, judged, subscript);
+            let passed = index.used.passed.in_turn(pointed(at, &judged, used));
+            let judged = indexed_parts(scope, judged, index.judged);
             Ok(Suffixed::of(scope.tables, at, judged, own, passed))
         }
         Suffix::Dot(field) => {
@@ -332,33 +343,22 @@ fn suffixed<'p>(
     alloc: Global,
     around: Around<'_>,
     how: Usage,
-    judged: Verdict<Value<'p>>,
-    used: Used,
+    primary: Seen<'p>,
     suffixes: &[Suffix],
-) -> Result<Used, AllocError>
-    ensures { (g : Env) (u : Uses) → IsWithin scope.now around.entry g → IsUsed usage.Look u used
+) -> Result<Seen<'p>, AllocError>
+    ensures { (g : Env) (s : Short TheValue) (u : Uses) → IsWithin scope.now around.entry g → IsSeen usage.Look s u primary.entry
         → 1 ≤ length suffixes.now
-        → IfOk result (IsUsed how (all_short_uses g (short_of value_of judged.entry) u (map suffix_tree suffixes.now))) }
+        → IfOk result (IsSeen how (short_suffixes g s (map suffix_tree suffixes.now)) (all_short_uses g s u (map suffix_tree suffixes.now))) }
 {
     let Some((first, others)) = suffixes.split_first() else {
-        return Ok(used);
+        return Ok(primary);
     };
+    let Seen { judged, used } = primary;
     let mut suffixed = suffix_after(scope, alloc, around, judged, used, first)?;
     'each: for suffix in others {
         suffixed = suffix_after(scope, alloc, around, suffixed.judged, suffixed.look, suffix)?;
     }
-    let own = suffixed.look.own;
-    Ok(Used::place(how, suffixed.at, suffixed.moves, own, suffixed.look.passed))
-}
-
-/// How many locals are in scope, with the indexes of arrays that are made around. Fails only where there are more than a number can say.
-fn locals_around(scope: &Scope<'_, '_>, around: Around<'_>) -> Result<usize, AllocError>
-    ensures { IfOk result (λ n. n ≡ length scope.now.locals + length around.entry.counters.now) }
-{
-    match scope.locals.len().checked_add(around.counters.len()) {
-        Some(count) => Ok(count),
-        None => Err(AllocError),
-    }
+    Ok(suffixed.seen(how))
 }
 
 /// What is made, after its handle is looked at. Fails only where no host memory is left.

@@ -11,7 +11,10 @@ mod expressions;
 mod facts;
 mod function;
 mod name;
+mod parts;
+mod pointing;
 mod program;
+mod seen;
 mod statement;
 mod suffixed;
 

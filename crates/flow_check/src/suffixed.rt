@@ -4,18 +4,20 @@ ghost use Rattle.std.specs.Prelude.{◌≡◌};
 ghost use Rattle.cyc_types.specs.Sameness.{HasTags};
 ghost use Rattle.check_operators.specs.Values.{value_of};
 ghost use Rattle.flow_summaries.specs.Passages.{Passage};
-ghost use Rattle.flow_summaries.specs.Uses.{uses_as_place};
+ghost use Rattle.flow_summaries.specs.Uses.{Uses, uses_as_place};
 ghost use Rattle.source_typing.specs.Scope as rules_scope;
-ghost use Rattle.check_faults.specs.Verdicts.{short_of};
+ghost use Rattle.check_faults.specs.Verdicts.{Short, short_of};
 ghost use Rattle.flow_effects.specs.Passed.{passage_of};
+ghost use Rattle.flow_check.specs.Seen.{IsSeen};
 ghost use Rattle.flow_check.specs.Short.{is_moved_short};
 ghost use Rattle.flow_check.specs.Suffixed.{IsSuffixed};
 
 use crate::facts::is_moved;
+use crate::seen::Seen;
 use check_faults::Verdict;
 use check_operators::Value;
 use cyc_types::Tables;
-use flow_effects::{Passed, Used};
+use flow_effects::{Passed, Usage, Used};
 
 /// What stands after some suffixes: what it is, and what it does where it is looked at. A noncopyable value isn't moved out of it.
 #[derive(Drop)]
@@ -50,6 +52,17 @@ impl<'p> Suffixed<'p> {
             },
             at,
             moves,
+        }
+    }
+
+    /// What that is where it is used in this way.
+    pub(crate) fn seen(self, how: Usage) -> Seen<'p>
+        ensures { (s : Short rules_scope.Value) (u : Uses) → IsSuffixed s u self.entry → IsSeen how s u result }
+    {
+        let own = self.look.own;
+        Seen {
+            judged: self.judged,
+            used: Used::place(how, self.at, self.moves, own, self.look.passed),
         }
     }
 }

@@ -15,26 +15,27 @@ use Rattle.flow_summaries.specs.Uses.{uses_as_value}
 use Rattle.source_meaning.specs.Expressions.{is_unique_region}
 use Rattle.source_typing.specs.Expressions.{judge}
 use Rattle.source_typing.specs.Making.{enclosed, inside}
-use Rattle.source_typing.specs.Operators.{prefixed}
-use Rattle.source_typing.specs.Places.{contents}
-use Rattle.source_typing.specs.Scope.{Value}
-use Rattle.check_faults.specs.Verdicts.{Short, short_after, short_of, shortened}
+use Rattle.source_typing.specs.Places.{grouped}
+use Rattle.check_faults.proofs.Shortened.{shortened_after}
+use Rattle.check_faults.specs.Verdicts.{short_of, shortened}
 use Rattle.check_operators.specs.Goals.{goal_in}
 use Rattle.check_operators.specs.Values.{value_of}
 use Rattle.check_expressions.specs.Enclosings.{enclosing_of}
 use Rattle.check_expressions.proofs.Forms.{judged}
 use Rattle.check_expressions.proofs.Makings.{enclosed_is, goal_is, handle_goal}
 use Rattle.check_expressions.specs.Goals.{enclosed_short}
+use Rattle.check_expressions.specs.Suffixes.{short_suffixes}
 use Rattle.flow_effects.specs.Passed.{passage_of}
 use Rattle.flow_effects.specs.Used.{IsUsed}
 use Rattle.flow_effects.specs.declared.used.Usage.TheVariants as usage
-use Rattle.flow_check.proofs.Forms.{call_uses, chain_alone, chain_uses, does, some_suffixes, suffixed_alone, suffixed_uses, tested_alone}
+use Rattle.flow_check.proofs.Forms.{call_uses, chain_alone, chain_uses, does, some_suffixes, suffixed_alone, tested_alone}
 use Rattle.flow_check.proofs.Forms.{tested_length, tests_joined, told}
-use Rattle.flow_check.proofs.PrefixUses.{address_shortly, contents_shortly, look_alone}
+use Rattle.flow_check.proofs.PrefixUses.{look_alone}
+use Rattle.flow_check.proofs.Seeing.{SeenAs, alone_seen, seen_told, suffixed_same}
 use Rattle.flow_check.proofs.Steps.{all_step, links_step, tests_step}
 use Rattle.flow_check.proofs.Within.{inside_goal}
 use Rattle.flow_check.specs.Folded.{all_short_uses, passed_all, passed_links, passed_tests}
-use Rattle.flow_check.specs.Short.{in_block_short, is_unique_short}
+use Rattle.flow_check.specs.Seen.{IsSeen}
 use Rattle.flow_check.proofs.expression.+uses.Answers.Suffixes as Suffixes
 use Rattle.flow_check.proofs.expression.+uses.Goals as goal
 
@@ -117,27 +118,24 @@ uses-returns-in-Grouped t c = λ g h.
     (subst (λ x. IfOk c.uses.result (IsUsed c.args.how (uses_of g (expression_tree x)))) c.deref-in-Grouped.ensures
     (c.uses.ensures g h))
 
-pub uses-returns-in_ok-used-in-Suffixed : goal.uses-returns-in_ok-used-in-Suffixed
-uses-returns-in_ok-used-in-Suffixed t c = λ g h.
+pub uses-returns-in_ok-suffixed-in-Suffixed : goal.uses-returns-in_ok-suffixed-in-Suffixed
+uses-returns-in_ok-suffixed-in-Suffixed t c = λ g h.
     let e = expression_tree c.in-Suffixed.primary.value in
     let xs = c.in-Suffixed.suffixes.items in
-    let does_it = λ (s : Short Value) (ys : List Suffix). IfOk c.suffixed.result
-    (IsUsed c.args.how (all_short_uses g s (uses_of g e) (map suffix_tree ys))) in
-    let known : short_of value_of c.in_ok-judged-in-Suffixed.judged ≡ judged g c.in-Suffixed.primary.value =
-    c.in_ok-judged-in-Suffixed.ensures g h.scope ∙ ap (λ x. judged g x) c.deref-in-Suffixed.ensures in
-    let used : IsUsed usage.Look (uses_of g e) c.in_ok-used-in-Suffixed.used =
-    subst (λ x. IsUsed usage.Look (uses_of g (expression_tree x)) c.in_ok-used-in-Suffixed.used) c.deref-in-Suffixed-2.ensures
-    (c.in_ok-used-in-Suffixed.ensures g h) in
-    let some : 1 ≤ length c.deref-in-Suffixed-3.result.now =
-    subst (λ ys. 1 ≤ length ys) (sym c.deref-in-Suffixed-3.ensures.value)
+    let whole = Expression.Suffixed e (suffixes_of (map suffix_tree xs)) in
+    let first : SeenAs g usage.Look e c.in_ok-first-in-Suffixed.first =
+    subst (λ x. SeenAs g usage.Look (expression_tree x) c.in_ok-first-in-Suffixed.first) c.deref-in-Suffixed.ensures (c.in_ok-first-in-Suffixed.ensures g h) in
+    let some : 1 ≤ length c.deref-in-Suffixed-2.result.now =
+    subst (λ ys. 1 ≤ length ys) (sym c.deref-in-Suffixed-2.ensures.value)
     (some_suffixes xs (tested_length c.in-Suffixed.suffixes c.is_empty.result c.is_empty.ensures ∙ c.if-is_empty.false)) in
-    told g c.args.how c.suffixed.result c.args.expression.now (Expression.Suffixed e (suffixes_of (map suffix_tree xs)))
-    (all_short_uses g (judged g c.in-Suffixed.primary.value) (uses_of g e) (map suffix_tree xs))
-    (ap (λ e. expression_tree e) c.in-Suffixed.is ∙ suffixed_tree c.in-Suffixed.primary c.in-Suffixed.suffixes)
-    (suffixed_uses g e (map suffix_tree xs))
-    (subst (λ s. does_it s xs) known
-    (subst (λ ys. does_it (short_of value_of c.in_ok-judged-in-Suffixed.judged) ys) c.deref-in-Suffixed-3.ensures.value
-    (c.suffixed.ensures g (uses_of g e) h used some)))
+    let does_it = λ (ys : List Suffix). IsSeen c.args.how (short_suffixes g (shortened (judge g e)) (map suffix_tree ys))
+    (all_short_uses g (shortened (judge g e)) (uses_of g e) (map suffix_tree ys)) c.in_ok-suffixed-in-Suffixed.field-0 in
+    let seen : SeenAs g c.args.how whole c.in_ok-suffixed-in-Suffixed.field-0 =
+    suffixed_same g c.args.how (λ s u. IsSeen c.args.how s u c.in_ok-suffixed-in-Suffixed.field-0) e xs
+    (subst does_it c.deref-in-Suffixed-2.ensures.value
+    (c.in_ok-suffixed-in-Suffixed.ensures g (shortened (judge g e)) (uses_of g e) h first some)) in
+    does g c.args.how c.in_ok-suffixed-in-Suffixed.field-0.used c.args.expression.now whole (uses_of g whole)
+    (ap (λ e. expression_tree e) c.in-Suffixed.is ∙ suffixed_tree c.in-Suffixed.primary c.in-Suffixed.suffixes) refl seen.used
 
 pub uses-returns-in-Prefixed : goal.uses-returns-in-Prefixed
 uses-returns-in-Prefixed t c = λ g h.
@@ -163,19 +161,19 @@ uses-returns-in_ok-looked-in-NewIn t c = λ g h.
     let handle = c.in-NewIn.handle.value in
     let m = made_tree c.in-NewIn.new in
     let to = handle_goal g (expression_tree handle) in
+    let seen : IsSeen usage.Look (judged g handle) (uses_of g (expression_tree handle)) c.in_ok-looked-in-NewIn.looked =
+    subst (λ x. IsSeen usage.Look (judged g x) (uses_of g (expression_tree x)) c.in_ok-looked-in-NewIn.looked) c.deref-in-NewIn.ensures
+    (c.in_ok-looked-in-NewIn.ensures g h) in
     let goal_known : short_of goal_in c.goal_part-goal.result ≡ shortened to =
     c.goal_part-goal.ensures g h.scope.sees
-    ∙ goal_is g handle c.is_unique_region.result (short_of value_of c.in_ok-judged-in-NewIn.judged)
-    (c.is_unique_region.ensures ∙ ap (λ e. is_unique_region (expression_tree e)) c.deref-in-NewIn-2.ensures)
-    (c.in_ok-judged-in-NewIn.ensures g h.scope ∙ ap (λ e. judged g e) c.deref-in-NewIn.ensures) in
+    ∙ goal_is g handle c.is_unique_region.result (short_of value_of c.in_ok-looked-in-NewIn.looked.judged)
+    (c.is_unique_region.ensures ∙ ap (λ e. is_unique_region (expression_tree e)) c.deref-in-NewIn-2.ensures) seen.judged in
     let inside_known : enclosed to ≡ enclosing_of c.inside.result.enclosing =
     enclosed_is to ∙ ap enclosed_short (sym goal_known) ∙ sym c.inside.ensures.enclosing in
-    let looked : passage_of c.in_ok-looked-in-NewIn.looked.passed ≡ (uses_of g (expression_tree handle)).look =
-    (c.in_ok-looked-in-NewIn.ensures g h).passed ∙ ap (λ x. (uses_of g (expression_tree x)).look) c.deref-in-NewIn-3.ensures in
     told g c.args.how c.made-in-NewIn.result c.args.expression.now (Expression.NewIn at (expression_tree handle) m)
     (uses_made (inside to g) m (uses_of g (expression_tree handle)).look)
     (ap (λ e. expression_tree e) c.in-NewIn.is ∙ new_in_tree at c.in-NewIn.handle c.in-NewIn.new) refl
-    (subst (λ p. IfOk c.made-in-NewIn.result (IsUsed c.args.how (uses_made (inside to g) m p))) looked
+    (subst (λ p. IfOk c.made-in-NewIn.result (IsUsed c.args.how (uses_made (inside to g) m p))) seen.used.passed
     (c.made-in-NewIn.ensures (inside to g) c.args.how (inside_goal c.inside.result to h c.inside.ensures.counters inside_known)))
 
 pub uses-returns-in_ok-passed-in-Chain : goal.uses-returns-in_ok-passed-in-Chain
@@ -339,35 +337,78 @@ prefixed-returns-in-Negate t c = λ g h.
     let e = expression_tree c.args.operand.now in
     subst (λ u. IfOk c.looked.result (IsUsed c.args.how u)) (sym (look_alone g c.args.at c.args.operator e c.in-Negate.is)) (c.looked.ensures g c.args.how h)
 
-pub prefixed-returns-in_ok-contents-in-Dereference : goal.prefixed-returns-in_ok-contents-in-Dereference
-prefixed-returns-in_ok-contents-in-Dereference t c = λ g h.
-    let at = c.args.at in
-    let e = expression_tree c.args.operand.now in
-    let s = short_of value_of c.in_ok-judged-in-Dereference.judged in
-    let moved = c.is_moved-moves.ensures g h.scope.sees.tags in
-    let contents_are : short_of value_of c.in_ok-contents-in-Dereference.contents ≡ short_after s (λ a. shortened (contents g at a)) =
-    c.in_ok-contents-in-Dereference.ensures g h.scope.sees ∙ ap (λ o. short_after s (λ a. shortened (prefixed g at o a))) c.in-Dereference.is in
-    let passes : passage_of c.pointed-passed.result
-    ≡ in_turn (uses_of g e).look (copied_if (is_unique_short s && not (uses_of g e).whole) at) =
-    c.pointed-passed.ensures (uses_of g e) (c.in_ok-used-in-Dereference.ensures g h) in
-    subst (λ u. IsUsed c.args.how u c.place.result)
-    (contents_shortly g at (judge g e) (uses_of g e) s (c.in_ok-judged-in-Dereference.ensures g h.scope)
-    (short_of value_of c.in_ok-contents-in-Dereference.contents)
-    c.is_moved-moves.result (passage_of c.pointed-passed.result) contents_are moved passes
-    ∙ ap (λ o. uses_of g (Expression.Prefixed at o e)) (sym c.in-Dereference.is))
-    (c.place.ensures (passage_of c.pointed-passed.result) refl)
+pub prefixed-returns-in_ok-seen_prefixed-in-Dereference : goal.prefixed-returns-in_ok-seen_prefixed-in-Dereference
+prefixed-returns-in_ok-seen_prefixed-in-Dereference t c = λ g h. (c.in_ok-seen_prefixed-in-Dereference.ensures g h).used
 
-pub prefixed-returns-in_ok-used-in-AddressOf : goal.prefixed-returns-in_ok-used-in-AddressOf
-prefixed-returns-in_ok-used-in-AddressOf t c = λ g h.
-    let at = c.args.at in
+-- ---- what parts are, beside what they do
+
+pub seen-returns-in_ok-inner-in-Grouped : goal.seen-returns-in_ok-inner-in-Grouped
+seen-returns-in_ok-inner-in-Grouped t c = λ g h.
+    let at = c.in-Grouped.at in
+    let e = expression_tree c.in-Grouped.inner.value in
+    let seen : IsSeen c.args.how (shortened (judge g e)) (uses_of g e) c.in_ok-inner-in-Grouped.inner =
+    subst (λ x. SeenAs g c.args.how (expression_tree x) c.in_ok-inner-in-Grouped.inner) c.deref.ensures (c.in_ok-inner-in-Grouped.ensures g h) in
+    subst (λ x. SeenAs g c.args.how x c.grouped.result) (sym (ap (λ e. expression_tree e) c.in-Grouped.is ∙ grouped_tree at c.in-Grouped.inner))
+    (subst (λ s. IsSeen c.args.how s (uses_of g e) c.grouped.result) (sym (shortened_after (judge g e) (grouped at)))
+    (c.grouped.ensures c.args.how (shortened (judge g e)) (uses_of g e) seen))
+
+pub seen-returns-in-Prefixed : goal.seen-returns-in-Prefixed
+seen-returns-in-Prefixed t c = λ g h.
+    let at = c.in-Prefixed.at in
+    let o = c.in-Prefixed.operator in
+    let e = expression_tree c.in-Prefixed.operand.value in
+    seen_told g c.args.how c.seen_prefixed.result c.args.expression.now (Expression.Prefixed at o e)
+    (ap (λ e. expression_tree e) c.in-Prefixed.is ∙ prefixed_tree at o c.in-Prefixed.operand)
+    (subst (λ x. IfOk c.seen_prefixed.result (SeenAs g c.args.how (Expression.Prefixed at o (expression_tree x)))) c.deref-in-Prefixed.ensures
+    (c.seen_prefixed.ensures g h))
+
+pub seen-returns-then-is_empty : goal.seen-returns-then-is_empty
+seen-returns-then-is_empty t c = λ g h.
+    let e = expression_tree c.in-Suffixed.primary.value in
+    let xs = c.in-Suffixed.suffixes.items in
+    seen_told g c.args.how c.seen-then-is_empty.result c.args.expression.now (Expression.Suffixed e (suffixes_of (map suffix_tree xs)))
+    (ap (λ e. expression_tree e) c.in-Suffixed.is ∙ suffixed_tree c.in-Suffixed.primary c.in-Suffixed.suffixes)
+    (alone_seen g c.args.how c.seen-then-is_empty.result e xs
+    (tested_length c.in-Suffixed.suffixes c.is_empty.result c.is_empty.ensures ∙ c.if-is_empty.true)
+    (subst (λ x. IfOk c.seen-then-is_empty.result (SeenAs g c.args.how (expression_tree x))) c.deref-then-is_empty.ensures
+    (c.seen-then-is_empty.ensures g h)))
+
+pub seen-returns-in_ok-first-in-Suffixed : goal.seen-returns-in_ok-first-in-Suffixed
+seen-returns-in_ok-first-in-Suffixed t c = λ g h.
+    let e = expression_tree c.in-Suffixed.primary.value in
+    let xs = c.in-Suffixed.suffixes.items in
+    let whole = Expression.Suffixed e (suffixes_of (map suffix_tree xs)) in
+    let first : SeenAs g usage.Look e c.in_ok-first-in-Suffixed.first =
+    subst (λ x. SeenAs g usage.Look (expression_tree x) c.in_ok-first-in-Suffixed.first) c.deref-in-Suffixed.ensures (c.in_ok-first-in-Suffixed.ensures g h) in
+    let some : 1 ≤ length c.deref-in-Suffixed-2.result.now =
+    subst (λ ys. 1 ≤ length ys) (sym c.deref-in-Suffixed-2.ensures.value)
+    (some_suffixes xs (tested_length c.in-Suffixed.suffixes c.is_empty.result c.is_empty.ensures ∙ c.if-is_empty.false)) in
+    let does_it = λ (ys : List Suffix). IfOk c.suffixed.result (IsSeen c.args.how (short_suffixes g (shortened (judge g e)) (map suffix_tree ys))
+    (all_short_uses g (shortened (judge g e)) (uses_of g e) (map suffix_tree ys))) in
+    seen_told g c.args.how c.suffixed.result c.args.expression.now whole
+    (ap (λ e. expression_tree e) c.in-Suffixed.is ∙ suffixed_tree c.in-Suffixed.primary c.in-Suffixed.suffixes)
+    (suffixed_same g c.args.how (λ s u. IfOk c.suffixed.result (IsSeen c.args.how s u)) e xs
+    (subst does_it c.deref-in-Suffixed-2.ensures.value (c.suffixed.ensures g (shortened (judge g e)) (uses_of g e) h first some)))
+
+pub seen_prefixed-returns-in_ok-operand-in-Negate : goal.seen_prefixed-returns-in_ok-operand-in-Negate
+seen_prefixed-returns-in_ok-operand-in-Negate t c = λ g h.
     let e = expression_tree c.args.operand.now in
-    let u = uses_of g e in
-    let s = short_of value_of c.in_ok-judged-in-AddressOf.judged in
-    let p = in_turn u.place (copied_if (u.own || in_block_short s) at) in
-    subst (λ v. IsUsed c.args.how v c.addressed.result)
-    (address_shortly g at (judge g e) u s (c.in_ok-judged-in-AddressOf.ensures g h.scope) p refl
-    ∙ ap (λ o. uses_of g (Expression.Prefixed at o e)) (sym c.in-AddressOf.is))
-    (c.addressed.ensures c.args.how u (c.in_ok-used-in-AddressOf.ensures g h))
+    let whole = Expression.Prefixed c.args.at c.args.operator e in
+    subst (λ u. IfOk c.looked_at.result (IsSeen c.args.how (shortened (judge g whole)) u))
+    (sym (look_alone g c.args.at c.args.operator e c.in-Negate.is))
+    (c.looked_at.ensures g (judge g e) (uses_of g e) c.args.how h.scope.sees (c.in_ok-operand-in-Negate.ensures g h))
+
+pub seen_prefixed-returns-in_ok-operand-in-Dereference : goal.seen_prefixed-returns-in_ok-operand-in-Dereference
+seen_prefixed-returns-in_ok-operand-in-Dereference t c = λ g h.
+    let e = expression_tree c.args.operand.now in
+    subst (λ o. IfOk c.dereferenced.result (SeenAs g c.args.how (Expression.Prefixed c.args.at o e))) (sym c.in-Dereference.is)
+    (c.dereferenced.ensures g (judge g e) (uses_of g e) h.scope.sees (c.in_ok-operand-in-Dereference.ensures g h))
+
+pub seen_prefixed-returns-in_ok-operand-in-AddressOf : goal.seen_prefixed-returns-in_ok-operand-in-AddressOf
+seen_prefixed-returns-in_ok-operand-in-AddressOf t c = λ g h.
+    let e = expression_tree c.args.operand.now in
+    subst (λ o. IfOk c.addressed.result (SeenAs g c.args.how (Expression.Prefixed c.args.at o e))) (sym c.in-AddressOf.is)
+    (c.addressed.ensures g (judge g e) (uses_of g e) c.args.how h.scope.sees (c.in_ok-operand-in-AddressOf.ensures g h))
 
 -- ---- suffixes
 

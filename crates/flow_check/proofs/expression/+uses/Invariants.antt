@@ -2,14 +2,14 @@ use Rattle.std.proofs.Common.{◌≡◌, drop, map}
 use Rattle.cyc_tree.specs.View.{expression_tree, expressions_of, link_tree, links_of, suffix_tree}
 use Rattle.flow_summaries.specs.Passages.{unchanged}
 use Rattle.flow_summaries.specs.Uses.{Uses}
-use Rattle.source_typing.specs.Scope.{Env}
-use Rattle.check_faults.specs.Verdicts.{short_of}
-use Rattle.check_operators.specs.Values.{value_of}
+use Rattle.source_typing.specs.Scope.{Env, Value}
+use Rattle.check_faults.specs.Verdicts.{Short}
+use Rattle.check_expressions.specs.Suffixes.{short_suffixes}
 use Rattle.flow_effects.specs.Passed.{passage_of}
-use Rattle.flow_effects.specs.Used.{IsUsed}
 use Rattle.flow_effects.specs.declared.used.Usage.TheVariants as usage
 use Rattle.flow_check.proofs.SuffixUses.{Rest}
 use Rattle.flow_check.specs.Folded.{all_short_uses, passed_all, passed_links, passed_tests}
+use Rattle.flow_check.specs.Seen.{IsSeen}
 use Rattle.flow_check.specs.Within.{IsWithin}
 use Rattle.flow_check.proofs.expression.+uses.Given as goal
 
@@ -34,6 +34,6 @@ invariant-passed_tests-each l =
 
 abbrev pub invariant-suffixed-each : goal.invariant-suffixed-each
 invariant-suffixed-each l =
-    (g : Env) (u : Uses) → IsWithin l.scope l.around g → IsUsed usage.Look u l.fn.used
-    → Rest g l.suffixed (map suffix_tree (drop l.suffix-index l.others))
-    (all_short_uses g (short_of value_of l.fn.judged) u (map suffix_tree l.fn.suffixes))
+    (g : Env) (s : Short Value) (u : Uses) → IsWithin l.scope l.around g → IsSeen usage.Look s u l.fn.primary
+    → Rest g l.suffixed (map suffix_tree (drop l.suffix-index l.others)) (short_suffixes g s (map suffix_tree l.fn.suffixes))
+    (all_short_uses g s u (map suffix_tree l.fn.suffixes))

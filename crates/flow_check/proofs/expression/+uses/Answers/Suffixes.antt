@@ -12,13 +12,15 @@ use Rattle.source_typing.specs.Places.{indexed}
 use Rattle.check_faults.specs.Verdicts.{short_both, short_of, shortened}
 use Rattle.check_operators.specs.Values.{value_of}
 use Rattle.check_expressions.proofs.Forms.{judged}
-use Rattle.check_expressions.specs.Suffixes.{short_suffix}
+use Rattle.check_expressions.specs.Suffixes.{short_suffix, short_suffixes}
 use Rattle.check_expressions.specs.Within.{is_counter}
 use Rattle.flow_effects.specs.Passed.{passage_of}
 use Rattle.flow_effects.specs.Used.{IsUsed}
-use Rattle.flow_check.proofs.SuffixUses.{after_arrow, after_dot, after_first, after_index, after_next, looked_is}
+use Rattle.flow_effects.specs.declared.used.Usage.TheVariants as usage
+use Rattle.flow_check.proofs.SuffixUses.{Rest, after_all, after_arrow, after_dot, after_first, after_index, after_next, looked_is}
 use Rattle.flow_check.proofs.Within.{counter_around}
 use Rattle.flow_check.specs.Folded.{all_short_uses}
+use Rattle.flow_check.specs.Seen.{IsSeen}
 use Rattle.flow_check.specs.Short.{is_unique_short, place_short}
 use Rattle.flow_check.proofs.expression.+uses.Goals as goal
 
@@ -26,19 +28,18 @@ pub suffix_after-returns-in_ok-index-in-Index : goal.suffix_after-returns-in_ok-
 suffix_after-returns-in_ok-index-in-Index t c = λ g u h used.
     let s = short_of value_of c.args.judged in
     let e = expression_tree c.in-Index.index.value in
+    let seen : IsSeen usage.Look (judged g c.in-Index.index.value) (uses_of g e) c.in_ok-index-in-Index.index =
+    subst (λ x. IsSeen usage.Look (judged g x) (uses_of g (expression_tree x)) c.in_ok-index-in-Index.index) c.deref.ensures
+    (c.in_ok-index-in-Index.ensures g h) in
     let judged_is : short_of value_of c.indexed_parts-judged.result ≡ short_suffix g s (OneSuffix.Index e) =
-    c.indexed_parts-judged.ensures g h.scope.sees
-    ∙ ap (λ x. short_both s x (λ a b. shortened (indexed g a b)))
-    (c.in_ok-subscript-in-Index.ensures g h.scope ∙ ap (λ x. judged g x) c.deref.ensures) in
-    let index_is : passage_of c.in_ok-index-in-Index.index.passed ≡ (uses_of g e).look =
-    (c.in_ok-index-in-Index.ensures g h).passed ∙ ap (λ x. (uses_of g (expression_tree x)).look) c.deref-in-Index.ensures in
+    c.indexed_parts-judged.ensures g h.scope.sees ∙ ap (λ x. short_both s x (λ a b. shortened (indexed g a b))) seen.judged in
     let pointed_is : passage_of c.pointed.result ≡ in_turn u.look (copied_if (is_unique_short s && not u.whole) (place_short s)) =
     c.pointed.ensures u used ∙ ap (λ n. in_turn u.look (copied_if (is_unique_short s && not u.whole) n)) c.place_of-at.ensures in
     after_index g s (short_of value_of c.indexed_parts-judged.result) u c.of.result (suffix_tree c.args.suffix.now) c.place_of-at.result
     c.is_part-own.result (passage_of c.in_turn-passed.result) e
     (ap (λ x. suffix_tree x) c.in-Index.is ∙ index_tree c.in-Index.index) c.place_of-at.ensures judged_is
     (c.is_part-own.ensures ∙ ap (λ own. own && not (is_unique_short s)) used.own)
-    (c.in_turn-passed.ensures ∙ ap₂ in_turn index_is pointed_is) (c.of.ensures g (passage_of c.in_turn-passed.result) h.scope.sees.tags refl)
+    (c.in_turn-passed.ensures ∙ ap₂ in_turn seen.used.passed pointed_is) (c.of.ensures g (passage_of c.in_turn-passed.result) h.scope.sees.tags refl)
 
 pub suffix_after-returns-in_ok-judged-in-Dot : goal.suffix_after-returns-in_ok-judged-in-Dot
 suffix_after-returns-in_ok-judged-in-Dot t c = λ g u h used.
@@ -58,27 +59,31 @@ suffix_after-returns-in_ok-judged-in-Arrow t c = λ g u h used.
     (c.of-in-Arrow.ensures g (passage_of c.pointed-passed.result) h.scope.sees.tags refl)
 
 pub suffixed-each-init : goal.suffixed-each-init
-suffixed-each-init t c = λ g u h used.
-    after_first g (short_of value_of c.args.judged) u c.in_ok-suffixed.suffixed c.in-Some.first.now c.in-Some.others.now c.args.suffixes.now
-    c.in-Some.ensures.cases.0 (c.in_ok-suffixed.ensures g u h used)
+suffixed-each-init t c = λ g s u h seen.
+    let known = short_of value_of c.args.primary.judged in
+    subst (λ x. Rest g c.in_ok-suffixed.suffixed (map suffix_tree c.in-Some.others.now) (short_suffixes g x (map suffix_tree c.args.suffixes.now))
+    (all_short_uses g x u (map suffix_tree c.args.suffixes.now))) seen.judged
+    (after_first g known u c.in_ok-suffixed.suffixed c.in-Some.first.now c.in-Some.others.now c.args.suffixes.now
+    c.in-Some.ensures.cases.0 (c.in_ok-suffixed.ensures g u h seen.used))
 
 pub suffixed-each-preserved : goal.suffixed-each-preserved
-suffixed-each-preserved t c = λ g u h used.
-    let so_far = c.each.invariant g u h used in
+suffixed-each-preserved t c = λ g s u h seen.
+    let so_far = c.each.invariant g s u h seen in
     let now = c.each.suffixed in
     after_next g now c.in_ok-suffixed-2.suffixed c.in-Some.others.now c.each.suffix-index c.suffix-item.result
-    (all_short_uses g (short_of value_of c.args.judged) u (map suffix_tree c.args.suffixes.now)) c.each-test.true c.suffix-item.is so_far
+    (short_suffixes g s (map suffix_tree c.args.suffixes.now)) (all_short_uses g s u (map suffix_tree c.args.suffixes.now))
+    c.each-test.true c.suffix-item.is so_far
     (c.in_ok-suffixed-2.ensures g (uses_as_place now.at now.moves now.look.own (passage_of now.look.passed)) h (looked_is now so_far.part))
 
 pub suffixed-returns : goal.suffixed-returns
-suffixed-returns t c = λ g u h used some.
+suffixed-returns t c = λ g s u h seen some.
     let now = c.each.suffixed in
     let xs = c.in-Some.others.now in
+    let what = short_suffixes g s (map suffix_tree c.args.suffixes.now) in
+    let all = all_short_uses g s u (map suffix_tree c.args.suffixes.now) in
     let done : drop c.each.suffix-index xs ≡ [] = drop_all c.each.suffix-index xs (omega (arith, c.each-test.false)) in
-    let v = uses_as_place now.at now.moves now.look.own (passage_of now.look.passed) in
-    let all = all_short_uses g (short_of value_of c.args.judged) u (map suffix_tree c.args.suffixes.now) in
-    let same : v ≡ all = ap (λ ys. all_short_uses g (short_of value_of now.judged) v (map suffix_tree ys)) (sym done) ∙ (c.each.invariant g u h used).same in
-    subst (λ w. IsUsed c.args.how w c.place.result) same (c.place.ensures (passage_of now.look.passed) refl)
+    after_all g c.args.how now c.seen.result what all
+    (subst (λ ys. Rest g now (map suffix_tree ys) what all) done (c.each.invariant g s u h seen)) c.seen.ensures
 
 pub made-returns-in_ok-value-in-One : goal.made-returns-in_ok-value-in-One
 made-returns-in_ok-value-in-One t c = λ g how h.

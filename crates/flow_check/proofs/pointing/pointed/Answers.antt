@@ -4,7 +4,7 @@ use Rattle.flow_summaries.specs.Passages.{copied_if, in_turn}
 use Rattle.check_faults.specs.Verdicts.{short_of}
 use Rattle.check_operators.specs.Values.{value_of}
 use Rattle.flow_check.specs.Short.{is_unique_short}
-use Rattle.flow_check.proofs.expression.pointed.Goals as goal
+use Rattle.flow_check.proofs.pointing.pointed.Goals as goal
 
 pub returns : goal.returns
 returns c = λ u used.

@@ -19,7 +19,7 @@ use Rattle.core_lines.proofs.memory.Relations.{Inside, EndsThere, home_of, activ
 use Rattle.core_lines.proofs.frames.Bodies.{with_config, goes_any, BodyGoes, call_goes, return_goes}
 use Rattle.core_lines.proofs.Flags.{length_cleared, length_all, more_flagged, flags_behind, follows_flags}
 use Rattle.core_lines.proofs.Live.{few_results, saved_in, saved_of, choice_to_after, choice_to_body, head_to_test}
-use Rattle.core_lines.proofs.Loads.{unknown_below, operation_below, values_below, statement_below}
+use Rattle.core_lines.proofs.Loads.{unknown_below, operation_below, values_below, statement_below, statements_below}
 use Rattle.core_lines.proofs.Ways.{Needs, Does, does_any, does_fewer}
 use Rattle.core_lines.proofs.Shown.{AreWhole, showing, showing_all, saving, saving_all, whole_all, loads_show, first_way, second_way, choice_served}
 use Rattle.core_lines.proofs.Shown.{at_choice, of_test, of_body, whole_test, whole_body, loop_shows, loop_served}
@@ -57,17 +57,18 @@ module _ (w : World) (order : IsInOrder w) (outer : List Waiting) (most : ℕ) w
         let behind_these = names_after_all these names in
         let both = and_parts (raises_only these) (raises_only those) is in
         let behind_label = next + 1 + labels_of these in
-        let tested = unknown_in held (t ∷ []) in
         let start = showing w hss names held needs (If t these those) in
         let one = showing_all w hss names held needs these in
         let other = showing_all w hss behind_these held needs those in
+        let shows_other = second_way w x hss names held needs t these those whole
+        (statements_below w.data_offsets (scoped w x ns) hss behind_these held those has.2) in
         let second = statements_code flags (surrounding w x oss hss names low held) (next + 1) out again these in
         let fourth = statements_code (drop (results_all these) flags) (surrounding w x oss hss behind_these low held) (behind_label + 1) out again those in
         choice_does w order x outer most held last start needs t next behind_label out again these those second fourth has.0
-        (choice_served w x hss names held needs t these those has.0 whole)
-        (does_fewer w x outer most held last start one needs second out again (core.statements these) (first_way tested one other)
+        (choice_served w x hss names held needs t these those whole has.0)
+        (does_fewer w x outer most held last start one needs second out again (core.statements these) (first_way w x hss names held needs t these those whole)
         (statements_raise x ns oss hss names low held last needs flags (next + 1) out again these whole both.0 has.1))
-        (does_fewer w x outer most held last start other needs fourth out again (core.statements those) (second_way tested one other)
+        (does_fewer w x outer most held last start other needs fourth out again (core.statements those) shows_other
         (statements_raise x ns oss hss behind_these low held last needs (drop (results_all these) flags) (behind_label + 1) out again those whole both.1 has.2))
     statement_raises x ns oss hss names low held last needs flags next out again (While test t body) whole is has = absurd (cc is)
     statement_raises x ns oss hss names low held last needs flags next out again (Block ls body) whole is has = absurd (cc is)
@@ -158,10 +159,11 @@ module _ (w : World) (order : IsInOrder w) (outer : List Waiting) (small : DataS
         let behind_label = next + 1 + labels_of these in
         let last = held_behind_all hss w.data_offsets held these in
         let last_of_those = held_behind_all hss w.data_offsets held those in
-        let tested = unknown_in held (t ∷ []) in
         let start = showing w hss names held needs (If t these those) in
         let one = showing_all w hss names held needs these in
         let other = showing_all w hss behind_these held needs those in
+        let shows_other = second_way w x hss names held needs t these those whole
+        (statements_below w.data_offsets (scoped w x ns) hss behind_these held those has.2) in
         let saved = saving_all w hss names held needs these in
         let saved_others = saving_all w hss behind_these held needs those in
         let flags_those = drop (results_all these) flags in
@@ -171,13 +173,13 @@ module _ (w : World) (order : IsInOrder w) (outer : List Waiting) (small : DataS
         let second = statements_code flags (surrounding w x oss hss names low held) (next + 1) out again these in
         let fourth = statements_code flags_those (surrounding w x oss hss behind_these low held) (behind_label + 1) out again those in
         choice_either w order x outer most held last last_of_those start needs t next behind_label out again these those second fourth has.0
-        (choice_served w x hss names held needs t these those has.0 whole)
-        (does_fewer w x outer most held last start one needs second out again (core.statements these) (first_way tested one other)
+        (choice_served w x hss names held needs t these those whole has.0)
+        (does_fewer w x outer most held last start one needs second out again (core.statements these) (first_way w x hss names held needs t these those whole)
         (statements_do x ns oss hss names low held needs flags (saved_others ++ rest) (next + 1) out again these whole are_these around has.1 fine.0 b.0))
-        (does_fewer w x outer most held last_of_those start other needs fourth out again (core.statements those) (second_way tested one other)
+        (does_fewer w x outer most held last_of_those start other needs fourth out again (core.statements those) shows_other
         (statements_do x ns oss hss behind_these low held needs flags_those rest (behind_label + 1) out again those whole are_those around has.2 fine.1 b.1))
         (raises_only those)
-        (λ only. does_fewer w x outer most held last start other needs fourth out again (core.statements those) (second_way tested one other)
+        (λ only. does_fewer w x outer most held last start other needs fourth out again (core.statements those) shows_other
         (statements_raise w order outer most x ns oss hss behind_these low held last needs flags_those (behind_label + 1) out again those whole only has.2))
     statement_does x ns oss hss names low held needs flags rest next out again (While ts t body) whole are around has fine below =
         let behind = names_after_all ts names in

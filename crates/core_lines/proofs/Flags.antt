@@ -4,7 +4,7 @@ use Rattle.std.proofs.Common.{◌≡◌, ℕ, zero, suc, ◌≤◌, ◌<◌, ◌
 use Rattle.std.proofs.Math.Seq.{drop-append_seam}
 use Rattle.std.proofs.lemmas.Bool.{eqb-true, eqb-false, ne_eqb, or_from, or_parts}
 use Rattle.core_lines.specs.Homes.{is_among, flag_at}
-use Rattle.core_lines.specs.Saved.{no_flags, cleared, flagged, all_flagged, either_flagged, flags_of}
+use Rattle.core_lines.specs.Saved.{no_flags, cleared, flagged, all_flagged, either_flagged, either_way, flags_of}
 use Rattle.core_lines.specs.Selectable.{AreBelow}
 use Rattle.core_lines.proofs.memory.Relations.{Covers, Follows, AreFlagged}
 
@@ -31,6 +31,10 @@ pub length_either : (bs cs : List Bool) → length bs ≡ length cs → length (
 length_either [] cs same = refl
 length_either (b ∷ bs) [] same = same
 length_either (b ∷ bs) (c ∷ cs) same = let others : length bs ≡ length cs = omega (arith, same) in ap suc (length_either bs cs others)
+
+pub length_way : (only : Bool) (ts : List ℕ) (bs cs : List Bool) → length bs ≡ length cs → length (either_way only ts bs cs) ≡ length cs
+length_way true ts bs cs same = length_all true ts bs ∙ same
+length_way false ts bs cs same = length_either bs cs same
 
 pub length_flags_of : (bs : List Bool) (ts : List ℕ) → length (flags_of bs ts) ≡ length ts
 length_flags_of bs [] = refl
@@ -157,6 +161,21 @@ either_second (b ∷ bs) (c ∷ cs) (suc u) is = either_second bs cs u is
 
 pub covers_either : (more bs cs : List Bool) → Covers more bs → Covers more cs → Covers more (either_flagged bs cs)
 covers_either more bs cs first second u is = ⊎_elim (λ e. first u e) (λ e. second u e) (either_of bs cs u is)
+
+-- the ways of a choice, of which the second may only raise an exception
+
+pub covers_way : (more : List Bool) (only : Bool) (ts : List ℕ) (bs cs : List Bool) → AreFlagged more ts → Covers more bs → Covers more cs
+    → Covers more (either_way only ts bs cs)
+covers_way more true ts bs cs are first second = covers_all more ts bs are first
+covers_way more false ts bs cs are first second = covers_either more bs cs first second
+
+pub way_first : (only : Bool) (ts : List ℕ) (bs cs : List Bool) → Covers (either_way only ts bs cs) bs
+way_first true ts bs cs = more_flagged ts bs
+way_first false ts bs cs = either_first bs cs
+
+pub way_second : (only : Bool) (ts : List ℕ) (bs cs : List Bool) → (only ≡ true → Covers (all_flagged true ts bs) cs) → Covers (either_way only ts bs cs) cs
+way_second true ts bs cs raises = raises refl
+way_second false ts bs cs raises = either_second bs cs
 
 -- ---- what follows
 

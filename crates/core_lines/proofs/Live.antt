@@ -1,6 +1,7 @@
 -- What is loaded from a point on: there are as many flags as temporaries, and what covers them. How many results are saved or not.
 use Rattle.std.specs.Prelude.{length}
 use Rattle.std.proofs.Common.{◌≡◌, ℕ, ◌≤◌, Bool, true, false, List, [], ◌∷◌, ◌++◌, refl, sym, ◌∙◌, arith, length-append}
+use Rattle.std.proofs.lemmas.Bool.{and_parts}
 use Rattle.core_meaning.specs.Core.{
   Operation,
   Constant,
@@ -48,13 +49,14 @@ use Rattle.core_meaning.specs.Core.{
   NoStatements,
   MoreStatements,
 }
-use Rattle.core_lines.specs.Held.{Holding, held_behind, held_behind_all}
+use Rattle.core_lines.specs.Held.{Holding, raises, raises_only, held_behind, held_behind_all}
 use Rattle.core_lines.specs.LocalPlaces.{homes_here, homes_after, names_after, names_after_all}
 use Rattle.core_lines.specs.Loaded.{unknown_in, loads_of_operation, loads_of_values, loads_in, loads_of}
 use Rattle.core_lines.specs.Saved.{
   cleared,
   all_flagged,
   either_flagged,
+  either_way,
   results_of,
   at_loop,
   live_in,
@@ -70,6 +72,7 @@ use Rattle.core_lines.proofs.Flags.{
   length_cleared,
   length_all,
   length_either,
+  length_way,
   length_flags_of,
   more_flagged,
   covers_then,
@@ -78,6 +81,7 @@ use Rattle.core_lines.proofs.Flags.{
   covers_all,
   covers_others,
   covers_either,
+  covers_way,
   either_first,
   either_second,
 }
@@ -131,11 +135,14 @@ module _ (statics : List ℕ) where
     length_in homes names hs after out again (Do operation) same_out same_again =
         length_all true (loads_of_operation hs operation) (all_flagged false (results_of operation) after) ∙ length_all false (results_of operation) after
     length_in homes names hs after out again (If t these those) same_out same_again =
+        let only = raises_only those in
+        let loads = loads_of homes statics (names_after_all these names) hs those in
         let first = live_of homes statics names hs after out again these in
         let second = live_of homes statics (names_after_all these names) hs after out again those in
         let as_first = length_of homes names hs after out again these same_out same_again in
         let as_second = length_of homes (names_after_all these names) hs after out again those same_out same_again in
-        length_all true (unknown_in hs (t ∷ [])) (either_flagged first second) ∙ length_either first second (as_first ∙ sym as_second) ∙ as_second
+        length_all true (unknown_in hs (t ∷ [])) (either_way only loads first second)
+        ∙ length_way only loads first second (as_first ∙ sym as_second) ∙ as_second
     length_in homes names hs after out again (While test t body) same_out same_again =
         length_at_loop homes names after out again (While test t body) same_out same_again
     length_in homes names hs after out again (Block locals body) same_out same_again =
@@ -182,10 +189,11 @@ module _ (statics : List ℕ) where
           let two = flagged_first more (tested ++ first) second are in
           let one = live_of homes statics names hs after out again these in
           let other = live_of homes statics behind hs after out again those in
-          covers_all more tested (either_flagged one other) (flagged_first more tested first two)
-          (covers_either more one other
+          let others = flagged_second more (tested ++ first) second are in
+          covers_all more tested (either_way (raises_only those) second one other) (flagged_first more tested first two)
+          (covers_way more (raises_only those) second one other others
           (covers_of homes names hs after out again these to_after to_out to_again (flagged_second more tested first two))
-          (covers_of homes behind hs after out again those to_after to_out to_again (flagged_second more (tested ++ first) second are)))
+          (covers_of homes behind hs after out again those to_after to_out to_again others))
       covers_in homes names hs after out again (While test t body) to_after to_out to_again are =
           covers_loop homes names after out again (While test t body) to_after to_out to_again are
       covers_in homes names hs after out again (Block locals body) to_after to_out to_again are =
@@ -212,6 +220,41 @@ module _ (statics : List ℕ) where
           covers_in homes names hs others out again s
           (covers_of homes (names_after s names) behind after out again ss to_after to_out to_again (flagged_second more first second are))
           to_out to_again (flagged_first more first second are)
+
+    -- what only raises an exception is covered by what covers all that it loads
+    mutual
+      raising_in : (homes : List (List ℕ)) (names : List ℕ) (hs : List Holding) (after out again : List Bool) (s : Statement) → raises s ≡ true
+          → AreFlagged more (loads_in homes statics names hs s) → Covers more (live_in homes statics names hs after out again s)
+      raising_in homes names hs after out again (Do operation) is are = absurd (cc is)
+      raising_in homes names hs after out again (If t these those) is are =
+          let both = and_parts (raises_only these) (raises_only those) is in
+          let behind = names_after_all these names in
+          let tested = unknown_in hs (t ∷ []) in
+          let first = loads_of homes statics names hs these in
+          let second = loads_of homes statics behind hs those in
+          let two = flagged_first more (tested ++ first) second are in
+          let one = live_of homes statics names hs after out again these in
+          let other = live_of homes statics behind hs after out again those in
+          let others = flagged_second more (tested ++ first) second are in
+          covers_all more tested (either_way (raises_only those) second one other) (flagged_first more tested first two)
+          (covers_way more (raises_only those) second one other others
+          (raising_of homes names hs after out again these both.0 (flagged_second more tested first two))
+          (raising_of homes behind hs after out again those both.1 others))
+      raising_in homes names hs after out again (While test t body) is are = absurd (cc is)
+      raising_in homes names hs after out again (Block locals body) is are = absurd (cc is)
+      raising_in homes names hs after out again (Leave body) is are = absurd (cc is)
+      raising_in homes names hs after out again Break is are = absurd (cc is)
+      raising_in homes names hs after out again Continue is are = absurd (cc is)
+      raising_in homes names hs after out again (Call results f arguments) is are = absurd (cc is)
+      raising_in homes names hs after out again (Return values) is are = absurd (cc is)
+      raising_in homes names hs after out again (Raise kind) is are = covers_cleared more after
+
+      pub raising_of : (homes : List (List ℕ)) (names : List ℕ) (hs : List Holding) (after out again : List Bool) (ss : Statements) → raises_only ss ≡ true
+          → AreFlagged more (loads_of homes statics names hs ss) → Covers more (live_of homes statics names hs after out again ss)
+      raising_of homes names hs after out again NoStatements is are = absurd (cc is)
+      raising_of homes names hs after out again (MoreStatements s NoStatements) is are =
+          raising_in homes names hs after out again s is (flagged_first more (loads_in homes statics names hs s) [] are)
+      raising_of homes names hs after out again (MoreStatements s (MoreStatements s' ss)) is are = absurd (cc is)
 
   -- ---- how many results there are
 

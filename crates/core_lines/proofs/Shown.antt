@@ -2,14 +2,14 @@
 use Rattle.std.specs.Prelude.{length}
 use Rattle.std.proofs.Common.{◌≡◌, ℕ, ◌<◌, Bool, true, List, [], ◌∷◌, sym, subst, ◌∙◌}
 use Rattle.core_meaning.specs.Core.{Statement, If, While, Statements}
-use Rattle.core_lines.specs.Held.{Holding, held_behind_all}
-use Rattle.core_lines.specs.Loaded.{unknown_in, loads_in}
-use Rattle.core_lines.specs.Saved.{all_flagged, either_flagged, live_in, live_of, behind_test, saves_in, saves_of}
+use Rattle.core_lines.specs.Held.{Holding, raises_only, held_behind_all}
+use Rattle.core_lines.specs.Loaded.{unknown_in, loads_in, loads_of}
+use Rattle.core_lines.specs.Saved.{all_flagged, either_flagged, either_way, live_in, live_of, behind_test, saves_in, saves_of}
 use Rattle.core_lines.specs.Selected.{names_after_all}
 use Rattle.core_lines.specs.Selectable.{AreBelow}
 use Rattle.core_lines.proofs.memory.Relations.{World, Waiting, Covers, keeping, AreFlagged}
-use Rattle.core_lines.proofs.Flags.{length_all, length_either, more_flagged, all_are_flagged, covers_then, either_first, either_second}
-use Rattle.core_lines.proofs.Live.{length_of}
+use Rattle.core_lines.proofs.Flags.{length_all, length_either, length_way, more_flagged, all_are_flagged, covers_then, way_first, way_second}
+use Rattle.core_lines.proofs.Live.{length_of, raising_of}
 use Rattle.core_lines.proofs.Loads.{one_below}
 use Rattle.core_lines.proofs.Ways.{Needs}
 use Rattle.core_lines.proofs.operations.Registers.{IsServed, served_one}
@@ -45,26 +45,45 @@ loads_show most ts flags whole below = all_are_flagged ts flags (subst (λ n. Ar
 
 -- ---- a choice: what either way loads shows
 
-pub first_way : (ts : List ℕ) (one other : List Bool) → Covers (all_flagged true ts (either_flagged one other)) one
-first_way ts one other = covers_then (all_flagged true ts (either_flagged one other)) (either_flagged one other) one
-    (more_flagged ts (either_flagged one other)) (either_first one other)
+module _ (w : World) (x : Waiting) (hss : List (List ℕ)) (names : List ℕ) (held : List Holding) (needs : Needs) (t : ℕ) (these those : Statements)
+    (whole : AreWhole x.fn.temporaries needs) where
+  abbrev behind : List ℕ
+  behind = names_after_all these names
 
-pub second_way : (ts : List ℕ) (one other : List Bool) → Covers (all_flagged true ts (either_flagged one other)) other
-second_way ts one other = covers_then (all_flagged true ts (either_flagged one other)) (either_flagged one other) other
-    (more_flagged ts (either_flagged one other)) (either_second one other)
+  abbrev one : List Bool
+  one = showing_all w hss names held needs these
 
--- and what it tests
-pub choice_served : (w : World) (x : Waiting) (hss : List (List ℕ)) (names : List ℕ) (held : List Holding) (needs : Needs) (t : ℕ) (these those : Statements)
-    → t < x.fn.temporaries → AreWhole x.fn.temporaries needs → IsServed w (keeping (showing w hss names held needs (If t these those)) x) held t
-choice_served w x hss names held needs t these those named whole =
-    let most = x.fn.temporaries in
-    let one = showing_all w hss names held needs these in
-    let other = showing_all w hss (names_after_all these names) held needs those in
-    let as_one = whole_all w hss names held needs most whole these in
-    let as_other = whole_all w hss (names_after_all these names) held needs most whole those in
-    served_one w (keeping (showing w hss names held needs (If t these those)) x) held t
-    (loads_show most (unknown_in held (t ∷ [])) (either_flagged one other) (length_either one other (as_one ∙ sym as_other) ∙ as_other)
-    (one_below most held t named))
+  abbrev other : List Bool
+  other = showing_all w hss behind held needs those
+
+  abbrev others : List ℕ
+  others = loads_of hss w.data_offsets behind held those
+
+  abbrev ways : List Bool
+  ways = either_way (raises_only those) others one other
+
+  abbrev tests : List ℕ
+  tests = unknown_in held (t ∷ [])
+
+  whole_one : length one ≡ x.fn.temporaries
+  whole_one = whole_all w hss names held needs x.fn.temporaries whole these
+
+  whole_other : length other ≡ x.fn.temporaries
+  whole_other = whole_all w hss behind held needs x.fn.temporaries whole those
+
+  pub first_way : Covers (showing w hss names held needs (If t these those)) one
+  first_way = covers_then (all_flagged true tests ways) ways one (more_flagged tests ways) (way_first (raises_only those) others one other)
+
+  pub second_way : AreBelow x.fn.temporaries others → Covers (showing w hss names held needs (If t these those)) other
+  second_way below = covers_then (all_flagged true tests ways) ways other (more_flagged tests ways) (way_second (raises_only those) others one other
+      (λ only. raising_of w.data_offsets (all_flagged true others one) hss behind held needs.after needs.out needs.again those only
+      (loads_show x.fn.temporaries others one whole_one below)))
+
+  -- and what it tests
+  pub choice_served : t < x.fn.temporaries → IsServed w (keeping (showing w hss names held needs (If t these those)) x) held t
+  choice_served named = served_one w (keeping (showing w hss names held needs (If t these those)) x) held t
+      (loads_show x.fn.temporaries tests ways
+      (length_way (raises_only those) others one other (whole_one ∙ sym whole_other) ∙ whole_other) (one_below x.fn.temporaries held t named))
 
 -- ---- a loop
 

@@ -1,5 +1,5 @@
 -- Where the words of temporaries are known to be besides their slots: in registers, or as numbers that the code can make again.
-use Rattle.std.specs.Prelude.{ℕ, zero, suc, ◌+◌, ◌%◌, ◌^◌, Bool, true, false, ◌&&◌, List, [], ◌∷◌, Option, Some, None, nat_eq, nat_lt, if◌then◌else◌}
+use Rattle.std.specs.Prelude.{ℕ, zero, suc, ◌+◌, ◌%◌, ◌^◌, Bool, true, false, ◌&&◌, List, [], ◌∷◌, take, Option, Some, None, nat_eq, nat_lt, if◌then◌else◌}
 use Rattle.rv32_machine.specs.State.{data_base}
 use Rattle.core_meaning.specs.Core.{
   Binary,
@@ -88,9 +88,9 @@ abbrev pub without_temporary : ℕ → List Holding → List Holding
 without_temporary t [] = []
 without_temporary t (h ∷ hs) = (if nat_eq h.temporary t then without_temporary t hs else h ∷ without_temporary t hs)
 
--- a temporary gets a word that is there
+-- A temporary gets a word that is there. At most 32 temporaries are known at once: one more, and what was learned first is forgotten.
 abbrev pub with_source : ℕ → Source → List Holding → List Holding
-with_source t s hs = record { temporary = t; source = s } ∷ without_temporary t hs
+with_source t s hs = record { temporary = t; source = s } ∷ take 31 (without_temporary t hs)
 
 -- ---- the registers of results
 

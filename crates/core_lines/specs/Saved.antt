@@ -51,8 +51,8 @@ use Rattle.core_meaning.specs.Core.{
 }
 use Rattle.core_lines.specs.Homes.{homes_in, flag_at}
 use Rattle.core_lines.specs.LocalPlaces.{homes_here, homes_after, names_after, names_after_all}
-use Rattle.core_lines.specs.Held.{Holding, with_taken, held_behind, held_behind_all}
-use Rattle.core_lines.specs.Loaded.{unknown_in, loads_of_operation, loads_of_values, loads_in}
+use Rattle.core_lines.specs.Held.{Holding, with_taken, raises_only, held_behind, held_behind_all}
+use Rattle.core_lines.specs.Loaded.{unknown_in, loads_of_operation, loads_of_values, loads_in, loads_of}
 
 -- ---- flags
 
@@ -128,14 +128,20 @@ abbrev pub at_loop : (homes : List (List ℕ)) → (statics names : List ℕ) �
 at_loop homes statics names after out again loop =
     all_flagged true (loads_in homes statics names [] loop) (either_flagged after (either_flagged out again))
 
+-- Before the ways of a choice, where these are loaded before each way: those of one way or the other. Where the second way only raises an exception, what it
+-- loads is added to those of the first.
+abbrev pub either_way : Bool → (loads : List ℕ) → (one other : List Bool) → List Bool
+either_way true loads one other = all_flagged true loads one
+either_way false loads one other = either_flagged one other
+
 -- Before a statement, where these are loaded behind it, where a `Break` goes, and where a `Continue` goes.
 abbrev mutual
   pub live_in : (homes : List (List ℕ)) → (statics names : List ℕ) → List Holding → (after out again : List Bool) → Statement → List Bool
   live_in homes statics names hs after out again (Do operation) =
       all_flagged true (loads_of_operation hs operation) (all_flagged false (results_of operation) after)
   live_in homes statics names hs after out again (If t these those) =
-      all_flagged true (unknown_in hs (t ∷ [])) (either_flagged (live_of homes statics names hs after out again these)
-      (live_of homes statics (names_after_all these names) hs after out again those))
+      all_flagged true (unknown_in hs (t ∷ [])) (either_way (raises_only those) (loads_of homes statics (names_after_all these names) hs those)
+      (live_of homes statics names hs after out again these) (live_of homes statics (names_after_all these names) hs after out again those))
   live_in homes statics names hs after out again (While test t body) = at_loop homes statics names after out again (While test t body)
   live_in homes statics names hs after out again (Block locals body) =
       live_of (homes_here locals names ∷ homes) statics (homes_after locals names) [] after out again body

@@ -56,6 +56,9 @@ fn some_register(register: Register) -> Option<Source>
     }
 }
 
+/// At most so many temporaries are known at once.
+const MOST_KNOWN: usize = 32;
+
 /// The register in which an operation leaves its result: one of x12 to x15 and x28 to x31, by the temporary that gets it.
 pub fn result_register(temporary: Temporary) -> Register
     ensures { result ≡ result_register temporary.0 }
@@ -153,11 +156,12 @@ impl Known {
             .retain(|holding| holding.temporary.0 != temporary.0);
     }
 
-    /// A temporary gets a word that is there.
+    /// A temporary gets a word that is there. Where too many would be known, what was learned first is forgotten.
     pub fn hold(&mut self, temporary: Temporary, source: Source) -> Result<(), AllocError>
         ensures { OnOk result (self.new ≡ with_source temporary.0 (source_tree source) self.old) }
     {
         self.forget_temporary(temporary);
+        self.holdings.truncate(MOST_KNOWN - 1);
         self.holdings.insert(0, Holding { temporary, source })?;
         Ok(())
     }

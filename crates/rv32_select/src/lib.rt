@@ -32,6 +32,7 @@ mod memory;
 mod operands;
 mod operation;
 mod place;
+mod points;
 mod raising;
 mod results;
 mod settling;

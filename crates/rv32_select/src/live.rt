@@ -4,19 +4,23 @@
 ghost use Rattle.std.specs.Prelude.{◌≡◌, true, [], ◌++◌, reverse, IfOk, OnOk, map, option_map, option_to_list};
 ghost use Rattle.core_meaning.specs.Core as core;
 ghost use Rattle.core_lines.specs.Choosing.{far};
+ghost use Rattle.core_lines.specs.Held.{raises_only};
 ghost use Rattle.core_lines.specs.Homes.{homes_in};
-ghost use Rattle.core_lines.specs.Saved.{all_flagged, at_loop, live_in, live_of, behind_test, saves_in, saves_of, either_flagged, live_at_start, saves_at};
+ghost use Rattle.core_lines.specs.Loaded.{loads_of};
+ghost use Rattle.core_lines.specs.Saved.{all_flagged, at_loop, live_in, live_of, behind_test, saves_in, saves_of};
+ghost use Rattle.core_lines.specs.Saved.{either_flagged, either_way, live_at_start, saves_at};
 ghost use Rattle.core_lines.specs.Selected.{around, names_after_all, holding, naming};
 ghost use Rattle.cyc_core.specs.Trees.{temporary_tree, local_tree, statement_tree, body_tree, function_tree};
 ghost use Rattle.rv32_select.specs.Places.{surroundings, saves_left};
-ghost use Rattle.rv32_select.specs.Starts.{point_start, starts_of};
 
 use crate::flags::{copied, either, no_flags, set_flag};
 use crate::live_leaves::{
     live_call, live_end, live_jump, live_operation, live_request, live_return,
 };
-use crate::loads::{flag_some, flag_statement, flag_while, if_unknown, pass};
-use crate::place::{Place, Point};
+use crate::loads::{flag_all, flag_some, flag_while, if_unknown, pass};
+use crate::place::Place;
+use crate::points::{point_behind, points_of};
+use crate::raising::raises_only;
 use crate::settling::settle;
 use cyc_core::{Function, Local, Statement, Temporary};
 use std::alloc::{AllocError, Global};
@@ -72,19 +76,6 @@ fn live_statement(
     }
 }
 
-/// Where the statements behind these begin, if what is known here is known there.
-fn point_behind(place: &mut Place, statements: &[Statement]) -> Result<Point, AllocError>
-    ensures point { let u = surroundings place.old in IfOk result (λ point. point_start place.old.homes.items point
-        ≡ record { names = names_after_all (body_tree statements.now) u.names; held = u.held }) }
-    ensures same { OnOk result (surroundings place.new ≡ holding place.new.held (naming (surroundings place.new).names (surroundings place.old))) }
-    ensures homes { OnOk result (place.new.homes.items ≡ place.old.homes.items) }
-{
-    let held = place.known()?;
-    pass(place, statements)?;
-    let named = place.named;
-    Ok(Point { named, held })
-}
-
 /// What is loaded where one way or another goes on, and a temporary, if there is one.
 fn joined(
     alloc: Global,
@@ -122,6 +113,97 @@ fn live_before(
     Ok(live)
 }
 
+/// Goes back over a choice's first statements, and flags what its second statements load, which only raise an exception.
+#[cycle(live)]
+fn live_check(
+    saves: &mut Vec<bool>,
+    place: &mut Place,
+    live: &mut Vec<bool>,
+    out: &[bool],
+    again: &[bool],
+    these: &[Statement],
+    those: &[Statement],
+) -> Result<(), AllocError>
+    ensures saves { let u = surroundings place.old in OnOk result (saves.new.items ≡ saves.old.items
+        ++ reverse (saves_of u.homes u.statics u.names u.held live.old.items out.now again.now (body_tree these.now))) }
+    ensures live { let u = surroundings place.old in let behind = names_after_all (body_tree these.now) u.names in
+        OnOk result (live.new.items ≡ all_flagged true (loads_of u.homes u.statics behind u.held (body_tree those.now))
+        (live_of u.homes u.statics u.names u.held live.old.items out.now again.now (body_tree these.now))) }
+    ensures same { OnOk result (surroundings place.new ≡ holding place.new.held (naming (surroundings place.new).names (surroundings place.old))) }
+    ensures homes { OnOk result (place.new.homes.items ≡ place.old.homes.items) }
+{
+    let first = place.point()?;
+    let second = point_behind(place, these)?;
+    place.go_to(first);
+    live_statements(saves, place, live, out, again, these)?;
+    place.go_to(second);
+    flag_all(live, place, those)?;
+    Ok(())
+}
+
+/// Goes back over both ways of a choice.
+#[cycle(live)]
+fn live_both(
+    saves: &mut Vec<bool>,
+    place: &mut Place,
+    live: &mut Vec<bool>,
+    out: &[bool],
+    again: &[bool],
+    these: &[Statement],
+    those: &[Statement],
+) -> Result<(), AllocError>
+    ensures saves { let u = surroundings place.old in let behind = names_after_all (body_tree these.now) u.names in
+        OnOk result (saves.new.items ≡ saves.old.items
+        ++ reverse (saves_of u.homes u.statics u.names u.held live.old.items out.now again.now (body_tree these.now)
+        ++ saves_of u.homes u.statics behind u.held live.old.items out.now again.now (body_tree those.now))) }
+    ensures live { let u = surroundings place.old in let behind = names_after_all (body_tree these.now) u.names in
+        OnOk result (live.new.items ≡ either_flagged
+        (live_of u.homes u.statics u.names u.held live.old.items out.now again.now (body_tree these.now))
+        (live_of u.homes u.statics behind u.held live.old.items out.now again.now (body_tree those.now))) }
+    ensures same { OnOk result (surroundings place.new ≡ holding place.new.held (naming (surroundings place.new).names (surroundings place.old))) }
+    ensures homes { OnOk result (place.new.homes.items ≡ place.old.homes.items) }
+{
+    let first = place.point()?;
+    let second = point_behind(place, these)?;
+    place.go_to(second);
+    let other = live_before(saves, place, live, out, again, those)?;
+    place.go_to(first);
+    live_statements(saves, place, live, out, again, these)?;
+    *live = either(place.alloc, live, &other)?;
+    Ok(())
+}
+
+/// Goes back over the ways of a choice.
+#[cycle(live)]
+fn live_ways(
+    saves: &mut Vec<bool>,
+    place: &mut Place,
+    live: &mut Vec<bool>,
+    out: &[bool],
+    again: &[bool],
+    these: &[Statement],
+    those: &[Statement],
+) -> Result<(), AllocError>
+    ensures saves { let u = surroundings place.old in let behind = names_after_all (body_tree these.now) u.names in
+        OnOk result (saves.new.items ≡ saves.old.items
+        ++ reverse (saves_of u.homes u.statics u.names u.held live.old.items out.now again.now (body_tree these.now)
+        ++ saves_of u.homes u.statics behind u.held live.old.items out.now again.now (body_tree those.now))) }
+    ensures live { let u = surroundings place.old in let behind = names_after_all (body_tree these.now) u.names in
+        OnOk result (live.new.items
+        ≡ either_way (raises_only (body_tree those.now)) (loads_of u.homes u.statics behind u.held (body_tree those.now))
+        (live_of u.homes u.statics u.names u.held live.old.items out.now again.now (body_tree these.now))
+        (live_of u.homes u.statics behind u.held live.old.items out.now again.now (body_tree those.now))) }
+    ensures same { OnOk result (surroundings place.new ≡ holding place.new.held (naming (surroundings place.new).names (surroundings place.old))) }
+    ensures homes { OnOk result (place.new.homes.items ≡ place.old.homes.items) }
+{
+    if raises_only(those) {
+        live_check(saves, place, live, out, again, these, those)?;
+    } else {
+        live_both(saves, place, live, out, again, these, those)?;
+    }
+    Ok(())
+}
+
 /// The same of a choice.
 #[cycle(live)]
 fn live_if(
@@ -142,13 +224,8 @@ fn live_if(
     ensures homes { OnOk result (place.new.homes.items ≡ place.old.homes.items) }
 {
     let tested = if_unknown(&place.held, test);
-    let first = place.point()?;
-    let second = point_behind(place, these)?;
-    place.go_to(second);
-    let other = live_before(saves, place, live, out, again, those)?;
-    place.go_to(first);
-    live_statements(saves, place, live, out, again, these)?;
-    *live = joined(place.alloc, live, other, tested)?;
+    live_ways(saves, place, live, out, again, these, those)?;
+    flag_some(live, tested);
     Ok(())
 }
 
@@ -270,23 +347,6 @@ fn live_leavable(
 {
     let behind = copied(place.alloc, live)?;
     live_statements(saves, place, live, &behind, again, body)
-}
-
-/// Where each of these statements begins, the first of them where the place is.
-fn points_of(place: &mut Place, statements: &[Statement]) -> Result<Vec<Point>, AllocError>
-    ensures points { let u = surroundings place.old in IfOk result (λ points. map (point_start place.old.homes.items) points.items
-        ≡ starts_of u.homes u.statics u.names u.held (body_tree statements.now)) }
-    ensures same { OnOk result (surroundings place.new ≡ holding place.new.held (naming (surroundings place.new).names (surroundings place.old))) }
-    ensures homes { OnOk result (place.new.homes.items ≡ place.old.homes.items) }
-{
-    let mut none = Vec::new(place.alloc);
-    let mut points = Vec::new(place.alloc);
-    'each: for statement in statements {
-        let point = place.point()?;
-        points.push(point)?;
-        flag_statement(&mut none, place, statement)?;
-    }
-    Ok(points)
 }
 
 /// Goes back over statements, the last one first. The place is somewhere in the same block then.

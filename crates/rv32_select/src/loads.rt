@@ -242,7 +242,7 @@ fn flag_block(
 
 /// The same of statements, one after the other.
 #[cycle(loads)]
-fn flag_all(
+pub fn flag_all(
     flags: &mut Vec<bool>,
     place: &mut Place,
     statements: &[Statement],

@@ -17,6 +17,7 @@ use Rattle.std.proofs.Common.{
   List,
   [],
   ◌∷◌,
+  take,
   Option,
   Some,
   None,
@@ -212,11 +213,18 @@ there_set t v (h ∷ hs) temps m registers a = by (nat_eq h.temporary t) refl (t
     by true is rest = rest
     by false other rest = (subst (λ u. IsThere h.source u m registers) (sym (ap (λ c. if c then v else temps h.temporary) other)) a.0, rest)
 
+-- the first so many are there where all are
+there_first : (n : ℕ) (hs : List Holding) (temps : ℕ → Content) (m : Maps) (registers : ℕ → ℕ) → AreThere hs temps m registers
+    → AreThere (take n hs) temps m registers
+there_first zero hs temps m registers a = tt
+there_first (suc n) [] temps m registers a = tt
+there_first (suc n) (h ∷ hs) temps m registers a = (a.0, there_first n hs temps m registers a.1)
+
 pub there_source : (t : ℕ) (v : Content) (s : Source) (hs : List Holding) (temps : ℕ → Content) (m : Maps) (registers : ℕ → ℕ) → IsThere s v m registers
     → AreThere hs temps m registers → AreThere (with_source t s hs) (set_temp t v temps) m registers
 there_source t v s hs temps m registers here a = (
   subst (λ u. IsThere s u m registers) (sym (ap (λ c. if c then v else temps t) (eq-eqb t t refl))) here,
-  there_set t v hs temps m registers a,
+  there_first 31 (without_temporary t hs) (set_temp t v temps) m registers (there_set t v hs temps m registers a),
 )
 
 -- ---- what is saved

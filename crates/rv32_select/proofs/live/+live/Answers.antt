@@ -28,7 +28,8 @@ use Rattle.std.proofs.lemmas.List.{append_assoc, reverse-append, length-map, map
 use Rattle.core_meaning.specs.Core.{Statement, Statements, If, While, Block, Leave}
 use Rattle.cyc_core.specs.Trees.{local_tree, body_tree, optional_tree, statement_tree, temporary_tree}
 use Rattle.cyc_core.specs.declared.operation.Temporary.{Temporary}
-use Rattle.core_lines.specs.Loaded.{unknown_in}
+use Rattle.core_lines.specs.Held.{held_behind_all}
+use Rattle.core_lines.specs.Loaded.{unknown_in, loads_of}
 use Rattle.core_lines.specs.Saved.{all_flagged, either_flagged, live_in, live_of, saves_in, saves_of}
 use Rattle.core_lines.specs.Selected.{Surroundings, holding, names_after_all, naming}
 use Rattle.rv32_select.specs.Places.{surroundings}
@@ -36,6 +37,7 @@ use Rattle.rv32_select.specs.Starts.{Start, point_start, starting, starts_of}
 use Rattle.rv32_select.proofs.Forms.{block_tree, call_tree, do_tree, if_tree, leave_tree, while_tree}
 use Rattle.rv32_select.proofs.Sizes.{statement_size, statements_size}
 use Rattle.rv32_select.proofs.Backwards.{ends_alike, size_last, last_start, starts_last, starts_many, as_same, same_back, same_there, live_back, saves_back}
+use Rattle.rv32_select.proofs.Raised.{check_saves}
 use Rattle.rv32_select.proofs.live.+live.Goals as goal
 
 -- what is loaded before a statement, and which of its results are saved; the place is somewhere in the same block
@@ -219,37 +221,55 @@ live_statement-returns-in-Leave t c =
     ∙ ap (λ ss. Leave (body_tree ss)) (sym c.deref-in-Leave.ensures.value))
     c.live_leavable.ensures
 
--- a choice, from behind it: its second statements, which begin behind the first, and then the first
-module _ (u first second : Surroundings) (t : ℕ) (these those : Statements) (kept out loop : List Bool)
+-- the ways of a choice, from behind it: its second statements, which begin behind the first, and then the first
+module _ (u first second : Surroundings) (these those : Statements) (kept out loop : List Bool)
     (at_first : first ≡ u) (at_second : second ≡ holding u.held (naming (names_after_all these u.names) u)) where
-  choice_saves : (old middle new after : List Bool) → after ≡ kept
+  first_saves : (old new : List Bool) → new ≡ old ++ reverse (saves_of first.homes first.statics first.names first.held kept out loop these)
+      → new ≡ old ++ reverse (saves_of u.homes u.statics u.names u.held kept out loop these)
+  first_saves old new new_is =
+      new_is ∙ (λ i. old ++ reverse (saves_of ((at_first i).homes) ((at_first i).statics) ((at_first i).names) ((at_first i).held) kept out loop these))
+
+  both_saves : (old middle new after : List Bool) → after ≡ kept
       → middle ≡ old ++ reverse (saves_of second.homes second.statics second.names second.held after out loop those)
       → new ≡ middle ++ reverse (saves_of first.homes first.statics first.names first.held kept out loop these)
-      → new ≡ old ++ reverse (saves_in u.homes u.statics u.names u.held kept out loop (If t these those))
-  choice_saves old middle new after after_is middle_is new_is =
+      → new ≡ old ++ reverse (saves_of u.homes u.statics u.names u.held kept out loop these
+      ++ saves_of u.homes u.statics (names_after_all these u.names) u.held kept out loop those)
+  both_saves old middle new after after_is middle_is new_is =
       let one = saves_of u.homes u.statics u.names u.held kept out loop these in
       let other = saves_of u.homes u.statics (names_after_all these u.names) u.held kept out loop those in
       let other_is : middle ≡ old ++ reverse other = middle_is
       ∙ (λ i. old ++ reverse (saves_of ((at_second i).homes) ((at_second i).statics) ((at_second i).names) ((at_second i).held) (after_is i)
       out loop those)) in
-      new_is
-      ∙ (λ i. middle ++ reverse (saves_of ((at_first i).homes) ((at_first i).statics) ((at_first i).names) ((at_first i).held) kept out loop these))
-      ∙ ap (λ bs. bs ++ reverse one) other_is ∙ append_assoc old (reverse other) (reverse one)
+      first_saves middle new new_is ∙ ap (λ bs. bs ++ reverse one) other_is ∙ append_assoc old (reverse other) (reverse one)
       ∙ ap (λ bs. old ++ bs) (sym (reverse-append one other))
 
-  choice_live : (tested : List ℕ) (after left one other new : List Bool) → after ≡ kept
-      → other ≡ live_of second.homes second.statics second.names second.held after out loop those
-      → left ≡ live_of first.homes first.statics first.names first.held kept out loop these → one ≡ left → tested ≡ unknown_in u.held (t ∷ [])
-      → new ≡ all_flagged true tested (either_flagged one other) → new ≡ live_in u.homes u.statics u.names u.held kept out loop (If t these those)
-  choice_live tested after left one other new after_is other_is left_is one_is tested_is new_is =
-      let other_at = other_is ∙ (λ i. live_of ((at_second i).homes) ((at_second i).statics) ((at_second i).names) ((at_second i).held) (after_is i)
-      out loop those) in
-      let one_at = one_is ∙ left_is
-      ∙ (λ i. live_of ((at_first i).homes) ((at_first i).statics) ((at_first i).names) ((at_first i).held) kept out loop these) in
-      new_is ∙ (λ i. all_flagged true (tested_is i) (either_flagged (one_at i) (other_at i)))
+  first_live : (left : List Bool) → left ≡ live_of first.homes first.statics first.names first.held kept out loop these
+      → left ≡ live_of u.homes u.statics u.names u.held kept out loop these
+  first_live left left_is =
+      left_is ∙ (λ i. live_of ((at_first i).homes) ((at_first i).statics) ((at_first i).names) ((at_first i).held) kept out loop these)
 
-pub live_if-returns : goal.live_if-returns
-live_if-returns t c =
+  both_live : (after left one other two new : List Bool) → after ≡ kept
+      → other ≡ live_of second.homes second.statics second.names second.held after out loop those
+      → left ≡ live_of first.homes first.statics first.names first.held kept out loop these → one ≡ left → two ≡ other
+      → new ≡ either_flagged one two
+      → new ≡ either_flagged (live_of u.homes u.statics u.names u.held kept out loop these)
+      (live_of u.homes u.statics (names_after_all these u.names) u.held kept out loop those)
+  both_live after left one other two new after_is other_is left_is one_is two_is new_is =
+      let other_at = two_is ∙ other_is
+      ∙ (λ i. live_of ((at_second i).homes) ((at_second i).statics) ((at_second i).names) ((at_second i).held) (after_is i) out loop those) in
+      let one_at = one_is ∙ first_live left left_is in
+      new_is ∙ (λ i. either_flagged (one_at i) (other_at i))
+
+  check_live : (left new : List Bool) → left ≡ live_of first.homes first.statics first.names first.held kept out loop these
+      → new ≡ all_flagged true (loads_of second.homes second.statics second.names second.held those) left
+      → new ≡ all_flagged true (loads_of u.homes u.statics (names_after_all these u.names) u.held those)
+      (live_of u.homes u.statics u.names u.held kept out loop these)
+  check_live left new left_is new_is =
+      let left_at = first_live left left_is in
+      new_is ∙ (λ i. all_flagged true (loads_of ((at_second i).homes) ((at_second i).statics) ((at_second i).names) ((at_second i).held) those) (left_at i))
+
+pub live_both-returns : goal.live_both-returns
+live_both-returns t c =
     let a = c.args in
     let u = surroundings a.place.now in
     let these = body_tree a.these.now in
@@ -273,15 +293,60 @@ live_if-returns t c =
     ∙ ap (λ (s : Start). starting s u) (ap (λ hs. point_start hs c.in_ok-first.first) homes ∙ c.in_ok-first.ensures) in
     record {
       saves =
-          choice_saves u first second a.test.0 these those kept a.out.now a.again.now at_first at_second a.saves.now.items c.live_before.new.saves.items
+          both_saves u first second these those kept a.out.now a.again.now at_first at_second a.saves.now.items c.live_before.new.saves.items
           c.live_statements.new.saves.items c.deref.result.now c.deref.ensures.value other.saves done.saves;
       live =
-          choice_live u first second a.test.0 these those kept a.out.now a.again.now at_first at_second _ c.deref.result.now
-          c.live_statements.new.live.items c.deref-2.result.now c.in_ok-other.other.items c.in_ok-live.field-0.items c.deref.ensures.value other.live
-          done.live c.deref-2.ensures.value c.if_unknown-tested.ensures c.in_ok-live.ensures;
+          both_live u first second these those kept a.out.now a.again.now at_first at_second c.deref.result.now c.live_statements.new.live.items
+          c.deref-2.result.now c.in_ok-other.other.items c.deref-3.result.now c.in_ok-live.field-0.items c.deref.ensures.value other.live done.live
+          c.deref-2.ensures.value c.deref-3.ensures.value c.in_ok-live.ensures;
       same = done.same ∙ ap (λ (v : Surroundings). holding last.held (naming last.names v)) at_first;
       homes = done.homes ∙ c.go_to-2.ensures.homes ∙ homes;
     }
+
+pub live_check-returns : goal.live_check-returns
+live_check-returns t c =
+    let a = c.args in
+    let u = surroundings a.place.now in
+    let these = body_tree a.these.now in
+    let those = body_tree a.those.now in
+    let kept = a.live.now.items in
+    let behind = c.in_ok-second.ensures in
+    let done = c.in_ok-live_statements.ensures in
+    let loads = c.in_ok-flag_all.ensures in
+    let first = surroundings c.go_to.new.self in
+    let before = surroundings c.live_statements.new.place in
+    let second = surroundings c.go_to-2.new.self in
+    let start : Start = record { names = names_after_all these u.names; held = u.held } in
+    let first_start = point_start c.point_behind.new.place.homes.items c.in_ok-first.first in
+    let second_start = point_start c.live_statements.new.place.homes.items c.in_ok-second.second in
+    let at_first = same_there u (surroundings c.point_behind.new.place) first first_start.held first_start.names behind.same c.go_to.ensures.place
+    ∙ ap (λ (s : Start). starting s u) (ap (λ hs. point_start hs c.in_ok-first.first) behind.homes ∙ c.in_ok-first.ensures) in
+    let before_is = done.same ∙ ap (λ (v : Surroundings). holding before.held (naming before.names v)) at_first in
+    let homes = done.homes ∙ c.go_to.ensures.homes ∙ behind.homes in
+    let at_second = same_there u before second second_start.held second_start.names before_is c.go_to-2.ensures.place
+    ∙ ap (λ (s : Start). starting s u) (ap (λ hs. point_start hs c.in_ok-second.second) homes ∙ behind.point) in
+    let last = loads.same
+    ∙ ap (λ (v : Surroundings). holding (held_behind_all v.homes v.statics v.held those) (naming (names_after_all those v.names) v)) at_second in
+    record {
+      saves =
+          first_saves u first second these those kept a.out.now a.again.now at_first at_second a.saves.now.items c.live_statements.new.saves.items
+          done.saves;
+      live = check_live u first second these those kept a.out.now a.again.now at_first at_second c.live_statements.new.live.items c.flag_all.new.flags.items
+          done.live loads.flags;
+      same = as_same u (surroundings c.flag_all.new.place) _ _ last;
+      homes = loads.homes ∙ c.go_to-2.ensures.homes ∙ homes;
+    }
+
+-- a second way that only raises an exception has no results
+pub live_ways-returns-in_ok-live_check-clause-saves : goal.live_ways-returns-in_ok-live_check-clause-saves
+live_ways-returns-in_ok-live_check-clause-saves t c =
+    let a = c.args in
+    let u = surroundings a.place.now in
+    let these = body_tree a.these.now in
+    let only = sym c.raises_only.ensures ∙ c.if-raises_only.true in
+    c.in_ok-live_check.ensures.saves
+    ∙ ap (λ bs. a.saves.now.items ++ reverse bs) (check_saves u.homes u.statics u.held a.live.now.items a.out.now a.again.now u.names
+    (names_after_all these u.names) these (body_tree a.those.now) only)
 
 pub live_statement-returns-in-Do-clause-saves : goal.live_statement-returns-in-Do-clause-saves
 live_statement-returns-in-Do-clause-saves t c =

@@ -4,7 +4,7 @@ use Rattle.cyc_core.specs.Trees.{statement_tree, body_tree}
 use Rattle.rv32_select.specs.Places.{surroundings}
 use Rattle.rv32_select.specs.Starts.{point_start}
 use Rattle.rv32_select.proofs.Stepping.{same_behind, starts_behind}
-use Rattle.rv32_select.proofs.live.points_of.Goals as goal
+use Rattle.rv32_select.proofs.points.points_of.Goals as goal
 
 pub each-preserved : goal.each-preserved
 each-preserved c =

@@ -3,7 +3,7 @@ use Rattle.cyc_core.specs.Trees.{body_tree}
 use Rattle.core_lines.specs.Selected.{holding, naming}
 use Rattle.rv32_select.specs.Places.{surroundings}
 use Rattle.rv32_select.specs.Starts.{point_start, starts_of}
-use Rattle.rv32_select.proofs.live.points_of.Given as goal
+use Rattle.rv32_select.proofs.points.points_of.Given as goal
 
 -- where the statements so far begin, and where those that are left do, is where all of them do
 abbrev pub invariant-each : goal.invariant-each

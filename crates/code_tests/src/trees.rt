@@ -1,8 +1,8 @@
 // What is read of a text: how deep the phrases nest, where parts stand, and the parts of forms. How expressions are grouped is seen in the cases of
 // `case_runs`.
 
-use cyc_lexer::{LexFault, tokens};
-use cyc_parser::parse;
+use cyc_lexer::{LexFault, Sign, Token, TokenKind, tokens};
+use cyc_parser::{ParseFault, parse};
 use cyc_tree::{
     BlockItem, Constant, Declaration, Expression, Function, Initial, Item, Pattern, Program,
     Statement, Suffix, nesting,
@@ -225,4 +225,26 @@ fn parts_and_faults_are_shown(rt: HostRuntime) -> Result<(), Fail> {
         "Lex;out of memory;",
     )?;
     expect_rows(rt.alloc(), PARTS)
+}
+
+// One token more than a text may have, each the same.
+fn too_many_tokens(alloc: Global) -> Result<Vec<Token<'static>>, AllocError> {
+    let mut many = Vec::new(alloc);
+    for at in 0..1_048_577u32 {
+        many.push(Token {
+            kind: TokenKind::Sign(Sign::Semicolon),
+            at,
+            text: b";",
+        })?;
+    }
+    Ok(many)
+}
+
+// A list of them is refused at its last one, though no program begins with its first.
+#[test]
+fn more_tokens_than_a_text_has(rt: HostRuntime) -> Result<(), Fail> {
+    let many = too_many_tokens(rt.alloc())?;
+    let is_right = matches!(parse(rt.alloc(), &many), Err(ParseFault::Parse(1_048_576)));
+    assert!(rt; is_right);
+    Ok(())
 }

@@ -12,6 +12,7 @@ pub mod ReadWords
 pub mod ReadSigns
 pub mod ReadGaps
 pub mod FirstBytes
+pub mod ByteCounts
 pub mod WordTokens
 pub mod QuotedTokens
 pub mod ReadTokens

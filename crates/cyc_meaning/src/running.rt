@@ -1,7 +1,6 @@
 // Runs of checked programs.
 
-ghost use Rattle.std.specs.Prelude.{◌≡◌, ◌≢◌, ◌<◌, ◌^◌};
-ghost use Rattle.source_lowering.specs.Room.{program_room};
+ghost use Rattle.std.specs.Prelude.{◌≡◌, ◌≢◌};
 ghost use Rattle.core_eval.specs.Evaluated.{reads_failed, writes_failed};
 ghost use Rattle.cyc_meaning.specs.Evaluated.{IsEvaluated};
 
@@ -25,8 +24,6 @@ pub fn eval<R: Input, W: Output>(
     writer: &mut W,
     fuel: u64,
 ) -> EvalEnding
-    // a word counts the temporaries of each of its functions, and the members of each of its unions
-    requires room { program_room checked.now < 2 ^ 32 }
     // what is written is the output of the source's run on the bytes that the reader gave, and the ending is that run's
     ensures evaluated { IsEvaluated result checked.now fuel
         (R.remaining reader.old) (R.remaining reader.new) (W.contents writer.old) (W.contents writer.new) }

@@ -22,3 +22,4 @@ pub mod OnePlace
 pub mod OneFault
 pub mod Goes
 pub mod going
+pub mod Limits

@@ -1,5 +1,5 @@
 -- What the reader of programs answers says of the tokens, all of them.
-use Rattle.std.proofs.Common.{◌≡◌, ℕ, max, ◌≤◌, false, List, [], ◌∷◌, ◌++◌, Option, Some, None, Ok, Err, refl, sym, ap, subst, ◌∙◌, append_assoc, arith, inl, inr}
+use Rattle.std.proofs.Common.{◌≡◌, ℕ, max, ◌≤◌, false, List, [], ◌∷◌, ◌++◌, length, Option, Some, None, Ok, Err, refl, sym, ap, subst, ◌∙◌, append_assoc, arith, inl, inr}
 use Rattle.std.proofs.lemmas.List.{append-nil}
 use Rattle.cyc_lexer.specs.Lexing.{Token}
 use Rattle.cyc_tree.specs.Tree.{Item, Program}
@@ -12,7 +12,7 @@ use Rattle.source_grammar.specs.Phrases.{Tokens}
 use Rattle.source_grammar.specs.Grammar.{IsProgram}
 use Rattle.cyc_parser.specs.Reader.{Outcome, Fails}
 use Rattle.cyc_parser.specs.ReadPrograms.{program}
-use Rattle.cyc_parser.specs.Refusals.{BeginAProgram, GoNoFurther, StandsIn, AreWithin, IsUnexpectedAt, IsTooDeepAt, IsRefusedFor, IsRefusedProgram}
+use Rattle.cyc_parser.specs.Refusals.{token_limit, BeginAProgram, GoNoFurther, StandsIn, AreWithin, IsUnexpectedAt, IsTooDeepAt, IsRefusedFor, IsRefusedProgram}
 use Rattle.cyc_parser.specs.Exact.{AreMadeUp, Refused, Deepened, Passes}
 use Rattle.cyc_parser.proofs.exactness.Parts.{ok_is, no_fault}
 use Rattle.cyc_parser.proofs.exactness.Programs.{AreSomeItems, AreItemsAt, program_exact, program_ends}
@@ -203,12 +203,12 @@ made_up_ending front (p, ending, is) =
 
 -- ---- what the function answers
 
-pub is_refused_for : (ts : Tokens) (fault : ParseFault) → Fails fault (program nesting_limit ts) → IsRefusedFor fault ts
-is_refused_for ts (Parse at) fails =
+pub is_refused_for : (ts : Tokens) (fault : ParseFault) → length ts ≤ token_limit → Fails fault (program nesting_limit ts) → IsRefusedFor fault ts
+is_refused_for ts (Parse at) few fails =
     let unexpected = is_unexpected ts at fails in
-    (unexpected, are_within ts unexpected.front unexpected.rest at unexpected.parts fails)
-is_refused_for ts (TooDeep at) fails = is_too_deep ts at fails
-is_refused_for ts Memory fails = tt
+    inr (few, (unexpected, are_within ts unexpected.front unexpected.rest at unexpected.parts fails))
+is_refused_for ts (TooDeep at) few fails = (few, is_too_deep ts at fails)
+is_refused_for ts Memory few fails = tt
 
 pub is_refused_program : (p : Program) (ts : Tokens) (fault : ParseFault) → IsProgram p ts → Fails fault (program nesting_limit ts)
     → IsRefusedProgram p fault

@@ -1,6 +1,6 @@
 -- Why tokens are no program, and where.
-use Rattle.std.specs.Prelude.{◌≡◌, ℕ, [], ◌∷◌, ◌++◌, Some}
-use Rattle.cyc_lexer.specs.Lexing.{Token}
+use Rattle.std.specs.Prelude.{◌≡◌, ◌⊎◌, ℕ, ◌<◌, ◌≤◌, [], ◌∷◌, ◌++◌, length, drop, Some}
+use Rattle.cyc_lexer.specs.Lexing.{Token, text_limit}
 use Rattle.cyc_tree.specs.Tree.{Program}
 use Rattle.cyc_tree.specs.Depths.{too_deep_at}
 use Rattle.cyc_parser.specs.declared.fault.ParseFault.{ParseFault}
@@ -49,10 +49,18 @@ pub record IsTooDeepAt (tokens : Tokens) (at : ℕ) : Type 0 where
   pub begins : BeginAProgram (front ++ next ∷ [])
   pub first : (program : Program) (ending : Tokens) → IsProgram program (front ++ next ∷ ending) → too_deep_at program ≡ Some at
 
+-- a text has at most so many bytes, and so no more tokens
+abbrev pub token_limit : ℕ
+token_limit = text_limit
+
+-- the place of the first token behind as many as a text may have
+abbrev pub IsBehindLimit : Tokens → ℕ → Type 0
+IsBehindLimit tokens at = (token_limit < length tokens) × (at ≡ next_place (drop token_limit tokens))
+
 -- why tokens are refused; nothing is said of want of memory
 abbrev pub IsRefusedFor : ParseFault → Tokens → Type 0
-IsRefusedFor (Parse at) tokens = IsUnexpectedFirst tokens at
-IsRefusedFor (TooDeep at) tokens = IsTooDeepAt tokens at
+IsRefusedFor (Parse at) tokens = IsBehindLimit tokens at ⊎ ((length tokens ≤ token_limit) × IsUnexpectedFirst tokens at)
+IsRefusedFor (TooDeep at) tokens = (length tokens ≤ token_limit) × IsTooDeepAt tokens at
 IsRefusedFor Memory tokens = Unit {0}
 
 -- the tokens are a program's: it is refused only for want of memory, or since it nests too deep, at the first token that does

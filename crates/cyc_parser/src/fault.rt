@@ -9,7 +9,8 @@ use thiserror::Error;
 /// Why `parse` refuses tokens. Places are offsets in the text; the end of the text is 4,294,967,295.
 #[derive(Clone, Copy, Debug, Error)]
 pub enum ParseFault {
-    /// The first token with which the tokens so far begin no program, or the end of the text.
+    /// The first token with which the tokens so far begin no program, or the end of the text; of more tokens than a text has, the first one
+    /// behind so many.
     #[error("Parse")]
     Parse(u32),
     /// The first token that over 256 phrases contain.

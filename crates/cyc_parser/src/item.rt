@@ -1,12 +1,12 @@
 // Items and programs.
 
-ghost use Rattle.std.specs.Prelude.{◌≡◌, ◌<◌, ◌≤◌, ◌^◌, ℕ, IfOk, IfErr, OnOk, MatchResult, length, map};
+ghost use Rattle.std.specs.Prelude.{◌≡◌, ◌<◌, ◌≤◌, ◌^◌, ℕ, IfOk, IfErr, OnOk, MatchResult, MatchOption, length, map};
 ghost use Rattle.cyc_lexer.specs.Tokens.{token_tree};
 ghost use Rattle.cyc_tree.specs.Tree.{Program as Tree};
 ghost use Rattle.cyc_tree.specs.Depths.{nesting, nesting_limit};
 ghost use Rattle.source_grammar.specs.Phrases.{Tokens};
 ghost use Rattle.source_grammar.specs.Grammar.{IsProgram};
-ghost use Rattle.cyc_parser.specs.Refusals.{IsUnexpectedAt, IsUnexpectedFirst, IsTooDeepAt, IsRefusedFor, IsRefusedProgram};
+ghost use Rattle.cyc_parser.specs.Refusals.{token_limit, IsBehindLimit, IsUnexpectedAt, IsUnexpectedFirst, IsTooDeepAt, IsRefusedFor, IsRefusedProgram};
 ghost use Rattle.cyc_tree.specs.View.{type_tree, member_tree, structure_tree, initial_tree, program_item_tree};
 ghost use Rattle.cyc_parser.specs.Reader.{Gives, some};
 ghost use Rattle.cyc_parser.specs.Tests.{begins_type as type_test};
@@ -21,6 +21,9 @@ use crate::type_name::{pointers, region_list, type_name, typed_name};
 use cyc_lexer::{Keyword, Sign, Token};
 use cyc_tree::{Base, Function, Initial, Item, Member, Program, Structure, TypeName};
 use std::alloc::Global;
+
+// A text has no more tokens than bytes.
+const TOKEN_LIMIT: usize = 1_048_576;
 
 /// Reads an item.
 #[tactic(auto, unfolding(crate::specs::ReadPrograms::item, crate::specs::ReadPrograms::tagged_union, crate::specs::ReadPrograms::struct_or_typed))]
@@ -181,15 +184,43 @@ fn items(alloc: Global, cursor: &mut Cursor<'_, '_>) -> Parsed<Vec<Item>>
 /// Refuses with `Parse` at the first token with which the tokens so far begin no program, or at the
 /// end of the text, where no token before it is in over 256 phrases; with `TooDeep` at the first
 /// token that is, where the tokens up to it begin a program; and with `Memory` where no host memory
-/// is left.
+/// is left. Over 1,048,576 tokens, which no text has, are `Parse` at the first one behind so many,
+/// whatever they are.
 pub fn parse(alloc: Global, tokens: &[Token<'_>]) -> Result<Program, ParseFault>
     ensures found { IfOk result (λ program. IsProgram program (map token_tree tokens.entry.now)) }
     // no token of it is in over 256 phrases
     ensures nested { IfOk result (λ program. nesting program ≤ nesting_limit) }
+    // there are no more tokens than a text may have
+    ensures few { IfOk result (λ program. length (map token_tree tokens.entry.now) ≤ token_limit) }
     // the tokens' program is answered, unless it nests too deep or no memory is left
-    ensures only { (program : Tree) → IsProgram program (map token_tree tokens.entry.now)
+    ensures only { (program : Tree) → length (map token_tree tokens.entry.now) ≤ token_limit → IsProgram program (map token_tree tokens.entry.now)
         → MatchResult result (λ answered. answered ≡ program) (λ fault. IsRefusedProgram program fault) }
     // why there is none, and where
+    ensures refused { IfErr result (λ fault. IsRefusedFor fault (map token_tree tokens.entry.now)) }
+{
+    match behind_limit(tokens) {
+        Some(at) => Err(ParseFault::Parse(at)),
+        None => program(alloc, tokens),
+    }
+}
+
+/// The place of the first token behind as many as a text may have, where there are more.
+fn behind_limit(tokens: &[Token<'_>]) -> Option<u32>
+    ensures { MatchOption result (length (map token_tree tokens.entry.now) ≤ token_limit) (λ at. IsBehindLimit (map token_tree tokens.entry.now) at) }
+{
+    match tokens.get(TOKEN_LIMIT) {
+        Some(token) => Some(token.at),
+        None => None,
+    }
+}
+
+/// The program that the tokens spell, where they are no more than a text may have.
+fn program(alloc: Global, tokens: &[Token<'_>]) -> Result<Program, ParseFault>
+    requires few { length (map token_tree tokens.now) ≤ token_limit }
+    ensures found { IfOk result (λ program. IsProgram program (map token_tree tokens.entry.now)) }
+    ensures nested { IfOk result (λ program. nesting program ≤ nesting_limit) }
+    ensures only { (program : Tree) → IsProgram program (map token_tree tokens.entry.now)
+        → MatchResult result (λ answered. answered ≡ program) (λ fault. IsRefusedProgram program fault) }
     ensures refused { IfErr result (λ fault. IsRefusedFor fault (map token_tree tokens.entry.now)) }
 {
     let mut cursor = Cursor::new(tokens);

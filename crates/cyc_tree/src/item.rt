@@ -186,8 +186,8 @@ impl Item {
     }
 }
 
-/// A program: its items, in order, which its clones share. A contract sees it as the pure tree of its items. It has operands wherever
-/// an operator joins some, as the tree of each text has.
+/// A program: its items, in order, which its clones share. A contract sees it as the pure tree of its items. As the tree of each text, it
+/// has operands wherever an operator joins some, and a word counts the temporaries that its phrases take.
 #[derive(Drop)]
 pub struct Program {
     items: Rc<Vec<Item>>,
@@ -202,19 +202,24 @@ impl Model for Program {
     ghost coded = { coded_program };
 
     ghost use Rattle.cyc_tree.specs.View.{program_tree};
+    ghost use Rattle.std.specs.Prelude.{◌^◌, ◌<◌};
     ghost use Rattle.cyc_tree.specs.Operands.{HasOperands};
+    ghost use Rattle.cyc_tree.specs.Room.{program_room};
 
     ghost view = { λ p. program_tree p.items.value.items };
 
-    ghost invariant = { λ p. HasOperands (program_tree p.items.value.items) };
+    ghost invariant = { λ p. HasOperands (program_tree p.items.value.items) × (program_room (program_tree p.items.value.items) < 2 ^ 32) };
 }
 
 impl Program {
+    ghost use Rattle.std.specs.Prelude.{◌^◌, ◌<◌};
     ghost use Rattle.cyc_tree.specs.Operands.{HasOperands};
+    ghost use Rattle.cyc_tree.specs.Room.{program_room};
 
     /// The program of these items. An Err where no memory is left.
     pub fn new(alloc: Heap, items: Vec<Item>) -> Result<Program, AllocError>
-        requires { HasOperands (program_tree items.items) }
+        requires operands { HasOperands (program_tree items.items) }
+        requires room { program_room (program_tree items.items) < 2 ^ 32 }
         ensures { IfOk result (λ program. program ≡ program_tree items.items) }
     {
         match Rc::new(alloc, items) {
@@ -223,10 +228,11 @@ impl Program {
         }
     }
 
-    /// The program's items, in order. An operator among them has its operands.
+    /// The program's items, in order. An operator among them has its operands, and a word counts their temporaries.
     pub fn items(&self) -> &[Item]
         ensures same { program_tree result.now ≡ self.now }
         ensures operands { HasOperands self.now }
+        ensures room { program_room self.now < 2 ^ 32 }
     {
         self.items.as_ref().as_slice()
     }

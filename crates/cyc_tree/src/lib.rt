@@ -3,7 +3,7 @@
 //! `Program` holds every form of the language. A contract sees a program as the pure tree of
 //! specs/Tree.antt, with no boxes, vectors or pointers in it; all definitions of the language speak
 //! of that tree. Places are offsets in the text, in bytes; the end of the text is `END_OF_TEXT`.
-//! specs/Operands says what the tree of each text has: an operator has its operands.
+//! specs/Operands and specs/Room say what the tree of each text has: an operator has its operands, and a word counts its temporaries.
 //! `nesting` answers how deep a program's phrases nest.
 #![tactic(auto)]
 

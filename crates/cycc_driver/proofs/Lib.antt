@@ -3,9 +3,9 @@ pub mod Longer
 pub mod EnoughSteps
 pub mod Implementing
 pub mod Breaking
+pub mod Parsing
 pub mod Refusing
 pub mod Exhaustions
 pub mod Executions
 pub mod Exactness
 pub mod OneFault
-pub mod HavingRoom

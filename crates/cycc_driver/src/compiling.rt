@@ -1,13 +1,12 @@
 // From a text to an image.
 
-ghost use Rattle.std.specs.Prelude.{◌≡◌, ◌⊎◌, ◌<◌, ◌≤◌, ◌^◌, ℕ, List, Some, length, IfOk, IfErr};
+ghost use Rattle.std.specs.Prelude.{◌≡◌, ◌⊎◌, ◌<◌, ◌≤◌, ℕ, List, Some, length, IfOk, IfErr};
 ghost use Rattle.cyc_tree.specs.Tree.{Program as Tree};
 ghost use Rattle.cyc_image.specs.Format.{Contents, Fits, code_limit, data_limit, second_block_limit};
 ghost use Rattle.cyc_core.specs.Trees.{program_tree};
 ghost use Rattle.source_meaning.specs.Programs.{unions_of};
 ghost use Rattle.source_lowering.specs.Programs.{program_code};
 ghost use Rattle.source_lowering.specs.Lowerable.{HaveFewMembers};
-ghost use Rattle.source_lowering.specs.Room.{program_room};
 ghost use Rattle.accepted_programs.specs.Accepted.{IsAccepted};
 ghost use Rattle.check_faults.specs.Faults.{fault_of};
 ghost use Rattle.check_faults.specs.declared.fault.Fault.{Fault};
@@ -78,12 +77,9 @@ fn checked(alloc: Global, text: &[u8], program: &Program) -> Result<Checked, Com
 ///
 /// Refuses a text that isn't accepted with the first fault of the first phase that has one: the tokens, the grammar,
 /// names and types, and flow. `Memory` comes where no host memory is left.
-#[tactic(auto, using(crate::proofs::HavingRoom::accepted_have_room))]
 pub fn front(alloc: Global, text: &[u8]) -> Result<Checked, CompileFault>
     // the program that the text spells, in which no rule is broken
     ensures accepted { IfOk result (λ checked. IsAcceptedAs text.now checked) }
-    // a word counts the temporaries of each of its functions, and the members of each of its unions
-    ensures room { IfOk result (λ checked. program_room checked < 2 ^ 32) }
     // its tokens are none, or are no program, at the place; or it spells a program whose first fault is this one, at the place
     ensures refused { IfErr result (λ fault. IsRefusedFor fault text.now) }
     // a text that is accepted is refused only for want of memory
@@ -133,8 +129,6 @@ struct Placed {
 
 /// The Core of an accepted program.
 fn core_of(alloc: Global, checked: &Checked) -> Result<Core, CompileFault>
-    // a word counts the temporaries of each of its functions, and the members of each of its unions
-    requires room { program_room checked.now < 2 ^ 32 }
     ensures code { IfOk result (λ core. program_tree core ≡ program_code checked.now) }
     ensures accepted { IfOk result (λ _. IsAccepted checked.now) }
     // a word counts the members of each of its unions
@@ -151,8 +145,6 @@ fn core_of(alloc: Global, checked: &Checked) -> Result<Core, CompileFault>
 
 /// The code and the data of an accepted program.
 fn lay_out(alloc: Global, checked: &Checked) -> Result<Placed, CompileFault>
-    // a word counts the temporaries of each of its functions, and the members of each of its unions
-    requires room { program_room checked.now < 2 ^ 32 }
     ensures code { IfOk result (λ placed. IsCode placed.code.items) }
     ensures data { IfOk result (λ placed. length placed.data.items ≤ data_limit) }
     // an image with this code and these data implements the program

@@ -1,7 +1,7 @@
 -- Each declaration asks for room, and each statement.
 use Rattle.std.proofs.Common.{◌≤◌, arith}
 use Rattle.cyc_tree.specs.Tree.{Declaration, Statement}
-use Rattle.source_lowering.specs.Room.{declaration_room, statement_room}
+use Rattle.cyc_tree.specs.Room.{declaration_room, statement_room}
 
 pub declaration_least : (d : Declaration) → 16 ≤ declaration_room d
 declaration_least (Declaration.Local of name initializer) = omega arith

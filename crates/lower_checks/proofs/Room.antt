@@ -6,7 +6,7 @@ use Rattle.cyc_tree.specs.declared.expression.Suffix as code
 use Rattle.source_meaning.specs.Shapes.{FatShape, Shape}
 use Rattle.source_lowering.specs.Lowered.{argument_words}
 use Rattle.source_lowering.specs.Members.{words_in}
-use Rattle.source_lowering.specs.Room.{argument_room, room, suffix_room}
+use Rattle.cyc_tree.specs.Room.{argument_room, room, suffix_room}
 use Rattle.lower_checks.specs.Reaching.{indices_in}
 
 pub room_least : (e : Expression) → 16 ≤ room e

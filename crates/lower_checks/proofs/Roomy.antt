@@ -1,7 +1,7 @@
 -- A program whose functions have room all in all has room for each.
 use Rattle.std.proofs.Common.{◌<◌, ◌^◌, arith, List, [], ◌∷◌}
 use Rattle.cyc_tree.specs.Tree.{FunctionItem, GlobalItem, Item, StructItem, UnionItem}
-use Rattle.source_lowering.specs.Room.{program_room}
+use Rattle.cyc_tree.specs.Room.{program_room}
 use Rattle.lower_checks.specs.Roomy.{AreRoomy}
 
 pub are_roomy : (items : List Item) → program_room items < 2 ^ 32 → AreRoomy items

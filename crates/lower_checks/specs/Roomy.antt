@@ -1,7 +1,7 @@
 -- There is room for each function of a program.
 use Rattle.std.specs.Prelude.{List, [], ◌∷◌}
 use Rattle.cyc_tree.specs.Tree.{FunctionItem, Item}
-use Rattle.source_lowering.specs.Room.{function_room}
+use Rattle.cyc_tree.specs.Room.{function_room}
 use Rattle.lower_checks.specs.Room.{HasRoom}
 
 abbrev pub IsRoomy : Item → Type 0

@@ -21,7 +21,7 @@ ghost use Rattle.source_lowering.specs.Lowered.{
   whole_values,
 };
 ghost use Rattle.source_lowering.specs.Lowerable.{IsObject, Takes, TakesMember, TakesWhole};
-ghost use Rattle.source_lowering.specs.Room.{room};
+ghost use Rattle.cyc_tree.specs.Room.{room};
 ghost use Rattle.lower_checks.specs.Room.{HasRoom};
 ghost use Rattle.lower_checks.specs.Scoped.{names_in, world_in};
 ghost use Rattle.lower_checks.specs.Views.{shape_tree};

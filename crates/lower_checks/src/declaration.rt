@@ -11,7 +11,7 @@ ghost use Rattle.source_lowering.specs.Layouts.{layout_of, local_of};
 ghost use Rattle.source_lowering.specs.Programs.{declaration_code, declaration_values, initial_values, local_shape, source_code, unset_code, value_code};
 ghost use Rattle.source_lowering.specs.Whole.{expression_values, is_made, whole_values};
 ghost use Rattle.source_lowering.specs.Lowerable.{IsObject, IsWholeShape, IsWordShape, IsVariable, TakesDeclaration, TakesValue, TakesWhole};
-ghost use Rattle.source_lowering.specs.Room.{declaration_room, room};
+ghost use Rattle.cyc_tree.specs.Room.{declaration_room, room};
 ghost use Rattle.lower_checks.specs.Room.{HasRoom};
 ghost use Rattle.lower_checks.specs.Scoped.{names_in, world_in};
 ghost use Rattle.lower_checks.specs.Views.{shape_tree, stored_tree};

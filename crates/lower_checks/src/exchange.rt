@@ -6,7 +6,7 @@ ghost use Rattle.source_meaning.specs.Programs.{world_of};
 ghost use Rattle.source_lowering.specs.Lowered.{expression_values, place_code, static_shape};
 ghost use Rattle.source_lowering.specs.Lowerable.{IsExchanged, TakesPlace};
 ghost use Rattle.source_lowering.specs.Programs.{exchange_code, union_exchange, value_exchange, words_read, words_written};
-ghost use Rattle.source_lowering.specs.Room.{room};
+ghost use Rattle.cyc_tree.specs.Room.{room};
 ghost use Rattle.lower_checks.specs.Room.{HasRoom};
 ghost use Rattle.lower_checks.specs.Scoped.{names_in, world_in};
 ghost use Rattle.lower_checks.specs.Unions.{cell_words};

@@ -13,7 +13,7 @@ ghost use Rattle.source_lowering.specs.Lowered.{
   static_shape,
 };
 ghost use Rattle.source_lowering.specs.Lowerable.{Takes, TakesPlace, TakesPrefix};
-ghost use Rattle.source_lowering.specs.Room.{room};
+ghost use Rattle.cyc_tree.specs.Room.{room};
 ghost use Rattle.lower_checks.specs.Room.{HasRoom};
 ghost use Rattle.lower_checks.specs.Scoped.{names_in, world_in};
 ghost use Rattle.lower_checks.specs.Views.{shape_tree};

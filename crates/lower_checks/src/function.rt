@@ -10,7 +10,7 @@ ghost use Rattle.source_lowering.specs.Programs.{parameter_names, parameters_cod
 ghost use Rattle.lower_checks.specs.Views.{shape_tree, stored_tree};
 ghost use Rattle.lower_checks.specs.Visible.{names_of};
 ghost use Rattle.source_lowering.specs.Lowerable.{TakesFunction};
-ghost use Rattle.source_lowering.specs.Room.{function_room};
+ghost use Rattle.cyc_tree.specs.Room.{function_room};
 ghost use Rattle.lower_checks.specs.Refusals.{NeverRefused};
 ghost use Rattle.lower_checks.specs.Room.{HasRoom};
 ghost use Rattle.lower_checks.specs.Writing.{Emits, IsSound, values_of};

@@ -4,7 +4,7 @@ ghost use Rattle.std.specs.Prelude.{◌≡◌, true};
 ghost use Rattle.cyc_tree.specs.View.{expression_tree};
 ghost use Rattle.source_lowering.specs.Lowered.{expression_code, expression_values, static_shape};
 ghost use Rattle.source_lowering.specs.Lowerable.{Takes};
-ghost use Rattle.source_lowering.specs.Room.{room};
+ghost use Rattle.cyc_tree.specs.Room.{room};
 ghost use Rattle.lower_checks.specs.Room.{HasRoom};
 ghost use Rattle.lower_checks.specs.Scoped.{names_in, world_in};
 ghost use Rattle.lower_checks.specs.Simple.{is_leaf};

@@ -7,7 +7,7 @@ ghost use Rattle.cyc_core.specs.Trees.{operation_tree, statement_tree};
 ghost use Rattle.source_lowering.specs.Lowered.{conversion_code, expression_code, expression_values, results_in, static_shape};
 ghost use Rattle.source_lowering.specs.Programs.{in_loop, in_switch, leaving_code, left_by, no_regions, regions_with};
 ghost use Rattle.source_lowering.specs.Lowerable.{Takes};
-ghost use Rattle.source_lowering.specs.Room.{room};
+ghost use Rattle.cyc_tree.specs.Room.{room};
 ghost use Rattle.lower_checks.specs.Counted.{IsCounted};
 ghost use Rattle.lower_checks.specs.Room.{HasRoom};
 ghost use Rattle.lower_checks.specs.Scoped.{names_in, world_in};

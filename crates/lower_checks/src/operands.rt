@@ -17,7 +17,7 @@ ghost use Rattle.source_lowering.specs.Lowered.{
   links_code,
 };
 ghost use Rattle.source_lowering.specs.Lowerable.{Takes, TakesAll, TakesLinks};
-ghost use Rattle.source_lowering.specs.Room.{argument_room, link_room, room};
+ghost use Rattle.cyc_tree.specs.Room.{argument_room, link_room, room};
 ghost use Rattle.lower_checks.specs.Room.{HasRoom};
 ghost use Rattle.lower_checks.specs.Scoped.{names_in, world_in};
 ghost use Rattle.lower_checks.specs.Views.{shape_tree};

@@ -1,6 +1,6 @@
 // Globals and programs.
 
-ghost use Rattle.std.specs.Prelude.{◌≡◌, ◌++◌, ◌<◌, ◌^◌, IfOk, map};
+ghost use Rattle.std.specs.Prelude.{◌≡◌, ◌++◌, IfOk, map};
 ghost use Rattle.cyc_tree.specs.View.{global_tree};
 ghost use Rattle.cyc_core.specs.Trees.{datum_tree, function_tree, program_tree};
 ghost use Rattle.source_meaning.specs.Shapes.{written, settled};
@@ -8,7 +8,6 @@ ghost use Rattle.source_meaning.specs.Programs.{world_of, functions_of, global_s
 ghost use Rattle.source_meaning.specs.Strings.{program_strings};
 ghost use Rattle.source_lowering.specs.Programs.{function_code, global_datum, data_of, program_code, string_datum};
 ghost use Rattle.source_lowering.specs.Lowerable.{HaveFewMembers, IsLowerable, IsObjectType, TakesGlobal, TakesProgram};
-ghost use Rattle.source_lowering.specs.Room.{program_room};
 ghost use Rattle.lower_checks.specs.Promise.{IsLoweringOf};
 ghost use Rattle.lower_checks.specs.Refusals.{NeverRefused};
 ghost use Rattle.lower_checks.specs.Roomy.{AreRoomy};
@@ -118,8 +117,6 @@ fn lower_tree(alloc: Global, program: &Source) -> Result<Program, LowerFault>
 
 /// The Core of a checked program. Fails only where no host memory is left.
 pub fn lower(alloc: Global, checked: &Checked) -> Result<Program, AllocError>
-    // a word counts the temporaries of each of its functions, and the members of each of its unions
-    requires room { program_room checked.now < 2 ^ 32 }
     // it does what the source does, and its frames and its code are within the source's bounds
     ensures promised { IfOk result (λ core. IsLoweringOf checked.now (program_tree core)) }
     // it is the one by the definition
@@ -128,6 +125,8 @@ pub fn lower(alloc: Global, checked: &Checked) -> Result<Program, AllocError>
     ensures few { IfOk result (λ _. HaveFewMembers (unions_of checked.now)) }
 {
     let program = checked.program();
+    // a word counts its temporaries, and the members of each of its unions
+    program.items();
     match lower_tree(alloc, program) {
         Ok(core) => Ok(core),
         Err(LowerFault::Memory) => Err(AllocError),

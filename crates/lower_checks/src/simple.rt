@@ -4,7 +4,7 @@ ghost use Rattle.std.specs.Prelude.{◌≡◌, true};
 ghost use Rattle.cyc_tree.specs.View.{statement_tree as source_tree};
 ghost use Rattle.source_lowering.specs.Programs.{statement_code, statement_values};
 ghost use Rattle.source_lowering.specs.Lowerable.{TakesStatement};
-ghost use Rattle.source_lowering.specs.Room.{statement_room};
+ghost use Rattle.cyc_tree.specs.Room.{statement_room};
 ghost use Rattle.lower_checks.specs.Room.{HasRoom};
 ghost use Rattle.lower_checks.specs.Scoped.{names_in, world_in};
 ghost use Rattle.lower_checks.specs.Simple.{is_simple};

@@ -24,7 +24,7 @@ ghost use Rattle.lower_checks.specs.Counted.{IsCounted};
 ghost use Rattle.lower_checks.specs.Room.{HasRoom};
 ghost use Rattle.lower_checks.specs.Scoped.{names_in, world_in};
 ghost use Rattle.source_lowering.specs.Objects.{AreVariables};
-ghost use Rattle.source_lowering.specs.Room.{declaration_room, item_room, room, statement_room};
+ghost use Rattle.cyc_tree.specs.Room.{declaration_room, item_room, room, statement_room};
 ghost use Rattle.lower_checks.specs.Views.{regions_tree, shape_tree, stored_tree};
 ghost use Rattle.lower_checks.specs.Visible.{declared as declared_as, left, names_of};
 ghost use Rattle.lower_checks.specs.Writing.{Emits, IsApart, IsSound, Stays, Writes, next_of};

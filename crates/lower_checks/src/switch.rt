@@ -33,7 +33,7 @@ ghost use Rattle.source_lowering.specs.Programs.{
   statement_values,
 };
 ghost use Rattle.source_lowering.specs.Lowerable.{AreValues, IsMember, IsUnionShape, IsVariable, TakesClauses, TakesItems, TakesPlace};
-ghost use Rattle.source_lowering.specs.Room.{clause_room, item_room, room};
+ghost use Rattle.cyc_tree.specs.Room.{clause_room, item_room, room};
 ghost use Rattle.lower_checks.specs.Counted.{IsCounted};
 ghost use Rattle.lower_checks.specs.Room.{HasRoom};
 ghost use Rattle.lower_checks.specs.Scoped.{names_in, world_in};

@@ -32,7 +32,7 @@ ghost use Rattle.source_lowering.specs.Lowerable.{
   TakesPlace,
   TakesWhole,
 };
-ghost use Rattle.source_lowering.specs.Room.{argument_room, room as room_of};
+ghost use Rattle.cyc_tree.specs.Room.{argument_room, room as room_of};
 ghost use Rattle.lower_checks.specs.Room as rooms;
 ghost use Rattle.lower_checks.specs.Scoped.{names_in, world_in};
 ghost use Rattle.lower_checks.specs.Structs.{HasRoom, HaveRoom};

@@ -1,1 +1,5 @@
 pub mod Operands
+pub mod Parts
+pub mod Shorter
+pub mod ItemTokens
+pub mod Rooms

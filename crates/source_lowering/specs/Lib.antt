@@ -21,4 +21,3 @@ pub mod Kinds
 pub mod Memories
 pub mod Simulation
 pub mod ObjectCells
-pub mod Room

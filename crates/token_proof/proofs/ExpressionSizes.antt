@@ -1,27 +1,13 @@
 -- An expression has as many tokens in a text as are counted for it at least.
-use Rattle.std.proofs.Common.{ℕ, ◌+◌, ◌≤◌, length, arith}
+use Rattle.std.proofs.Common.{ℕ, ◌≤◌, arith}
 use Rattle.cyc_lexer.specs.declared.token.Sign.{Sign}
 use Rattle.cyc_tree.specs.Tree.{Expression, Expressions, NoExpressions, MoreExpressions, Links, NoLinks, MoreLinks, Suffixes, NoSuffixes, Index, Dot, Arrow}
 use Rattle.cyc_tree.specs.Tree.{Made, One, Array}
-use Rattle.source_grammar.specs.Phrases.{Tokens, InParentheses}
-use Rattle.source_grammar.specs.ExpressionGrammar.{level_of, IsExpression, AreArguments, AreOperands, AreLinks, AreSuffixes, IsMade}
+use Rattle.source_grammar.specs.Phrases.{Tokens}
+use Rattle.source_grammar.specs.ExpressionGrammar.{IsExpression, AreArguments, AreOperands, AreLinks, AreSuffixes, IsMade}
 use Rattle.source_lowering.specs.Bounds.{tokens_of, made_tokens, argument_tokens, joined_tokens, link_tokens, suffix_tokens}
-use Rattle.token_proof.proofs.Shorter.{one_taken, keyword_taken, sign_taken, name_taken, string_taken, none_taken}
-
--- a phrase takes at least so many tokens
-abbrev pub Takes : ℕ → Tokens → Tokens → Type 0
-Takes count from to = count + length to ≤ length from
-
--- what a phrase takes, it takes in parentheses, and two more
-pub in_parentheses : (count : ℕ) (Is : Tokens → Tokens → Type 0) → ((from to : Tokens) → Is from to → Takes count from to) → (from to : Tokens)
-    → InParentheses Is from to → Takes (2 + count) from to
-in_parentheses count Is takes from to (a, b, opened, is, closed) = omega (arith, sign_taken opened, takes a b is, sign_taken closed)
-
--- a chain's first operand, and its links, of one level
-pub chained : (first : Expression) (links : Links) (from to : Tokens) → IsExpression (Expression.Chain first links) from to
-    → (a : Tokens) × (level : ℕ) × IsExpression first from a × AreLinks level links a to
-chained first NoLinks from to is = absurd is
-chained first (MoreLinks operator operand others) from to (a, above, leads, are) = (a, level_of operator, leads, are)
+use Rattle.source_grammar.proofs.Parts.{chained}
+use Rattle.source_grammar.proofs.Shorter.{one_taken, keyword_taken, sign_taken, name_taken, string_taken, none_taken, Takes, in_parentheses}
 
 -- arguments have a sign behind each of them, operands one before
 all_joined : (es : Expressions) → argument_tokens es ≤ joined_tokens es

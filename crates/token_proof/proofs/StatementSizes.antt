@@ -1,23 +1,17 @@
 -- A statement has at least the tokens of its expressions, and one of its own.
-use Rattle.std.proofs.Common.{ℕ, ◌+◌, ◌≤◌, length, Some, None, arith}
-use Rattle.cyc_lexer.specs.declared.token.Keyword.TheVariants as word
-use Rattle.cyc_lexer.specs.declared.token.Sign.TheVariants as sign
+use Rattle.std.proofs.Common.{◌+◌, Some, None, arith}
 use Rattle.cyc_tree.specs.Tree as tree
 use Rattle.cyc_tree.specs.Tree.{Expression, Declaration, BlockItems, NoItems, Declare, Execute, Clauses, NoClauses, MoreClauses}
-use Rattle.source_grammar.specs.Phrases.{Tokens, KeywordAt, IsSign, InParentheses}
+use Rattle.source_grammar.specs.Phrases.{Tokens, InParentheses}
 use Rattle.source_grammar.specs.ExpressionGrammar.{IsExpression}
-use Rattle.source_grammar.specs.StatementGrammar.{IsCount, IsNameInParentheses, IsDeclaration, IsPattern, IsStatement, AreItems, AreClauses}
+use Rattle.source_grammar.specs.StatementGrammar.{IsDeclaration, IsStatement, AreItems, AreClauses}
+use Rattle.source_grammar.proofs.Parts.{switched}
+use Rattle.source_grammar.proofs.Shorter.{one_taken, keyword_taken, sign_taken, name_taken, none_taken, one_region_shorter, type_shorter}
+use Rattle.source_grammar.proofs.Shorter.{count_shorter, name_in_parentheses, Takes, in_parentheses, named_case}
 use Rattle.source_lowering.specs.Bounds.{tokens_of, declaration_tokens, statement_size, item_size, clauses_size}
-use Rattle.token_proof.proofs.Shorter.{one_taken, keyword_taken, sign_taken, name_taken, none_taken, one_region_shorter, type_shorter}
-use Rattle.token_proof.proofs.ExpressionSizes.{Takes, in_parentheses, expression_size}
+use Rattle.token_proof.proofs.ExpressionSizes.{expression_size}
 
 -- ---- declarations
-
-pub count_shorter : (count : ℕ) (from to : Tokens) → IsCount count from to → length to ≤ length from
-count_shorter count from to (a, b, at, suffix, opened, is, closed) = omega (arith, sign_taken opened, one_taken is, sign_taken closed)
-
-name_in_parentheses : (n : tree.Name) (from to : Tokens) → IsNameInParentheses n from to → length to ≤ length from
-name_in_parentheses n from to (a, b, opened, is, closed) = omega (arith, sign_taken opened, name_taken is, sign_taken closed)
 
 -- its name and its semicolon are two tokens
 declaration_size : (declaration : Declaration) (from to : Tokens) → IsDeclaration declaration from to → Takes (1 + declaration_tokens declaration) from to
@@ -71,21 +65,9 @@ declaration_size (tree.NewKey at region key) from to
 
 -- ---- statements
 
--- `case {.M = x}` has seven tokens
-named_case : (at : ℕ) (member name : tree.Name) (from to : Tokens) → IsPattern at (tree.Case member name) from to → Takes 7 from to
-named_case at member name from to (a, b, c, d, e, f, word, opened, dot, named, gives, is, closed) =
-    omega (arith, one_taken word, sign_taken opened, sign_taken dot, name_taken named, sign_taken gives, name_taken is, sign_taken closed)
-
 -- an expression in parentheses, as a condition is
 condition_size : (e : Expression) (from to : Tokens) → InParentheses (IsExpression e) from to → Takes (2 + tokens_of e) from to
 condition_size e = in_parentheses (tokens_of e) (IsExpression e) (expression_size e)
-
--- a `switch`, and its clauses
-pub switched : (at : ℕ) (place : Expression) (clauses : Clauses) (from to : Tokens) → IsStatement (tree.Switch at place clauses) from to
-    → (a : Tokens) × (b : Tokens) × (c : Tokens) × (d : Tokens) × KeywordAt word.Switch at from a × InParentheses (IsExpression place) a b
-    × IsSign sign.LeftBrace b c × AreClauses clauses c d × IsSign sign.RightBrace d to
-switched at place NoClauses from to is = absurd is
-switched at place (MoreClauses first pattern body others) from to is = is
 
 mutual
   pub sized : (s : tree.Statement) (from to : Tokens) → IsStatement s from to → Takes (statement_size s) from to

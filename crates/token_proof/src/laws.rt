@@ -1,6 +1,6 @@
 // What holds of all programs that are spelled.
 
-ghost use Rattle.token_proof.specs.Laws.{TokensPay, SpelledHasOperands, TextsHaveRoom};
+ghost use Rattle.token_proof.specs.Laws.{TokensPay, SpelledHasOperands};
 
 /// A law, with nothing to run: the tokens that spell a program are at least as many as the bound on its
 /// code counts, for its functions, their parameters, and the declarations, statements and nodes of
@@ -13,10 +13,4 @@ pub fn tokens_pay()
 /// an operand behind its first one, and each form with suffixes has a suffix.
 pub fn spelled_has_operands()
     ensures { SpelledHasOperands }
-{}
-
-/// A law, with nothing to run: a word counts the temporaries that the phrases of a text's functions name,
-/// by a bound of sixteen for each node, and the members of its unions.
-pub fn texts_have_room()
-    ensures { TextsHaveRoom }
 {}

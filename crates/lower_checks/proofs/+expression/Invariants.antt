@@ -15,7 +15,7 @@ use Rattle.source_lowering.specs.Lowered.{
   suffix_values,
 }
 use Rattle.source_lowering.specs.Lowerable.{TakesAll, TakesLinks, TakesMade}
-use Rattle.source_lowering.specs.Room.{argument_room, link_room}
+use Rattle.cyc_tree.specs.Room.{argument_room, link_room}
 use Rattle.lower_checks.specs.Reaching.{indices_code, indices_in}
 use Rattle.lower_checks.specs.Room.{HasRoom}
 use Rattle.lower_checks.specs.Scoped.{names_in, world_in}

@@ -4,7 +4,7 @@ use Rattle.source_meaning.specs.Programs.{world_of}
 use Rattle.source_meaning.specs.Shapes.{Part, part_of}
 use Rattle.source_lowering.specs.Programs.{block_shapes, case_values, cases_code, default_code, default_values, item_values, items_code}
 use Rattle.source_lowering.specs.Lowerable.{TakesClauses, TakesItems}
-use Rattle.source_lowering.specs.Room.{clause_room, item_room}
+use Rattle.cyc_tree.specs.Room.{clause_room, item_room}
 use Rattle.lower_checks.specs.Counted.{IsCounted}
 use Rattle.lower_checks.specs.Room.{HasRoom}
 use Rattle.lower_checks.specs.Views.{regions_tree, shape_tree, stored_tree}

@@ -13,8 +13,8 @@ use Rattle.source_lowering.specs.Lowered.{call_shape}
 use Rattle.source_lowering.specs.Programs.{body_code}
 use Rattle.source_lowering.specs.Temporaries.{temporaries_of, passed_by}
 use Rattle.source_lowering.specs.Lowerable.{HaveFewMembers, TakesFunction}
-use Rattle.source_lowering.specs.Room.{room, argument_room, link_room, suffix_room, made_room, declaration_room, statement_room, item_room, clause_room}
-use Rattle.source_lowering.specs.Room.{function_room, program_room}
+use Rattle.cyc_tree.specs.Room.{room, argument_room, link_room, suffix_room, made_room, declaration_room, statement_room, item_room, clause_room}
+use Rattle.cyc_tree.specs.Room.{function_room, program_room}
 use Rattle.source_lowering.proofs.Programs.{routine_is}
 use Rattle.source_lowering.proofs.bounds.Nodes.{expression_count, made_count, argument_count, joined_count, link_count, suffix_count, result_count, run_count}
 use Rattle.source_lowering.proofs.bounds.Nodes.{declaration_count, statement_count, item_count, clause_count}

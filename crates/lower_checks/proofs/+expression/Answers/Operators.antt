@@ -23,7 +23,7 @@ use Rattle.source_lowering.specs.Lowered.{
   truth_code,
   word_code,
 }
-use Rattle.source_lowering.specs.Room.{argument_room, link_room}
+use Rattle.cyc_tree.specs.Room.{argument_room, link_room}
 use Rattle.lower_checks.specs.Room.{HasRoom}
 use Rattle.lower_checks.specs.Scoped.{names_in, world_in}
 use Rattle.lower_checks.specs.Views.{shape_tree}

@@ -7,7 +7,7 @@ use Rattle.cyc_tree.specs.declared.expression.Expression.TheFolds.{the_lemmas}
 use Rattle.source_lowering.specs.Lowerable.{Takes, TakesMembers, TakesPlace, TakesSuffixes}
 use Rattle.source_lowering.proofs.expressions.Indices.{TakesIndices, indices_taken}
 use Rattle.source_lowering.specs.Lowered.{expression_code, place_code, static_shape, suffix_values}
-use Rattle.source_lowering.specs.Room.{room, suffix_room}
+use Rattle.cyc_tree.specs.Room.{room, suffix_room}
 use Rattle.lower_checks.specs.Reaching.{IsLeftAt, Place, TakesSuffixed, further_place, indices_code, indices_in, place_at_once, reached_place, suffixed_left}
 use Rattle.lower_checks.specs.Room.{HasRoom}
 use Rattle.lower_checks.specs.Scoped.{names_in, world_in}

@@ -26,7 +26,7 @@ use Rattle.source_lowering.specs.Lowered.{
   whole_code,
   whole_values,
 }
-use Rattle.source_lowering.specs.Room.{argument_room}
+use Rattle.cyc_tree.specs.Room.{argument_room}
 use Rattle.lower_checks.specs.Room as rooms
 use Rattle.lower_checks.specs.Scoped.{names_in, world_in}
 use Rattle.lower_checks.specs.Structs.{HaveRoom, room_tree}

@@ -28,7 +28,7 @@ use Rattle.source_lowering.specs.Programs.{
 }
 use Rattle.source_lowering.specs.Lowerable.{TakesItems, TakesStatement}
 use Rattle.source_lowering.specs.Objects.{AreVariables}
-use Rattle.source_lowering.specs.Room.{declaration_room, item_room, statement_room}
+use Rattle.cyc_tree.specs.Room.{declaration_room, item_room, statement_room}
 use Rattle.lower_checks.specs.Counted.{IsCounted}
 use Rattle.lower_checks.specs.Room.{HasRoom}
 use Rattle.lower_checks.specs.Views.{regions_tree, shape_tree, stored_tree}

@@ -11,7 +11,7 @@ use Rattle.source_meaning.specs.Programs.{world_of}
 use Rattle.source_lowering.specs.Lowered.{Named, all_of, held_loads, member_number, put_local}
 use Rattle.source_lowering.specs.Programs.{block_shapes, case_values, cases_code, item_values, items_code, locals_of, named_here, outward}
 use Rattle.source_lowering.specs.Lowerable.{IsMember, IsVariable, TakesClauses, TakesItems}
-use Rattle.source_lowering.specs.Room.{clause_room, item_room}
+use Rattle.cyc_tree.specs.Room.{clause_room, item_room}
 use Rattle.lower_checks.specs.Counted.{IsCounted}
 use Rattle.lower_checks.specs.Room.{HasRoom}
 use Rattle.lower_checks.specs.Views.{regions_tree, shape_tree}

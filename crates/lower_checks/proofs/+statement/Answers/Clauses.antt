@@ -9,7 +9,7 @@ use Rattle.source_lowering.specs.Lowered.{Named, all_of, held_loads, put_local}
 use Rattle.source_lowering.specs.Programs.{block_shapes, item_values, items_code, locals_of, named_here, outward}
 use Rattle.source_lowering.specs.Lowerable.{IsVariable, TakesItems}
 use Rattle.source_lowering.specs.Objects.{AreVariables}
-use Rattle.source_lowering.specs.Room.{item_room}
+use Rattle.cyc_tree.specs.Room.{item_room}
 use Rattle.lower_checks.specs.Counted.{IsCounted}
 use Rattle.lower_checks.specs.Room.{HasRoom}
 use Rattle.lower_checks.specs.Views.{regions_tree, shape_tree, stored_tree}

@@ -7,7 +7,7 @@ use Rattle.cyc_tree.proofs.StatementForms.{block_tree, if_tree, if_else_tree, wh
 use Rattle.source_meaning.specs.Programs.{world_of}
 use Rattle.source_lowering.specs.Programs.{outward}
 use Rattle.source_lowering.specs.Lowerable.{TakesItems, TakesStatement}
-use Rattle.source_lowering.specs.Room.{item_room, room as room_of, statement_room}
+use Rattle.cyc_tree.specs.Room.{item_room, room as room_of, statement_room}
 use Rattle.lower_checks.specs.Counted.{IsCounted}
 use Rattle.lower_checks.specs.Room.{HasRoom}
 use Rattle.lower_checks.specs.Views.{shape_tree}

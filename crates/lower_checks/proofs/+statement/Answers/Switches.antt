@@ -36,7 +36,7 @@ use Rattle.source_lowering.specs.Programs.{
   outward,
 }
 use Rattle.source_lowering.specs.Lowerable.{AreValues, IsUnionShape, TakesClauses, TakesItems, TakesPlace, TakesStatement}
-use Rattle.source_lowering.specs.Room.{clause_room, item_room, room as room_of, statement_room}
+use Rattle.cyc_tree.specs.Room.{clause_room, item_room, room as room_of, statement_room}
 use Rattle.lower_checks.specs.Counted.{IsCounted}
 use Rattle.lower_checks.specs.Room.{HasRoom}
 use Rattle.lower_checks.specs.Views.{regions_tree, shape_tree}

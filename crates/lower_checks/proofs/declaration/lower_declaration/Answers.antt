@@ -5,7 +5,7 @@ use Rattle.source_meaning.specs.Shapes.{Shape, settled, settled_by, written}
 use Rattle.source_lowering.specs.Lowered.{static_shape}
 use Rattle.source_lowering.specs.Programs.{object_shape}
 use Rattle.source_lowering.specs.Lowerable.{IsObject, IsVariable, TakesDeclaration, TakesInitializer, TakesValue}
-use Rattle.source_lowering.specs.Room.{declaration_room, initializer_room, room}
+use Rattle.cyc_tree.specs.Room.{declaration_room, initializer_room, room}
 use Rattle.source_lowering.proofs.memory.ObjectShapes.{object_named}
 use Rattle.source_lowering.proofs.statements.WrittenTypes.{object_by, object_settled}
 use Rattle.lower_checks.specs.Room.{HasRoom}

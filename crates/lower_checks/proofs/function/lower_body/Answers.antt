@@ -9,7 +9,7 @@ use Rattle.source_lowering.specs.Lowered.{Named}
 use Rattle.source_lowering.specs.Programs.{RegionsAround, no_regions, block_shapes, locals_of, parameter_names, parameters_code, item_values, items_code, end_code}
 use Rattle.source_lowering.specs.Lowerable.{TakesItems}
 use Rattle.source_lowering.specs.Objects.{AreVariables}
-use Rattle.source_lowering.specs.Room.{item_room}
+use Rattle.cyc_tree.specs.Room.{item_room}
 use Rattle.lower_checks.specs.Room.{HasRoom}
 use Rattle.lower_checks.specs.Views.{regions_tree, shape_tree, stored_tree}
 use Rattle.lower_checks.specs.Visible.{names_of}

@@ -7,7 +7,7 @@ use Rattle.source_meaning.specs.Programs.{world_of, routine_of}
 use Rattle.source_lowering.specs.Members.{all_words}
 use Rattle.source_lowering.specs.Programs.{body_code, parameter_names, passed_by, routine_values, temporaries_of}
 use Rattle.source_lowering.specs.Lowerable.{AreObjects}
-use Rattle.source_lowering.specs.Room.{item_room}
+use Rattle.cyc_tree.specs.Room.{item_room}
 use Rattle.source_lowering.proofs.bounds.Rooms.{parameters_have_room, passed_have_room, temporaries_have_room}
 use Rattle.source_lowering.proofs.bounds.WholeObjects.{item_objects}
 use Rattle.lower_checks.specs.Room.{HasRoom}

@@ -5,7 +5,7 @@ use Rattle.core_meaning.specs.Core as core
 use Rattle.source_lowering.specs.Lowered.{expression_values, get_code, place_code, static_shape}
 use Rattle.source_lowering.specs.Programs.{exchange_code, statement_code, statement_values, unique_free}
 use Rattle.source_lowering.specs.Lowerable.{TakesStatement}
-use Rattle.source_lowering.specs.Room.{statement_room}
+use Rattle.cyc_tree.specs.Room.{statement_room}
 use Rattle.lower_checks.specs.Room.{HasRoom}
 use Rattle.lower_checks.specs.Scoped.{names_in, world_in}
 use Rattle.lower_checks.specs.Views.{regions_tree, shape_tree}

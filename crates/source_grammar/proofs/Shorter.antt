@@ -1,14 +1,15 @@
 -- Phrases take tokens: so many fewer are left behind each.
-use Rattle.std.proofs.Common.{◌≡◌, ℕ, suc, ◌≤◌, List, [], ◌∷◌, length, Option, Some, None, ap, inl, inr, ⊎_elim, arith}
+use Rattle.std.proofs.Common.{◌≡◌, ℕ, ◌+◌, suc, ◌≤◌, List, [], ◌∷◌, length, Option, Some, None, ap, inl, inr, ⊎_elim, arith}
 use Rattle.cyc_lexer.specs.declared.token.Keyword.{Keyword}
 use Rattle.cyc_lexer.specs.declared.token.Sign.{Sign}
 use Rattle.cyc_lexer.specs.declared.token.Sign.TheVariants as sign
 use Rattle.cyc_lexer.specs.declared.token.TokenKind.{TokenKind}
 use Rattle.cyc_tree.specs.declared.name.Sign as tree_sign
 use Rattle.cyc_tree.specs.declared.name.Sign.TheVariants as pointer_sign
-use Rattle.cyc_tree.specs.Tree.{Name, RegionName, Heap, Unique, Named, Base, Int, Unsigned, Char, Void, Struct, Union, Handle, Key, Pointer, TypeName}
-use Rattle.source_grammar.specs.Phrases.{Tokens, IsOne, IsKeyword, IsSign, IsName, IsString, IsRegion, Each, Behind, Listed}
+use Rattle.cyc_tree.specs.Tree.{Name, RegionName, Heap, Unique, Named, Base, Int, Unsigned, Char, Void, Struct, Union, Handle, Key, Pointer, TypeName, Case}
+use Rattle.source_grammar.specs.Phrases.{Tokens, IsOne, IsKeyword, IsSign, IsName, IsString, IsRegion, InParentheses, Each, Behind, Listed}
 use Rattle.source_grammar.specs.TypeGrammar.{AreRegions, IsOneRegion, IsBase, AreSigns, MayBeCount, IsPointerSign, MayBeRegion, IsPointer, IsType}
+use Rattle.source_grammar.specs.StatementGrammar.{IsCount, IsNameInParentheses, IsPattern}
 
 -- ---- single tokens
 
@@ -108,3 +109,27 @@ pointer_shorter p from to (a, s, r) = omega (arith, pointer_sign_shorter p.sign 
 pub type_shorter : (t : TypeName) (from to : Tokens) → IsType t from to → length to ≤ length from
 type_shorter t from to (a, starts, base, pointers) =
     omega (arith, base_shorter t.base from a base, each_shorter IsPointer pointer_shorter t.pointers a to pointers)
+
+-- ---- parts of statements
+
+pub count_shorter : (count : ℕ) (from to : Tokens) → IsCount count from to → length to ≤ length from
+count_shorter count from to (a, b, at, suffix, opened, is, closed) = omega (arith, sign_taken opened, one_taken is, sign_taken closed)
+
+pub name_in_parentheses : (n : Name) (from to : Tokens) → IsNameInParentheses n from to → length to ≤ length from
+name_in_parentheses n from to (a, b, opened, is, closed) = omega (arith, sign_taken opened, name_taken is, sign_taken closed)
+
+-- ---- phrases of so many tokens
+
+-- a phrase takes at least so many tokens
+abbrev pub Takes : ℕ → Tokens → Tokens → Type 0
+Takes count from to = count + length to ≤ length from
+
+-- what a phrase takes, it takes in parentheses, and two more
+pub in_parentheses : (count : ℕ) (Is : Tokens → Tokens → Type 0) → ((from to : Tokens) → Is from to → Takes count from to) → (from to : Tokens)
+    → InParentheses Is from to → Takes (2 + count) from to
+in_parentheses count Is takes from to (a, b, opened, is, closed) = omega (arith, sign_taken opened, takes a b is, sign_taken closed)
+
+-- `case {.M = x}` has seven tokens
+pub named_case : (at : ℕ) (member name : Name) (from to : Tokens) → IsPattern at (Case member name) from to → Takes 7 from to
+named_case at member name from to (a, b, c, d, e, f, word, opened, dot, named, gives, is, closed) =
+    omega (arith, one_taken word, sign_taken opened, sign_taken dot, name_taken named, sign_taken gives, name_taken is, sign_taken closed)

@@ -32,11 +32,8 @@ fn lines_of(alloc: Global, labelled: &Labelled, functions: usize) -> Result<Foun
     Ok(found)
 }
 
-/// The homes of each function of a program, and of the one behind them, which there isn't. None where the program has no `main`.
+/// The homes of each function of a program, and of the one behind them, which there isn't.
 fn program_homes(alloc: Global, program: &Program) -> Result<Found, AllocError> {
-    if program.functions.len() <= program.main {
-        return Ok(Found::nothing(alloc, REFUSED));
-    }
     let labelled = select(alloc, program)?;
     let functions = program.functions.len().saturating_add(1);
     lines_of(alloc, &labelled, functions)

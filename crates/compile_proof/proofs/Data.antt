@@ -31,7 +31,7 @@ use Rattle.source_meaning.specs.Programs.{global_shape, heap_spot, world_of}
 use Rattle.rv32_machine.specs.State.{data_base}
 use Rattle.core_meaning.specs.Memory.{Layout, PartShape, Word, Null, shape_in}
 use Rattle.core_meaning.specs.Core.{Local, Datum}
-use Rattle.core_lines.specs.Layouts.{HasPart, IsNothing, IsZero}
+use Rattle.core_meaning.specs.Layouts.{HasPart, IsNothing, IsZero}
 use Rattle.core_lines.specs.Selected.{rounded, nth, bytes_of, offsets_from, end_from, datum_local, datum_locals}
 use Rattle.core_lines.specs.Running.{data_offsets, data_end}
 use Rattle.core_lines.specs.Statics.{IsPlain, IsPlainDatum, ArePlainData}
@@ -47,8 +47,8 @@ use Rattle.source_lowering.proofs.Programs.{global_variable, world_plain}
 use Rattle.source_lowering.proofs.expressions.Names.{IsPlainWorld}
 use Rattle.source_lowering.proofs.regions.HeapValues.{heap_data}
 use Rattle.source_lowering.proofs.Texts.{string_found}
-use Rattle.compile_proof.proofs.Layouts.{object_layout, variable_layout}
-use Rattle.compile_proof.proofs.Texts.{IsTextIn, TextsLie, program_texts}
+use Rattle.selectable_proof.proofs.Layouts.{object_layout, variable_layout}
+use Rattle.selectable_proof.proofs.Texts.{IsTextIn, TextsLie, program_texts}
 
 constant_plain : (os : List ℕ) (w : World) (c : tree.Constant) (s : Shape) → IsIntegerShape s → TakesConstant s c
     → word_in s (constant_word c) ≡ constant_word c → IsPlain os 4 (constant_content w c s)

@@ -16,7 +16,7 @@ use Rattle.source_lowering.specs.Lowerable.{IsLowerable}
 use Rattle.source_lowering.specs.Simulation.{SameEvent, BothVisible, BothCalled, BothReturned, SameEvents, SameOutcome}
 use Rattle.source_lowering.proofs.Programs.{programs_same}
 use Rattle.compile_proof.specs.Promise.{meaning_of, name_in, names_of, DoesAsSource, AreNamedApart, frame_bound_of}
-use Rattle.compile_proof.proofs.Selectable.{selectable}
+use Rattle.selectable_proof.proofs.Selectable.{selectable}
 use Rattle.compile_proof.proofs.Frames.{frames_bounded}
 
 -- ---- one meaning for another

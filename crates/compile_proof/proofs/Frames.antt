@@ -17,7 +17,7 @@ use Rattle.source_lowering.specs.Bounds.{frame_bound}
 use Rattle.source_lowering.proofs.bounds.Bounded.{frame_bounded}
 use Rattle.source_lowering.proofs.Programs.{routines_are}
 use Rattle.compile_proof.specs.Promise.{name_in, names_of, AreNamedApart, bound_in, frame_bound_of}
-use Rattle.compile_proof.proofs.Selectable.{code_of}
+use Rattle.selectable_proof.proofs.Selectable.{code_of}
 use Rattle.type_proof.proofs.invariant.Layouts.{same_text}
 
 -- ---- by names

@@ -4,7 +4,7 @@ use Rattle.rv32_machine.specs.Arrays.{longest_stack}
 use Rattle.std.proofs.Common.{Bool, ◌+◌, ◌≡◌, ℕ, suc, ◌*◌, ◌≤◌, List, [], ◌∷◌, Some, refl, sym, ap, subst, ◌∙◌, arith, append-nil}
 use Rattle.core_meaning.specs.Core.{Datum, Program}
 use Rattle.core_lines.specs.Selected.{frame_bytes, own_end, placed_body, slots_of, offsets_from, datum_locals, program_code}
-use Rattle.core_lines.specs.Selectable.{IsSelectable, HaveLinesIn}
+use Rattle.core_meaning.specs.Selectable.{IsSelectable, HaveLinesIn}
 use Rattle.core_lines.specs.Running.{DoesAsCore}
 use Rattle.std.proofs.lemmas.Option.{none-some}
 use Rattle.core_lines.specs.Homes.{homes_in}

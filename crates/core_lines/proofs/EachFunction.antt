@@ -12,7 +12,7 @@ use Rattle.core_lines.specs.Operands.{prologue_code}
 use Rattle.core_lines.specs.Held.{held_behind_all}
 use Rattle.core_lines.specs.Saved.{none_of, taken_in, live_at_start, saves_at}
 use Rattle.core_lines.specs.Selected.{frame_bytes, around, statements_code}
-use Rattle.core_lines.specs.Selectable.{IsSelectableIn}
+use Rattle.core_meaning.specs.Selectable.{IsSelectableIn}
 use Rattle.core_lines.specs.Homes.{saved_by, saved_slot}
 use Rattle.core_lines.specs.declared.line.Line.{Line}
 use Rattle.core_lines.specs.declared.line.Line.TheVariants.{Label}

@@ -14,7 +14,7 @@ use Rattle.core_lines.specs.Saved.{cleared, all_flagged, results_of, results_in,
 use Rattle.core_lines.specs.Selected.{offsets_from, end_from, highest, highest_of, labels_in, labels_of, statement_code, statements_code}
 use Rattle.core_lines.specs.Selected.{nth_block, shrunk, shrunk_in, shrunk_of, homes_here, homes_after, names_after, names_after_all}
 use Rattle.core_lines.specs.Homes.{is_home, flag_at}
-use Rattle.core_lines.specs.Selectable.{HasLinesIn, HaveLinesIn}
+use Rattle.core_meaning.specs.Selectable.{HasLinesIn, HaveLinesIn}
 use Rattle.core_lines.proofs.memory.Relations.{Inside, EndsThere, home_of, active_of, World, IsInOrder, Waiting, Place, keeping}
 use Rattle.core_lines.proofs.frames.Bodies.{with_config, goes_any, BodyGoes, call_goes, return_goes}
 use Rattle.core_lines.proofs.Flags.{length_cleared, length_all, more_flagged, flags_behind, follows_flags}

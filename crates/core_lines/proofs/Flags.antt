@@ -5,7 +5,7 @@ use Rattle.std.proofs.Math.Seq.{drop-append_seam}
 use Rattle.std.proofs.lemmas.Bool.{eqb-true, eqb-false, ne_eqb, or_from, or_parts}
 use Rattle.core_lines.specs.Homes.{is_among, flag_at}
 use Rattle.core_lines.specs.Saved.{no_flags, cleared, flagged, all_flagged, either_flagged, either_way, flags_of}
-use Rattle.core_lines.specs.Selectable.{AreBelow}
+use Rattle.core_meaning.specs.Selectable.{AreBelow}
 use Rattle.core_lines.proofs.memory.Relations.{Covers, Follows, AreFlagged}
 
 -- ---- how many there are

@@ -50,7 +50,7 @@ use Rattle.core_meaning.specs.Core.{
 use Rattle.core_lines.specs.Held.{Source, Holding, source_of, without_register, held_behind, held_behind_all}
 use Rattle.core_lines.specs.LocalPlaces.{homes_here, homes_after, names_after, names_after_all}
 use Rattle.core_lines.specs.Loaded.{if_unknown, unknown_in, loads_of_operation, loads_of_values, loads_in, loads_of}
-use Rattle.core_lines.specs.Selectable.{Scope, AreBelow, HasCode, HasLinesIn, HaveLinesIn, scope_within}
+use Rattle.core_meaning.specs.Selectable.{Scope, AreBelow, HasCode, HasLinesIn, HaveLinesIn, scope_within}
 
 joined_below : (most : ℕ) (ts us : List ℕ) → AreBelow most ts → AreBelow most us → AreBelow most (ts ++ us)
 joined_below most [] us first second = second

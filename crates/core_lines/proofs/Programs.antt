@@ -39,7 +39,7 @@ use Rattle.core_lines.specs.declared.line.Line.TheVariants.{Plain, CallTo}
 use Rattle.core_lines.specs.Machines.{Machine}
 use Rattle.core_lines.specs.Lines.{code_length}
 use Rattle.core_lines.specs.Selected.{frame_bytes, too_many, slots_of, own_end, placed_body, datum_locals, function_code, functions_code, program_code, labels_within}
-use Rattle.core_lines.specs.Selectable.{AreLayouts, HaveLayouts, IsSelectable}
+use Rattle.core_meaning.specs.Selectable.{AreLayouts, HaveLayouts, IsSelectable}
 use Rattle.core_lines.specs.Running.{AreBounded, Begins, DoesAsCore, data_offsets, data_end}
 use Rattle.core_lines.proofs.memory.Relations.{World, IsInOrder, Has}
 use Rattle.core_lines.proofs.memory.Access.{behind, first_lines, other_lines}

@@ -6,7 +6,7 @@ use Rattle.core_lines.specs.Held.{Holding, raises_only, held_behind_all}
 use Rattle.core_lines.specs.Loaded.{unknown_in, loads_in, loads_of}
 use Rattle.core_lines.specs.Saved.{all_flagged, either_flagged, either_way, live_in, live_of, behind_test, saves_in, saves_of}
 use Rattle.core_lines.specs.Selected.{names_after_all}
-use Rattle.core_lines.specs.Selectable.{AreBelow}
+use Rattle.core_meaning.specs.Selectable.{AreBelow}
 use Rattle.core_lines.proofs.memory.Relations.{World, Waiting, Covers, keeping, AreFlagged}
 use Rattle.core_lines.proofs.Flags.{length_all, length_either, length_way, more_flagged, all_are_flagged, covers_then, way_first, way_second}
 use Rattle.core_lines.proofs.Live.{length_of, raising_of}

@@ -13,9 +13,7 @@ pub mod Selected
 pub mod Machines
 pub mod Homes
 pub mod Lies
-pub mod Layouts
 pub mod Statics
 pub mod Running
-pub mod Selectable
 pub mod Promise
 pub mod Laws

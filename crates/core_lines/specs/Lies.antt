@@ -30,6 +30,7 @@ use Rattle.core_meaning.specs.Memory.{
   Memory,
   same_spot,
 }
+use Rattle.core_meaning.specs.Layouts.{Apart}
 use Rattle.core_meaning.specs.Operations.{too_far}
 use Rattle.core_lines.specs.Machines.{Store}
 use Rattle.core_lines.specs.Homes.{is_home}
@@ -127,9 +128,6 @@ Lies m fs mem (Slot f k) at width v = SlotsLie fs f k at width v
 Lies m fs mem (Cell s j) at width v = PartLies m mem s j at width v
 
 -- ---- where names may stand
-
-abbrev pub Apart : ℕ → ℕ → ℕ → ℕ → Type 0
-Apart at width at' width' = (at + width ≤ at') ⊎ (at' + width' ≤ at)
 
 abbrev pub Among : {A : Type 0} → A → List A → Type 0
 Among x [] = ⊥

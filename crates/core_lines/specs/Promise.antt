@@ -5,7 +5,7 @@ use Rattle.core_meaning.specs.Bounds.{core_code}
 use Rattle.core_lines.specs.declared.line.Line.{Line}
 use Rattle.core_lines.specs.Lines.{code_length, labels_placed, AreOnce}
 use Rattle.core_lines.specs.Relaxed.{shortened}
-use Rattle.core_lines.specs.Selectable.{IsSelectable}
+use Rattle.core_meaning.specs.Selectable.{IsSelectable}
 use Rattle.core_lines.specs.Running.{DoesAsCore}
 
 -- No label stands twice in the lines. Their words, where a jump on zero counts as two, are some, and take at most the bytes that the program's operations count

@@ -1,9 +1,9 @@
 -- The bytes of a program's data: globals and strings whose parts are words or bytes, one behind the other. A pointer to one of them is its address.
-use Rattle.std.specs.Prelude.{◌≡◌, ℕ, zero, suc, ◌+◌, ◌-◌, ◌*◌, ◌/◌, ◌%◌, ◌^◌, ◌<◌, ◌⊎◌, List, [], ◌∷◌, ◌++◌, nat_eq, if◌then◌else◌, length}
+use Rattle.std.specs.Prelude.{◌≡◌, ℕ, zero, suc, ◌+◌, ◌-◌, ◌*◌, ◌/◌, ◌%◌, ◌^◌, ◌<◌, List, [], ◌∷◌, ◌++◌, nat_eq, if◌then◌else◌, length}
 use Rattle.rv32_machine.specs.State.{data_base}
 use Rattle.core_meaning.specs.Memory.{Content, Blank, Word, Null, Pointer, Birth, Born, Spot, PartShape}
 use Rattle.core_meaning.specs.Core.{Datum}
-use Rattle.core_lines.specs.Layouts.{HasPart}
+use Rattle.core_meaning.specs.Layouts.{HasPart, AreCellsJoined, cells_end}
 use Rattle.core_lines.specs.Selected.{rounded, nth}
 
 -- a number's byte, or its four bytes, the lowest first
@@ -65,24 +65,6 @@ IsPlain offsets width Blank = Unit {0}
 IsPlain offsets width Null = Unit {0}
 IsPlain offsets width (Pointer s b) = IsPlaced offsets width s b
 IsPlain offsets width (Birth d) = ⊥
-
--- Bytes and words that lie one behind the other, the first at an offset; where the last one ends.
-abbrev pub AreJoined : ℕ → List PartShape → Type 0
-AreJoined at [] = Unit {0}
-AreJoined at (s ∷ ss) = (s.offset ≡ at) × ((s.width ≡ 1) ⊎ (s.width ≡ 4)) × AreJoined (at + s.width) ss
-
-abbrev pub parts_end : ℕ → List PartShape → ℕ
-parts_end at [] = at
-parts_end at (s ∷ ss) = parts_end (at + s.width) ss
-
--- so the parts of all cells
-abbrev pub AreCellsJoined : ℕ → List (List PartShape) → Type 0
-AreCellsJoined at [] = Unit {0}
-AreCellsJoined at (c ∷ cs) = AreJoined at c × AreCellsJoined (parts_end at c) cs
-
-abbrev pub cells_end : ℕ → List (List PartShape) → ℕ
-cells_end at [] = at
-cells_end at (c ∷ cs) = cells_end (parts_end at c) cs
 
 -- an object whose parts are all its bytes, in their order, and hold numbers that fit, nothing, or pointers into the data
 pub record IsPlainDatum (offsets : List ℕ) (d : Datum) : Type 0 where

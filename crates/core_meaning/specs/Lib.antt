@@ -5,3 +5,5 @@ pub mod Words
 pub mod Steps
 pub mod Operations
 pub mod Meaning
+pub mod Layouts
+pub mod Selectable

@@ -1,5 +1,7 @@
 // Functions, globals and programs.
 
+ghost use Rattle.std.specs.Prelude.{◌<◌, length};
+
 use crate::layout::{Layout, Local};
 use crate::statement::Statement;
 use std::rc::Rc;
@@ -46,8 +48,9 @@ pub enum Datum {
 pub struct Program {
     /// Its functions; a call names one by its number in this list.
     pub functions: Vec<Function>,
-    /// The number of the function that is run.
+    /// The number of the function that is run, which is one of these.
     pub main: usize,
     /// Its globals, and behind them its strings; `DataAddress` names one by its number in this list.
     pub globals: Vec<Datum>,
+    ghost main_there: { main < length functions.items },
 }

@@ -8,6 +8,7 @@ mod Initials
 mod Items
 mod Linking
 mod Lists
+mod Mains
 mod Making
 mod Naming
 mod Nothing

@@ -12,6 +12,7 @@ use Rattle.source_lowering.specs.Bounds.{FramesFit, core_bound, frame_bound}
 use Rattle.source_lowering.proofs.Programs.{programs_same}
 use Rattle.source_lowering.proofs.bounds.Bounded.{code_bounded, program_frames_bounded}
 use Rattle.token_proof.proofs.ProgramSizes.{tokens_pay}
+use Rattle.selectable_proof.proofs.Selectable.{selectable}
 use Rattle.accepted_programs.specs.Accepted.{IsAccepted}
 use Rattle.lower_checks.specs.Promise.{IsLoweringOf}
 use Rattle.accepted_proof.proofs.Joined.{lowerable}
@@ -37,6 +38,7 @@ promised p accepted few =
           let bounded = code_bounded p takes in
           let paid = tokens_pay p tokens spelled in
           omega (arith, bounded, paid);
+      selectable = selectable p takes;
     }
 
 -- whichever way the Core is written

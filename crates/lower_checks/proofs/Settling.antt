@@ -5,7 +5,6 @@ use Rattle.std.proofs.Common.{
   ◌<◌,
   ◌+◌,
   ℕ,
-  Bool,
   Option,
   None,
   Some,

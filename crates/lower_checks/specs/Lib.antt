@@ -1,6 +1,7 @@
 pub mod Cells
 pub mod Counted
 pub mod Firsts
+pub mod Mains
 pub mod Marks
 pub mod Numbers
 pub mod Ordering

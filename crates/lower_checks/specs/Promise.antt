@@ -8,6 +8,7 @@ use Rattle.source_meaning.specs.Steps.{Routine}
 use Rattle.source_meaning.specs.Programs.{source, world_of}
 use Rattle.core_meaning.specs.Core as core
 use Rattle.core_meaning.specs.Meaning as meaning
+use Rattle.core_meaning.specs.Selectable.{IsSelectable}
 use Rattle.source_lowering.specs.Agreeing.{SameOutcome}
 use Rattle.source_lowering.specs.Bounds.{core_bound, core_code, frame_bound, regions_left}
 
@@ -24,3 +25,5 @@ pub record IsLoweringOf (p : Program) (c : core.Program) : Type 0 where
       → core_bound g ≤ frame_bound (world_of p) f
   -- its code is within 4,096 bytes and 512 for each token, whatever tokens spell the program, and for each region that `return`, `break` or `continue` leaves
   pub code : (tokens : Tokens) → IsProgram p tokens → core_code c ≤ 4096 + 512 * (length tokens + regions_left (world_of p).functions)
+  -- its numbers name temporaries, locals, unnamed values and data that there are, and the parts of its objects lie apart: it can be selected
+  pub selectable : IsSelectable c

@@ -1,5 +1,5 @@
 -- What contracts see of the shapes and names that the code has.
-use Rattle.std.specs.Prelude.{Bool, List, false, map, reverse}
+use Rattle.std.specs.Prelude.{Bool, List, map, reverse}
 use Rattle.cyc_tree.specs.View.{base_tree, pointer_tree}
 use Rattle.source_meaning.specs.Shapes.{
   Shape,

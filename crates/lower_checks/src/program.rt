@@ -8,6 +8,7 @@ ghost use Rattle.source_meaning.specs.Programs.{world_of, functions_of, global_s
 ghost use Rattle.source_meaning.specs.Strings.{program_strings};
 ghost use Rattle.source_lowering.specs.Programs.{function_code, global_datum, data_of, program_code, string_datum};
 ghost use Rattle.source_lowering.specs.Lowerable.{HaveFewMembers, IsLowerable, IsObjectType, TakesGlobal, TakesProgram};
+ghost use Rattle.lower_checks.specs.Mains.{HasMain};
 ghost use Rattle.lower_checks.specs.Promise.{IsLoweringOf};
 ghost use Rattle.lower_checks.specs.Refusals.{NeverRefused};
 ghost use Rattle.lower_checks.specs.Roomy.{AreRoomy};
@@ -87,9 +88,11 @@ fn lower_data(alloc: Global, program: &Table<'_>) -> Result<Vec<Datum>, LowerFau
 }
 
 /// The Core of a program whose names are in tables.
+#[tactic(auto, using(crate::proofs::Mains::main_there))]
 fn lower_known(alloc: Global, program: &Table<'_>) -> Result<Program, LowerFault>
     requires room { AreRoomy program.now }
     requires taken { TakesProgram (world_of program.now) program.now }
+    requires main { HasMain program.now }
     ensures code { IfOk result (λ core. program_tree core ≡ program_code program.now) }
     ensures memory { NeverRefused result }
 {
@@ -107,6 +110,7 @@ fn lower_known(alloc: Global, program: &Table<'_>) -> Result<Program, LowerFault
 fn lower_tree(alloc: Global, program: &Source) -> Result<Program, LowerFault>
     requires room { AreRoomy program.now }
     requires taken { IsLowerable program.now }
+    requires main { HasMain program.now }
     ensures code { IfOk result (λ core. program_tree core ≡ program_code program.now) }
     ensures memory { NeverRefused result }
 {

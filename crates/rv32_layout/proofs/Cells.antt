@@ -6,35 +6,9 @@ use Rattle.cyc_core.specs.declared.operation.Cell.{Cell}
 use Rattle.cyc_core.specs.declared.operation.Cell.TheVariants as cell
 use Rattle.cyc_core.specs.declared.layout.CellLayout.{CellLayout}
 use Rattle.cyc_core.specs.Trees.{cell_bytes, made_parts, cell_parts, padding_parts, part_first}
-use Rattle.core_lines.specs.Layouts.{IsNothing}
-use Rattle.core_lines.specs.Statics.{number_bytes, number_in, parts_bytes, cells_bytes, zeros, parts_end, cells_end}
+use Rattle.core_meaning.specs.Layouts.{IsNothing}
+use Rattle.core_lines.specs.Statics.{number_bytes, number_in, parts_bytes, cells_bytes, zeros}
 use Rattle.rv32_layout.specs.Sizes.{cell_size, cells_size}
-
--- ---- where cells end that lie one behind the other
-
-padding_end : (at at' n : ℕ) → parts_end at (padding_parts at' n) ≡ at + n
-padding_end at at' zero = omega arith
-padding_end at at' (suc n) = let rest = padding_end (at + 1) (at' + 1) n in omega (arith, rest)
-
-made_end : (c : Cell) (at at' : ℕ) (others : List PartShape) → parts_end at (made_parts c at' ++ others) ≡ parts_end (at + cell_bytes c) others
-made_end cell.Byte at at' others = refl
-made_end cell.Word at at' others = refl
-made_end cell.Pointer at at' others = refl
-made_end cell.Fat at at' others = let end : at + 4 + 4 + 4 ≡ at + 12 = omega arith in ap (λ k. parts_end k others) end
-made_end cell.Handle at at' others = refl
-made_end cell.Tagged at at' others = let end : at + 4 + 4 ≡ at + 8 = omega arith in ap (λ k. parts_end k others) end
-made_end cell.TaggedFat at at' others = let end : at + 4 + 4 + 4 + 4 ≡ at + 16 = omega arith in ap (λ k. parts_end k others) end
-
-cell_end : (c : CellLayout) (at : ℕ) → parts_end at (cell_parts c) ≡ at + cell_size c
-cell_end c at =
-    let w = cell_bytes c.cell in
-    let made = made_end c.cell at c.offset (padding_parts (c.offset + w) c.padding) in
-    let rest = padding_end (at + w) (c.offset + w) c.padding in
-    omega (arith, made, rest)
-
-pub end_is : (at : ℕ) (cs : List CellLayout) → cells_end at (map cell_parts cs) ≡ at + cells_size cs
-end_is at [] = omega arith
-end_is at (c ∷ cs) = let here = cell_end c at in let rest = end_is (parts_end at (cell_parts c)) cs in omega (arith, here, rest)
 
 -- ---- what they begin as
 

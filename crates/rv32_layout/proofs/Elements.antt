@@ -6,7 +6,7 @@ use Rattle.cyc_image.specs.Format.{data_limit}
 use Rattle.core_meaning.specs.Memory.{Content}
 use Rattle.cyc_core.specs.declared.layout.CellLayout.{CellLayout}
 use Rattle.cyc_core.specs.Trees.{cell_parts}
-use Rattle.core_lines.specs.Layouts.{IsNothing}
+use Rattle.core_meaning.specs.Layouts.{IsNothing}
 use Rattle.core_lines.specs.Statics.{element_bytes, zeros}
 use Rattle.rv32_layout.specs.Sizes.{cells_size}
 use Rattle.rv32_layout.proofs.Cells.{zeros_joined, cells_are_zeros}

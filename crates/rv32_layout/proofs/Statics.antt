@@ -1,7 +1,7 @@
 -- The bytes of a global, and of those behind it.
 use Rattle.std.specs.Prelude.{length, slice_get, unwrap_or}
 use Rattle.std.proofs.Common.{◌≡◌, ℕ, suc, ◌+◌, ◌-◌, ◌*◌, ◌%◌, ◌<◌, ◌≤◌, List, [], ◌∷◌, ◌++◌}
-use Rattle.std.proofs.Common.{map, refl, sym, ap, subst, ◌∙◌, arith, append_assoc, length-append}
+use Rattle.std.proofs.Common.{map, refl, sym, ap, ◌∙◌, arith, append_assoc, length-append}
 use Rattle.core_meaning.specs.Memory.{Content, Word, shape_in}
 use Rattle.core_meaning.specs.Core as core
 use Rattle.cyc_core.specs.declared.layout.Layout.{Layout}
@@ -9,8 +9,8 @@ use Rattle.cyc_core.specs.declared.program.Datum.{Datum}
 use Rattle.cyc_core.specs.declared.program.Datum.TheVariants as datum
 use Rattle.cyc_core.specs.Trees.{layout_tree, part_first, datum_tree}
 use Rattle.core_lines.specs.Selected.{rounded}
-use Rattle.core_lines.specs.Layouts.{IsNothing}
-use Rattle.core_lines.specs.Statics.{zeros, element_bytes, datum_bytes, data_bytes, IsPlainDatum, ArePlainData}
+use Rattle.core_meaning.specs.Layouts.{IsNothing}
+use Rattle.core_lines.specs.Statics.{zeros, element_bytes, datum_bytes, data_bytes}
 use Rattle.core_lines.proofs.memory.DataBytes.{zeros_length}
 use Rattle.rv32_layout.specs.Sizes.{cells_size, datum_size}
 use Rattle.rv32_layout.proofs.Cells.{begins_with_nothing}
@@ -65,6 +65,15 @@ pub ends_within : (os : List ℕ) (globals : List Datum) (d : Datum) (others : L
 ends_within os globals d others at whole here so_far =
     let rest = data_of_rest os globals d others at (rounded at + datum_size d) whole here refl so_far in omega (arith, rest)
 
+-- so it is as long as all of them at most, where those before it are written
+pub size_within : (os : List ℕ) (globals : List Datum) (d : Datum) (others : List Datum) (written : List ℕ) (at : ℕ) (whole : List ℕ) → globals ≡ d ∷ others
+    → at ≡ length written → written ++ data_bytes os at (map datum_tree globals) ≡ whole → datum_size d ≤ length whole
+size_within os globals d others written at whole here is so_far =
+    let long = length-append written (data_bytes os at (map datum_tree globals)) in
+    let all : at + length (data_bytes os at (map datum_tree globals)) ≡ length whole = omega (arith, long, is, ap length so_far) in
+    let within = ends_within os globals d others at (length whole) here all in
+    omega (arith, within)
+
 -- ---- what they are
 
 -- its bytes are appended, and those of the others would follow
@@ -93,9 +102,3 @@ pub zero_joined : (old new : List ℕ) (k n : ℕ) → k < n → new ≡ old ++ 
 zero_joined old new k n less is =
     let more : suc (n - (k + 1)) ≡ n - k = omega (arith, less) in
     ap (λ x. x ++ zeros (n - (k + 1))) is ∙ append_assoc old (0 ∷ []) (zeros (n - (k + 1))) ∙ ap (λ m. old ++ zeros m) more
-
--- ---- where they are plain, the first one is, and those behind it
-
-pub first_plain : (os : List ℕ) (globals : List Datum) (d : Datum) (others : List Datum) → globals ≡ d ∷ others → ArePlainData os (map datum_tree globals)
-    → IsPlainDatum os (datum_tree d) × ArePlainData os (map datum_tree others)
-first_plain os globals d others here plain = subst (λ gs. ArePlainData os (map datum_tree gs)) here plain

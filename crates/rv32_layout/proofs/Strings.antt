@@ -1,17 +1,17 @@
 -- The bytes of strings, and of pointers into the data.
-use Rattle.std.specs.Prelude.{length, slice_get, slice_index_or, unwrap_or}
+use Rattle.std.specs.Prelude.{length, slice_get, unwrap_or}
 use Rattle.std.specs.declared.vec.Vec.{Vec}
 use Rattle.std.specs.declared.alloc.Global.{Global}
 use Rattle.std.proofs.Common.{◌≡◌, ℕ, zero, suc, ◌+◌, ◌/◌, ◌%◌, ◌^◌, ◌<◌, List, [], ◌∷◌, ◌++◌, refl, sym, ap, ◌∙◌, arith, append_assoc}
 use Rattle.cyc_image.specs.Format.{u32_bytes}
 use Rattle.rv32_machine.specs.State.{data_base}
-use Rattle.core_meaning.specs.Memory.{Content, Word, Null}
+use Rattle.core_meaning.specs.Memory.{Content, Word}
 use Rattle.cyc_core.specs.declared.operation.Cell.TheVariants as cell
 use Rattle.cyc_core.specs.declared.program.Datum.TheVariants as datum
-use Rattle.cyc_core.specs.Trees.{part_layout, first_element, datum_tree}
+use Rattle.cyc_core.specs.Trees.{part_layout, datum_tree}
 use Rattle.core_lines.specs.Selected.{nth}
-use Rattle.core_lines.specs.Statics.{zeros, element_bytes, datum_bytes, IsPlain, IsPlainDatum}
-use Rattle.rv32_layout.specs.Addresses.{AreChars, IsAddress}
+use Rattle.core_lines.specs.Statics.{zeros, element_bytes, datum_bytes}
+use Rattle.rv32_layout.specs.Chars.{AreChars}
 
 -- ---- strings
 
@@ -45,50 +45,29 @@ text_bytes os text small =
 
 -- ---- pointers
 
-word_bytes_same : (x y : ℕ) → x ≡ y + 0 → x < 2 ^ 32
-    → u32_bytes x ≡ (y + 0) % 2 ^ 8 ∷ (y + 0) / 2 ^ 8 % 2 ^ 8 ∷ (y + 0) / 2 ^ 16 % 2 ^ 8 ∷ (y + 0) / 2 ^ 24 % 2 ^ 8 ∷ []
-word_bytes_same x y e few =
-    let last : x / 2 ^ 24 ≡ x / 2 ^ 24 % 2 ^ 8 = omega (arith, few) in
-    ap (λ l. x % 2 ^ 8 ∷ x / 2 ^ 8 % 2 ^ 8 ∷ x / 2 ^ 16 % 2 ^ 8 ∷ l ∷ []) last
-    ∙ ap (λ n. n % 2 ^ 8 ∷ n / 2 ^ 8 % 2 ^ 8 ∷ n / 2 ^ 16 % 2 ^ 8 ∷ n / 2 ^ 24 % 2 ^ 8 ∷ []) e
+-- a number's lowest 32 bits are its word
+word_bytes_same : (x y : ℕ) → x ≡ y % 2 ^ 32 → u32_bytes x ≡ (y + 0) % 2 ^ 8 ∷ (y + 0) / 2 ^ 8 % 2 ^ 8 ∷ (y + 0) / 2 ^ 16 % 2 ^ 8 ∷ (y + 0) / 2 ^ 24 % 2 ^ 8 ∷ []
+word_bytes_same x y is =
+    let first : x % 2 ^ 8 ≡ (y + 0) % 2 ^ 8 = omega (arith, is) in
+    let second : x / 2 ^ 8 % 2 ^ 8 ≡ (y + 0) / 2 ^ 8 % 2 ^ 8 = omega (arith, is) in
+    let third : x / 2 ^ 16 % 2 ^ 8 ≡ (y + 0) / 2 ^ 16 % 2 ^ 8 = omega (arith, is) in
+    let fourth : x / 2 ^ 24 ≡ (y + 0) / 2 ^ 24 % 2 ^ 8 = omega (arith, is) in
+    cc (first, second, third, fourth)
 
-module _ (os : List ℕ) (object address : ℕ) (a : IsAddress os object address) where
-  is_behind : address ≡ data_base + nth os object + 0
-  is_behind = let is = a.is in omega (arith, is)
-
+module _ (os : List ℕ) (object address : ℕ) (is : address ≡ (data_base + nth os object) % 2 ^ 32) where
   pub address_bytes : datum_bytes os (datum_tree (datum.Address object)) ≡ u32_bytes address
-  address_bytes = sym (word_bytes_same address (data_base + nth os object) is_behind a.small)
+  address_bytes = sym (word_bytes_same address (data_base + nth os object) is)
 
   pub bounds_bytes : (count : ℕ) → count < 2 ^ 32 → datum_bytes os (datum_tree (datum.Bounds object count)) ≡ u32_bytes address ++ (u32_bytes count ++ zeros 4)
   bounds_bytes count few =
       let last : count / 2 ^ 24 % 2 ^ 8 ≡ count / 2 ^ 24 = omega (arith, few) in
       ap (λ xs. xs ++ (count % 2 ^ 8 ∷ count / 2 ^ 8 % 2 ^ 8 ∷ count / 2 ^ 16 % 2 ^ 8 ∷ count / 2 ^ 24 % 2 ^ 8 ∷ zeros 4))
-      (sym (word_bytes_same address (data_base + nth os object) is_behind a.small))
+      (sym (word_bytes_same address (data_base + nth os object) is))
       ∙ ap (λ l. u32_bytes address ++ (count % 2 ^ 8 ∷ count / 2 ^ 8 % 2 ^ 8 ∷ count / 2 ^ 16 % 2 ^ 8 ∷ l ∷ zeros 4)) last
 
   -- the same, appended
   pub bounds_joined : (count : ℕ) (old first second whole : List ℕ) → count < 2 ^ 32 → first ≡ old ++ u32_bytes address → second ≡ first ++ u32_bytes count
       → whole ≡ second ++ zeros 4 → whole ≡ old ++ datum_bytes os (datum_tree (datum.Bounds object count))
-  bounds_joined count old first second whole few one two is =
-      is ∙ ap (λ xs. xs ++ zeros 4) two ∙ append_assoc first (u32_bytes count) (zeros 4) ∙ ap (λ xs. xs ++ (u32_bytes count ++ zeros 4)) one
+  bounds_joined count old first second whole few one two is_whole =
+      is_whole ∙ ap (λ xs. xs ++ zeros 4) two ∙ append_assoc first (u32_bytes count) (zeros 4) ∙ ap (λ xs. xs ++ (u32_bytes count ++ zeros 4)) one
       ∙ append_assoc old (u32_bytes address) (u32_bytes count ++ zeros 4) ∙ ap (λ xs. old ++ xs) (sym (bounds_bytes count few))
-
--- where a pointer is plain, the object that it names has an address
-index_is : (os : List ℕ) (k : ℕ) → slice_index_or os k 0 ≡ nth os k
-index_is [] zero = refl
-index_is [] (suc k) = refl
-index_is (x ∷ os) zero = refl
-index_is (x ∷ os) (suc k) = index_is os k
-
-module _ (os : List ℕ) (object : ℕ) where
-  pub address_small : IsPlain os 4 (first_element object) → data_base + slice_index_or os object 0 < 2 ^ 32
-  address_small p = let is = index_is os object in let small = p.small in omega (arith, is, small)
-
-  pub address_is : IsPlain os 4 (first_element object) → IsAddress os object (data_base + slice_index_or os object 0)
-  address_is p = record { has = p.has; is = ap (λ offset. data_base + offset) (index_is os object); small = address_small p }
-
-  pub address_named : IsPlainDatum os (datum_tree (datum.Address object)) → IsPlain os 4 (first_element object)
-  address_named d = d.plain 0 0 (record { offset = 0; width = 4; first = Null }) (record { is = refl })
-
-  pub bounds_named : (count : ℕ) → IsPlainDatum os (datum_tree (datum.Bounds object count)) → IsPlain os 4 (first_element object)
-  bounds_named count d = d.plain 0 0 (record { offset = 0; width = 4; first = Null }) (record { is = refl })

@@ -2,4 +2,4 @@ pub mod Placed
 pub mod Placing
 pub mod Holding
 pub mod Sizes
-pub mod Addresses
+pub mod Chars

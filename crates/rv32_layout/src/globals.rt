@@ -1,13 +1,14 @@
 // The bytes of globals and strings.
 
-ghost use Rattle.std.specs.Prelude.{◌≡◌, ◌-◌, ◌<◌, ◌≤◌, ◌↔◌, ◌++◌, ◌∷◌, [], ◌+◌, ◌*◌, ◌^◌, Err, IfOk, IfSome, IfNone, OnOk, IsTrue, length, map, vec_len};
+ghost use Rattle.std.specs.Prelude.{◌≡◌, ◌-◌, ◌<◌, ◌≤◌, ◌↔◌, ◌++◌, ◌∷◌, [], ◌+◌, ◌*◌, ◌%◌, ◌^◌, Err, IfOk, IfSome, IfNone, OnOk, IsTrue, length, map, vec_len};
 ghost use Rattle.cyc_image.specs.Format.{data_limit};
-ghost use Rattle.cyc_core.specs.Trees.{datum_tree, first_element, program_tree};
+ghost use Rattle.rv32_machine.specs.State.{data_base};
+ghost use Rattle.cyc_core.specs.Trees.{datum_tree, program_tree};
 ghost use Rattle.cyc_core.specs.declared.program.Datum.TheVariants as datum;
-ghost use Rattle.core_lines.specs.Selected.{rounded};
+ghost use Rattle.core_lines.specs.Selected.{rounded, nth};
 ghost use Rattle.core_lines.specs.Running.{data_offsets};
-ghost use Rattle.core_lines.specs.Statics.{zeros, datum_bytes, data_bytes, IsPlain, IsPlainDatum, ArePlainData};
-ghost use Rattle.rv32_layout.specs.Addresses.{AreChars, IsAddress};
+ghost use Rattle.core_lines.specs.Statics.{zeros, datum_bytes, data_bytes};
+ghost use Rattle.rv32_layout.specs.Chars.{AreChars};
 ghost use Rattle.rv32_layout.specs.Sizes.{cell_size, cells_size, datum_size};
 
 use crate::fault::LayoutFault;
@@ -116,11 +117,15 @@ fn put_zeros(bytes: &mut Vec<u8>, count: usize) -> Result<(), AllocError>
     Ok(())
 }
 
-/// Appends a zero for each byte of so many elements of a layout.
+/// Appends a zero for each byte of so many elements of a layout, which are within the limit.
 fn put_whole(bytes: &mut Vec<u8>, layout: &Layout, count: u32) -> Result<(), AllocError>
-    ensures { OnOk result (bytes.new.items ≡ bytes.old.items ++ zeros (count * layout.now.bytes)) }
+    requires { count * cells_size layout.now.cells.items ≤ data_limit }
+    ensures { OnOk result (bytes.new.items ≡ bytes.old.items ++ zeros (count * cells_size layout.now.cells.items)) }
 {
-    put_zeros(bytes, count as usize * layout.bytes as usize)
+    match elements_end(0, layout, count) {
+        Some(size) => put_zeros(bytes, size),
+        None => unreachable!(),
+    }
 }
 
 /// Appends a string's bytes, and a 0 behind them.
@@ -135,18 +140,27 @@ fn put_text(bytes: &mut Vec<u8>, text: &[u8]) -> Result<(), AllocError>
     Ok(())
 }
 
-/// The address of the global or string of a number, to which a pointer is plain.
-fn address(offsets: &[u64], object: usize) -> u32
-    requires { IsPlain offsets.now 4 (first_element object) }
-    ensures { IsAddress offsets.now object result }
+/// Where the global or string of a number begins, or 0 where there is none.
+#[tactic(auto, using(rv32_select::proofs::Numbers::nth_some, rv32_select::proofs::Numbers::nth_none))]
+fn offset_of(offsets: &[u64], object: usize) -> u64
+    ensures { result ≡ nth offsets.now object }
 {
-    (DATA_BASE + offsets[object]) as u32
+    match offsets.get(object) {
+        Some(offset) => *offset,
+        None => 0,
+    }
+}
+
+/// The address of the global or string of a number, as a word.
+fn address(offsets: &[u64], object: usize) -> u32
+    ensures { result ≡ (data_base + nth offsets.now object) % 2 ^ 32 }
+{
+    (DATA_BASE.wrapping_add(offset_of(offsets, object)) % 0x1_0000_0000) as u32
 }
 
 /// Appends a pointer to the global or string of a number.
 #[tactic(auto, using(crate::proofs::Strings::address_bytes))]
 fn put_address(bytes: &mut Vec<u8>, offsets: &[u64], object: usize) -> Result<(), AllocError>
-    requires { IsPlain offsets.now 4 (first_element object) }
     ensures { OnOk result (bytes.new.items ≡ bytes.old.items ++ datum_bytes offsets.now (datum_tree (datum.Address object))) }
 {
     bytes.extend_from_slice(&word_bytes(address(offsets, object)))?;
@@ -160,7 +174,6 @@ fn put_bounds(
     object: usize,
     count: u32,
 ) -> Result<(), AllocError>
-    requires { IsPlain offsets.now 4 (first_element object) }
     ensures { OnOk result (bytes.new.items ≡ bytes.old.items ++ datum_bytes offsets.now (datum_tree (datum.Bounds object count))) }
 {
     bytes.extend_from_slice(&word_bytes(address(offsets, object)))?;
@@ -169,9 +182,9 @@ fn put_bounds(
     Ok(())
 }
 
-/// Appends what a global or a string holds at the start: numbers that fit, addresses of objects, or zeros.
+/// Appends what a global or a string within the limit holds at the start: numbers, addresses of objects, or zeros.
 fn put_datum(bytes: &mut Vec<u8>, offsets: &[u64], global: &Datum) -> Result<(), AllocError>
-    requires { IsPlainDatum offsets.now (datum_tree global.now) }
+    requires { datum_size global.now ≤ data_limit }
     ensures { OnOk result (bytes.new.items ≡ bytes.old.items ++ datum_bytes offsets.now (datum_tree global.now)) }
 {
     match global {
@@ -189,7 +202,7 @@ fn put_datum(bytes: &mut Vec<u8>, offsets: &[u64], global: &Datum) -> Result<(),
 /// Appends a global or a string, from the next multiple of 4 on. The bytes begin at the offset 0.
 fn put_global(bytes: &mut Vec<u8>, offsets: &[u64], global: &Datum) -> Result<(), AllocError>
     requires within { vec_len bytes.old ≤ data_limit }
-    requires plain { IsPlainDatum offsets.now (datum_tree global.now) }
+    requires small { datum_size global.now ≤ data_limit }
     ensures { OnOk result
         (bytes.new.items ≡ bytes.old.items ++ (zeros (rounded (vec_len bytes.old) - vec_len bytes.old) ++ datum_bytes offsets.now (datum_tree global.now))) }
 {
@@ -202,7 +215,6 @@ fn put_global(bytes: &mut Vec<u8>, offsets: &[u64], global: &Datum) -> Result<()
 /// The bytes of globals and strings that aren't too large, of which pointers name those that begin at these offsets.
 fn globals_bytes(alloc: Global, offsets: &[u64], globals: &[Datum]) -> Result<Vec<u8>, AllocError>
     requires within { length (data_bytes offsets.now 0 (map datum_tree globals.now)) ≤ data_limit }
-    requires plain { ArePlainData offsets.now (map datum_tree globals.now) }
     ensures { IfOk result (λ bytes. bytes.items ≡ data_bytes offsets.now 0 (map datum_tree globals.now)) }
 {
     let mut bytes = Vec::new(alloc);
@@ -212,11 +224,9 @@ fn globals_bytes(alloc: Global, offsets: &[u64], globals: &[Datum]) -> Result<Ve
     Ok(bytes)
 }
 
-/// The bytes of a program's globals and strings, each from a multiple of 4 on; a pointer to one of them is its address. The cells of
-/// an object lie one behind the other, and hold numbers that fit, nothing, or pointers that name objects of the data. An `Err` is
+/// The bytes of a program's globals and strings, each from a multiple of 4 on; a pointer to one of them is its address. An `Err` is
 /// `TooLarge` exactly where they would be over 1,048,576 bytes, and else `Memory`: no host memory is left.
 pub fn data(alloc: Global, program: &Program) -> Result<Vec<u8>, LayoutFault>
-    requires plain { let ds = (program_tree program.now).data_objects in ArePlainData (data_offsets ds) ds }
     ensures bytes { let ds = (program_tree program.now).data_objects in IfOk result (λ bytes. bytes.items ≡ data_bytes (data_offsets ds) 0 ds) }
     ensures within { IfOk result (λ bytes. vec_len bytes ≤ data_limit) }
     ensures too_large { let ds = (program_tree program.now).data_objects in

@@ -280,9 +280,8 @@ fn program_lines(alloc: Global, program: &Program) -> Result<Vec<Line>, AllocErr
     Ok(lines)
 }
 
-/// The instructions of a lowered program, whose `main` is one of its functions. Fails only where no host memory is left.
+/// The instructions of a lowered program. Fails only where no host memory is left.
 pub fn select(alloc: Global, program: &Program) -> Result<Labelled, AllocError>
-    requires main { program.now.main < length program.now.functions.items }
     // no label stands twice in the lines; their words, where a jump on zero counts as two, are some, and are within the bound by the program's operations; and
     // a machine that begins with the lines does what the program does, with frames within the bounds of its functions
     ensures lines { IfOk result (λ labelled. AreLinesOf (program_tree program.now) labelled.lines) }

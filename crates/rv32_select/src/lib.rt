@@ -8,9 +8,8 @@
 //! the function's, and a return one to its end. The lines are
 //! those of `program_code` in `core_lines`, with no branch alone: no label is placed twice, and a
 //! machine that begins with them does what the program does. A local of one part whose address isn't
-//! taken has its home in a register where its function's order has it among the first. `select` asks
-//! for a program whose `main` is one of its functions. Stands on `cyc_core`, `cyc_words`,
-//! `core_lines`, `rv32_isa` and `rv32_machine`.
+//! taken has its home in a register where its function's order has it among the first.
+//! Stands on `cyc_core`, `cyc_words`, `core_lines`, `rv32_isa` and `rv32_machine`.
 #![tactic(auto)]
 
 mod behind;

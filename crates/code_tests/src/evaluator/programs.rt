@@ -8,7 +8,7 @@
 use crate::evaluator::parts::{datum_of, local_of, statement_of, words_of};
 use crate::evaluator::rows::{Row, row_of};
 use crate::evaluator::words::Word;
-use cyc_core::{Function, Local, Program, Statement, Temporary};
+use cyc_core::{Datum, Function, Local, Program, Statement, Temporary};
 use std::alloc::Global;
 use std::mem;
 
@@ -35,7 +35,8 @@ struct Level {
 #[derive(Drop)]
 struct Reader {
     alloc: Global,
-    program: Program,
+    functions: Vec<Function>,
+    globals: Vec<Datum>,
     levels: Vec<Level>,
     passed: Vec<Temporary>,
 }
@@ -54,11 +55,8 @@ impl Reader {
     fn new(alloc: Global) -> Self {
         Reader {
             alloc,
-            program: Program {
-                functions: Vec::new(alloc),
-                main: 0,
-                globals: Vec::new(alloc),
-            },
+            functions: Vec::new(alloc),
+            globals: Vec::new(alloc),
             levels: Vec::new(alloc),
             passed: Vec::new(alloc),
         }
@@ -93,7 +91,7 @@ impl Reader {
             own: level.locals,
             body: level.body,
         };
-        self.program.functions.push(function).ok()
+        self.functions.push(function).ok()
     }
 
     fn close(&mut self) -> Option<()> {
@@ -120,7 +118,7 @@ impl Reader {
 
     fn part(&mut self, row: Row) -> Option<()> {
         if let Some(datum) = datum_of(self.alloc, row) {
-            return self.program.globals.push(datum).ok();
+            return self.globals.push(datum).ok();
         }
         if let Some(local) = local_of(self.alloc, row) {
             return self.levels.last_mut()?.locals.push(local).ok();
@@ -167,10 +165,14 @@ impl Reader {
         }
     }
 
-    // the program, where no end is missing
+    // the program, which its first function begins, where there is one and no end is missing
     fn into_program(self) -> Option<Program> {
-        if self.levels.is_empty() {
-            Some(self.program)
+        if self.levels.is_empty() && !self.functions.is_empty() {
+            Some(Program {
+                functions: self.functions,
+                main: 0,
+                globals: self.globals,
+            })
         } else {
             None
         }

@@ -44,7 +44,7 @@ use Rattle.core_lines.specs.Held.{Source, Register, Number, Holding, source_of}
 use Rattle.core_lines.specs.Loaded.{unknown_in}
 use Rattle.core_lines.specs.Operands.{number_code, register_for, bring_code, operand_in, operand_code, pass_code}
 use Rattle.core_lines.specs.Lies.{Maps, Shows, Activation}
-use Rattle.core_lines.specs.Selectable.{AreBelow}
+use Rattle.core_meaning.specs.Selectable.{AreBelow}
 use Rattle.core_lines.proofs.memory.Relations.{Moves, World, IsInOrder, Has, Waiting, AreKept, back_of, FrameShows, StackShows, Stands, Calling, Passed}
 use Rattle.core_lines.proofs.memory.Moving.{Reach, Comes, comes_then, comes_as, and_then, stays}
 use Rattle.core_lines.proofs.memory.Words.{offset_joined}

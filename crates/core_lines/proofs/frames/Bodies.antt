@@ -37,7 +37,7 @@ use Rattle.core_lines.proofs.memory.Fitting.{below_end}
 use Rattle.std.specs.Prelude.{if◌then◌else◌}
 use Rattle.core_lines.proofs.memory.Relations.{Covers, Follows, keeping, AreKept, slots_in, Inside, EndsThere, back_of, restored, invoke}
 use Rattle.core_lines.specs.Homes.{saved_by, saved_slot, flag_at}
-use Rattle.core_lines.specs.Selectable.{AreBelow}
+use Rattle.core_meaning.specs.Selectable.{AreBelow}
 use Rattle.std.proofs.lemmas.Bool.{eq-eqb}
 use Rattle.core_meaning.specs.Memory.{Live, is_live}
 use Rattle.core_lines.proofs.memory.Laying.{LaidOut}

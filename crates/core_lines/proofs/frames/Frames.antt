@@ -29,6 +29,7 @@ use Rattle.std.proofs.Common.{
 }
 use Rattle.std.proofs.lemmas.Bool.{eqb-false, ne_eqb, eq-eqb, and_right, and_left, and_from, and_cases, cases_eq, cases_lt, true≢false}
 use Rattle.core_meaning.specs.Memory.{Region, Frame, Own, Born, Dead, Spot, Content, Blank, Memory, same_region, with_standing}
+use Rattle.core_meaning.specs.Layouts.{Apart}
 use Rattle.core_lines.specs.Machines.{Store}
 use Rattle.rv32_machine.specs.Arrays.{longest_stack}
 use Rattle.rv32_machine.specs.State.{Areas}
@@ -44,7 +45,6 @@ use Rattle.core_lines.specs.Lies.{
   SlotLies,
   SlotsLie,
   Lies,
-  Apart,
   Among,
   InFrame,
   CellGround,

@@ -65,7 +65,7 @@ use Rattle.core_lines.proofs.memory.Relations.{
   slots_in,
 }
 use Rattle.core_lines.specs.Homes.{is_home, is_among, saved_by, saved_slot}
-use Rattle.core_lines.specs.Selectable.{AreBelow}
+use Rattle.core_meaning.specs.Selectable.{AreBelow}
 use Rattle.core_lines.proofs.homes.Homes.{other_home, value_no_home, homes_on}
 use Rattle.core_lines.proofs.homes.Saving.{AreHomeRegisters, saved_homes}
 use Rattle.core_lines.proofs.homes.Homed.{homed_fits, laid_homed}

@@ -33,7 +33,7 @@ use Rattle.core_lines.specs.Held.{Register, Holding, without_register, with_sour
 use Rattle.core_lines.specs.Loaded.{unknown_in, loads_of_values}
 use Rattle.core_lines.specs.Operands.{into_code, values_code, keep_code}
 use Rattle.core_lines.specs.Lies.{Maps, Shows}
-use Rattle.core_lines.specs.Selectable.{AreBelow}
+use Rattle.core_meaning.specs.Selectable.{AreBelow}
 use Rattle.core_lines.proofs.memory.Relations.{World, IsInOrder, Has, Waiting, Follows, keeping, AreKept, flagged_first, flagged_second, InRegisters}
 use Rattle.core_lines.proofs.memory.Moving.{Comes, comes_then, comes_as}
 use Rattle.core_lines.proofs.memory.Access.{length_of_both}

@@ -8,7 +8,7 @@ use Rattle.core_lines.specs.Homes.{is_home, is_among, saved_by}
 use Rattle.core_lines.specs.Selected.{nth_block, first_of, rest_of, homes_here, homes_after, names_after, names_after_all}
 use Rattle.core_lines.proofs.memory.Relations.{home_of, Place}
 use Rattle.core_lines.proofs.homes.Nests.{IsHomeOf, BlocksAre, home_around}
-use Rattle.core_lines.specs.Selectable.{AreLayouts}
+use Rattle.core_meaning.specs.Selectable.{AreLayouts}
 use Rattle.core_lines.proofs.memory.Arrays.{object_fits}
 use Rattle.core_lines.proofs.memory.Laying.{AreTiny}
 use Rattle.core_lines.proofs.homes.Saving.{HomesFit}

@@ -2,7 +2,7 @@
 use Rattle.std.proofs.Common.{◌≡◌, ℕ, List, [], ◌∷◌, refl}
 use Rattle.core_meaning.specs.Memory.{Word}
 use Rattle.core_meaning.specs.Core.{Local, LocalAddress, Do, Block, NoStatements, MoreStatements, Statements, Function}
-use Rattle.core_lines.specs.Layouts.{one_part}
+use Rattle.core_meaning.specs.Layouts.{one_part}
 use Rattle.core_lines.specs.Homes.{homes_in}
 
 abbrev number : Local

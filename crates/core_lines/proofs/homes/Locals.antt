@@ -22,8 +22,8 @@ use Rattle.core_meaning.specs.Core.{
   Function,
 }
 use Rattle.core_lines.specs.Selected.{rounded, bytes_of, offsets_from, end_from, greater, highest, highest_of, slots_of, own_end, placed_body, shrink, shrunk, first_of, rest_of, frame_bytes, too_many}
-use Rattle.core_lines.specs.Selectable.{AreLayouts}
-use Rattle.core_lines.specs.Layouts.{IsLayout}
+use Rattle.core_meaning.specs.Selectable.{AreLayouts}
+use Rattle.core_meaning.specs.Layouts.{IsLayout}
 use Rattle.core_meaning.specs.Bounds.{local_words, statement_words, block_words, core_bound}
 use Rattle.core_lines.proofs.homes.HomeWords.{homes_are_words}
 use Rattle.core_lines.proofs.memory.Arrays.{object_fits}

@@ -5,7 +5,7 @@ use Rattle.std.proofs.lemmas.Option.{same_Some, none-some}
 use Rattle.core_meaning.specs.Memory.{Frame}
 use Rattle.core_lines.specs.Lies.{Maps, Zone}
 use Rattle.core_lines.specs.Selected.{nth, nth_block}
-use Rattle.core_lines.specs.Selectable.{IsLocal}
+use Rattle.core_meaning.specs.Selectable.{IsLocal}
 use Rattle.core_lines.specs.Homes.{is_among}
 use Rattle.core_lines.proofs.memory.Relations.{Place, BlocksLie, home_of, HaveHomes, IsHomeIn}
 

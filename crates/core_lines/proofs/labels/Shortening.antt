@@ -52,7 +52,7 @@ use Rattle.core_lines.specs.Selected.{Surroundings, frame_bytes, offsets_from, d
 use Rattle.core_lines.specs.Selected.{keep_result, applied_kept, get_code, put_code, operation_code, labels_in, labels_of}
 use Rattle.core_lines.specs.Selected.{labels_within, holding, naming, names_after, names_after_all, within_block, statement_code, statements_code, around}
 use Rattle.core_lines.specs.Selected.{function_code, functions_code, program_code}
-use Rattle.core_lines.specs.Selectable.{IsSelectable}
+use Rattle.core_meaning.specs.Selectable.{IsSelectable}
 use Rattle.core_lines.specs.Running.{DoesAsCore}
 use Rattle.core_lines.proofs.labels.NoTargets.{operand_none, operation_none, call_none, return_none, epilogue_none, prologue_none}
 use Rattle.core_lines.proofs.labels.TargetsOnce.{program_targets_once}

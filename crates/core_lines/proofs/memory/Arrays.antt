@@ -6,8 +6,7 @@ use Rattle.std.proofs.lemmas.Nat.{div-add-mod'}
 use Rattle.std.proofs.Math.Nat.{suc-mul, mul-le-mul_right, mul_assoc}
 use Rattle.std.proofs.lemmas.Option.{same_Some, none-some}
 use Rattle.core_meaning.specs.Memory.{Blank, Part, PartShape, Layout, shape_in, blank_of, blanks}
-use Rattle.core_lines.specs.Lies.{Apart}
-use Rattle.core_lines.specs.Layouts.{HasPart, IsLayout}
+use Rattle.core_meaning.specs.Layouts.{Apart, HasPart, IsLayout}
 use Rattle.core_lines.proofs.memory.Fitting.{IsWidth}
 use Rattle.core_lines.proofs.memory.Growing.{ObjectFits}
 

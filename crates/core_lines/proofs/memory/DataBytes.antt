@@ -38,7 +38,7 @@ use Rattle.core_meaning.specs.Memory.{Content, Blank, Word, Null, Pointer, Birth
 use Rattle.core_meaning.specs.Core.{Datum}
 use Rattle.core_meaning.specs.Meaning.{datum_parts}
 use Rattle.core_lines.specs.Lies.{Shows, read}
-use Rattle.core_lines.specs.Layouts.{HasPart, IsLayout, IsNothing, one_part}
+use Rattle.core_meaning.specs.Layouts.{HasPart, IsLayout, IsNothing, one_part, AreJoined, parts_end, AreCellsJoined, cells_end}
 use Rattle.core_lines.specs.Selected.{rounded, bytes_of, datum_local, datum_locals, offsets_from}
 use Rattle.core_lines.specs.Statics.{
   address_of,
@@ -51,10 +51,6 @@ use Rattle.core_lines.specs.Statics.{
   zeros,
   data_bytes,
   IsPlain,
-  AreJoined,
-  parts_end,
-  AreCellsJoined,
-  cells_end,
   IsPlainDatum,
   ArePlainData,
   HasBytes,

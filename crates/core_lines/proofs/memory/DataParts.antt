@@ -5,9 +5,10 @@ use Rattle.std.proofs.lemmas.Bool.{eq-eqb, cases_lt, and_from, and_left, and_rig
 use Rattle.std.proofs.lemmas.Option.{same_Some, none-some}
 use Rattle.rv32_machine.specs.State.{data_base}
 use Rattle.core_meaning.specs.Memory.{Region, Frame, Own, Born, Spot, Content, Memory, same_region, same_spot}
+use Rattle.core_meaning.specs.Layouts.{Apart}
 use Rattle.core_meaning.specs.Core.{Datum}
 use Rattle.core_meaning.specs.Meaning.{first_memory, datum_parts}
-use Rattle.core_lines.specs.Lies.{Cell, same_name, PartLies, Apart}
+use Rattle.core_lines.specs.Lies.{Cell, same_name, PartLies}
 use Rattle.core_lines.specs.Selected.{datum_locals}
 use Rattle.core_lines.specs.Running.{in_data, first_base, first_maps}
 use Rattle.core_lines.proofs.memory.Fitting.{IsWidth}

@@ -6,12 +6,13 @@ use Rattle.std.proofs.lemmas.Bool.{eqb-true, ne_eqb, eq-eqb, and_parts, and_righ
 use Rattle.std.proofs.lemmas.Bool.Decides.{nat_tests}
 use Rattle.std.proofs.lemmas.Option.{same_Some}
 use Rattle.core_meaning.specs.Memory.{Region, Frame, Own, Born, Spot, Content, Part, Memory, same_spot, with_part}
+use Rattle.core_meaning.specs.Layouts.{Apart}
 use Rattle.core_lines.specs.Machines.{Store}
 use Rattle.rv32_machine.specs.Arrays.{longest_stack}
 use Rattle.rv32_machine.specs.State.{stack_end, Areas, data_base, stack_base, is_within, word_at, set_word, set_byte}
 use Rattle.arena_laws.specs.Holdings.{arena_base}
 use Rattle.rv32_machine.specs.Audit.{is_in_block}
-use Rattle.core_lines.specs.Lies.{Maps, Shows, read, Activation, Name, Slot, Cell, same_name, SlotsLie, Lies, Apart, Among, InFrame, InGranted, InData}
+use Rattle.core_lines.specs.Lies.{Maps, Shows, read, Activation, Name, Slot, Cell, same_name, SlotsLie, Lies, Among, InFrame, InGranted, InData}
 use Rattle.core_lines.specs.Lies.{CellGround, SlotGround, Ground, Fits, Stacked}
 use Rattle.arena_laws.specs.Blocks.{Block}
 use Rattle.core_lines.proofs.memory.Bytes.{same_word, other_word, other_byte, byte_is_small}

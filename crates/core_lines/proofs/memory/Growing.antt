@@ -5,10 +5,11 @@ use Rattle.std.proofs.Common.{arith}
 use Rattle.std.proofs.lemmas.Bool.{eqb-true, ne_eqb, eq-eqb, and_parts, and_right, and_left, and_from}
 use Rattle.std.proofs.lemmas.Option.{same_Some, none-some}
 use Rattle.core_meaning.specs.Memory.{Region, Frame, Own, Born, Single, Dead, Spot, Content, Blank, Part, Memory, same_region, same_spot, is_live, with_object}
+use Rattle.core_meaning.specs.Layouts.{Apart}
 use Rattle.core_meaning.specs.Operations.{too_far}
 use Rattle.core_lines.specs.Machines.{Store}
 use Rattle.rv32_machine.specs.State.{Areas}
-use Rattle.core_lines.specs.Lies.{Maps, Extends, Shows, read, Activation, Name, Slot, Cell, same_name, PartLies, Lies, Apart, CellGround, Ground, Fits, Known}
+use Rattle.core_lines.specs.Lies.{Maps, Extends, Shows, read, Activation, Name, Slot, Cell, same_name, PartLies, Lies, CellGround, Ground, Fits, Known}
 use Rattle.core_lines.specs.Lies.{IsBlock, IsNumber, TagOf}
 use Rattle.core_lines.proofs.memory.Fitting.{region_same, shows_on, IsWidth, width_some}
 

@@ -12,6 +12,7 @@ use Rattle.rv32_machine.specs.Ledger.{Ledger, unborn}
 use Rattle.rv32_machine.specs.Implements.{Implements}
 use Rattle.step_trees.specs.Trees.{Stops}
 use Rattle.core_meaning.specs.Memory.{Region, Frame, Own, Born, Single, Dead, Spot, Content, Blank, Word, Null, Pointer, Birth, Part, Memory}
+use Rattle.core_meaning.specs.Layouts.{Apart}
 use Rattle.core_meaning.specs.Core.{Function, Datum}
 use Rattle.core_meaning.specs.Meaning as core
 use Rattle.core_meaning.specs.Meaning.{first_memory, status_of, datum_parts}
@@ -21,7 +22,7 @@ use Rattle.core_lines.specs.Lines.{offset_to}
 use Rattle.core_meaning.specs.Operations.{too_far}
 use Rattle.core_lines.specs.Homes.{is_home}
 use Rattle.core_lines.specs.Machines.{Machine, Store, state_of}
-use Rattle.core_lines.specs.Lies.{Shows, read, Name, Slot, Cell, same_name, Lies, Apart, Among, CellGround, Ground, Fits, Known, HoldsBlocks}
+use Rattle.core_lines.specs.Lies.{Shows, read, Name, Slot, Cell, same_name, Lies, Among, CellGround, Ground, Fits, Known, HoldsBlocks}
 use Rattle.core_lines.specs.Selected.{datum_locals}
 use Rattle.core_lines.specs.Running.{named, core_run, in_data, first_base, first_maps, ShowsData}
 use Rattle.core_lines.proofs.homes.Homes.{homes_of, set_stays}

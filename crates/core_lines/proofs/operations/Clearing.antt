@@ -14,7 +14,7 @@ use Rattle.core_lines.specs.Frames.{slot_of}
 use Rattle.core_lines.specs.Loops.{are_words, clear_loop}
 use Rattle.core_lines.specs.Selected.{further_code, bytes_in}
 use Rattle.core_lines.specs.Lies.{Maps, Shows, Points, read}
-use Rattle.core_lines.specs.Layouts.{IsLayout, IsFull, IsNothing, IsZero}
+use Rattle.core_meaning.specs.Layouts.{IsLayout, IsFull, IsNothing, IsZero}
 use Rattle.core_lines.proofs.memory.Relations.{Moves, World, IsInOrder, Has, Waiting, At, IsKept}
 use Rattle.core_lines.proofs.memory.Moving.{Reach, Comes, comes_then, comes_as}
 use Rattle.core_lines.proofs.Steps.{state_at}

@@ -45,7 +45,7 @@ use Rattle.core_lines.specs.Lines.{code_length}
 use Rattle.core_lines.specs.Loops.{are_words, copy_loop}
 use Rattle.core_lines.specs.Selected.{further_code}
 use Rattle.core_lines.specs.Lies.{Maps, Shows, Points, read, Activation, Cell, PartLies, Fits}
-use Rattle.core_lines.specs.Layouts.{IsLayout, IsFull}
+use Rattle.core_meaning.specs.Layouts.{IsLayout, IsFull}
 use Rattle.core_lines.proofs.memory.Relations.{Moves, World, IsInOrder, Has, Waiting, At, IsKept}
 use Rattle.core_lines.proofs.memory.Moving.{Reach, Comes, comes_then, comes_as}
 use Rattle.core_lines.proofs.Steps.{state_at}

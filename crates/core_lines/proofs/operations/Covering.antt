@@ -13,7 +13,7 @@ use Rattle.core_meaning.proofs.Wholes.{IsAmong, elements_in}
 use Rattle.core_lines.specs.Machines.{Store}
 use Rattle.core_lines.specs.Lies.{Maps, Activation, Name, Slot, Cell, same_name, Lies, InFrame, CellGround, Fits, Stacked}
 use Rattle.core_lines.specs.Loops.{are_word_parts, are_word_cells, are_words}
-use Rattle.core_lines.specs.Layouts.{IsLayout, IsFull}
+use Rattle.core_meaning.specs.Layouts.{IsLayout, IsFull}
 use Rattle.core_lines.proofs.Steps.{IsAllowed}
 use Rattle.core_lines.proofs.memory.Fitting.{allowed}
 use Rattle.core_lines.proofs.memory.Storing.{live_lasts}

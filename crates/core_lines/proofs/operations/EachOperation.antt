@@ -50,7 +50,7 @@ use Rattle.core_lines.specs.Operands.{number_kept}
 use Rattle.core_lines.specs.Saved.{results_of}
 use Rattle.core_lines.specs.Selected.{Surroundings, nth, nth_block, operation_code}
 use Rattle.core_lines.specs.Homes.{is_home}
-use Rattle.core_lines.specs.Selectable.{HasCode}
+use Rattle.core_meaning.specs.Selectable.{HasCode}
 use Rattle.core_lines.proofs.memory.Relations.{Inside, home_of, Covers, Follows, keeping, AreKept, World, IsInOrder, Has, Waiting, At, Goes, active_of}
 use Rattle.core_lines.proofs.memory.Moving.{Comes, goes_as}
 use Rattle.core_lines.proofs.frames.Passing.{follows_saved}

@@ -13,7 +13,7 @@ use Rattle.core_lines.specs.Operands.{operand_in, operand_code, into_code, keep_
 use Rattle.core_lines.specs.Selected.{Surroundings, nth, nth_block, read_code, write_code, get_code, byte_code, put_code}
 use Rattle.core_lines.specs.Homes.{is_home}
 use Rattle.core_lines.specs.Lies.{Maps, Activation}
-use Rattle.core_lines.specs.Selectable.{Scope, IsLocal}
+use Rattle.core_meaning.specs.Selectable.{Scope, IsLocal}
 use Rattle.core_lines.proofs.memory.Relations.{Phase, Inside, as_home, home_of, AreHomes, back_of, FrameShows}
 use Rattle.core_lines.proofs.memory.Relations.{World, IsInOrder, Has, Waiting, Follows, keeping, At, Goes, active_of}
 use Rattle.core_lines.proofs.memory.Moving.{Comes, comes_then, comes_as, goes_from, goes_nowhere}

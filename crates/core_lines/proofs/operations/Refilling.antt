@@ -9,7 +9,7 @@ use Rattle.core_meaning.specs.Operations.{are_elements, too_far}
 use Rattle.core_meaning.proofs.Wholes.{IsAmong, elements_in}
 use Rattle.core_lines.specs.Machines.{Machine, Store}
 use Rattle.core_lines.specs.Lies.{local_at, Maps, Shows, read, Activation, Name, Slot, Cell, PartLies, Lies, Fits, Known}
-use Rattle.core_lines.specs.Layouts.{IsLayout, IsFull}
+use Rattle.core_meaning.specs.Layouts.{IsLayout, IsFull}
 use Rattle.core_lines.proofs.memory.Relations.{World, IsInOrder, Waiting, At}
 use Rattle.core_lines.proofs.Steps.{state_at, IsKeptBelow}
 use Rattle.core_lines.proofs.memory.Fitting.{IsWidth, extends_self}

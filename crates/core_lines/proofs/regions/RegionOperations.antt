@@ -36,7 +36,7 @@ use Rattle.core_meaning.specs.Core as core
 use Rattle.core_meaning.specs.Operations.{born, saturated, alone_freed, does}
 use Rattle.core_meaning.specs.Steps.{Config, Step, with_temp, with_memory}
 use Rattle.core_lines.specs.Frames.{word_code, environment_code}
-use Rattle.core_lines.specs.Layouts.{IsLayout}
+use Rattle.core_meaning.specs.Layouts.{IsLayout}
 use Rattle.core_lines.specs.Lines.{code_length}
 use Rattle.core_lines.specs.Selected.{bytes_code}
 use Rattle.core_lines.proofs.memory.Relations.{World, IsInOrder, Has, Waiting, Follows, keeping, At, Goes, active_of, IsKept}

@@ -1,5 +1,4 @@
 use Rattle.std.proofs.Common.{◌≡◌, ◌<◌, List, length, refl, sym, ap, ◌∙◌, subst, arith}
-use Rattle.std.proofs.lemmas.List.{length-map}
 use Rattle.std.specs.Prelude.{Err}
 use Rattle.core_lines.specs.declared.line.Line.{Line}
 use Rattle.core_lines.specs.Promise.{AreLinesOf}
@@ -7,11 +6,9 @@ use Rattle.core_lines.specs.Relaxed.{wide_in}
 use Rattle.core_lines.specs.Running.{data_offsets}
 use Rattle.core_lines.specs.Statics.{data_bytes, ArePlainData}
 use Rattle.core_meaning.specs.Core as core
-use Rattle.cyc_core.specs.Trees.{function_tree}
 use Rattle.rv32_layout.specs.declared.fault.LayoutFault.{LayoutFault}
 use Rattle.cyc_image.specs.Format.{data_limit}
 use Rattle.core_lines.proofs.labels.Relaxing.{no_longer}
-use Rattle.compile_proof.proofs.Joined.{have_main}
 use Rattle.compile_proof.proofs.AcceptedDo.{accepted_do}
 use Rattle.cycc_driver.proofs.Implementing.{data_fit, implemented, is_code}
 use Rattle.cycc_driver.proofs.compiling.lay_out.Goals as goal
@@ -56,13 +53,6 @@ unreachable-requires c =
     let large = c.in-Err-TooLarge-data.ensures.too_large.0 (ap (λ (f : LayoutFault). Err f) c.in-Err-TooLarge-data.field-0-is) in
     data_fit c.args.checked.now c.in_ok-core.ensures.accepted c.in_ok-core.ensures.few
     (subst (λ (p : core.Program). data_limit < length (data_bytes (data_offsets p.data_objects) 0 p.data_objects)) c.in_ok-core.ensures.code large)
-
-pub select-requires : goal.select-requires
-select-requires c =
-    let made = c.in_ok-core.ensures in
-    let program = c.in_ok-core.core in
-    let main = subst (λ (p : core.Program). p.main < length p.functions) (sym made.code) (have_main c.args.checked.now made.accepted) in
-    record { main = omega (arith, main, length-map program.functions.items function_tree) }
 
 pub data-requires : goal.data-requires
 data-requires c =

@@ -6,7 +6,8 @@ use Rattle.source_meaning.specs.Programs.{unions_of}
 use Rattle.source_lowering.specs.Programs.{program_code}
 use Rattle.source_lowering.specs.Lowerable.{HaveFewMembers, IsLowerable}
 use Rattle.source_lowering.proofs.bounds.Rooms.{members_have_room}
-use Rattle.accepted_proof.proofs.Joined.{lowerable}
+use Rattle.lower_checks.specs.Mains.{HasMain}
+use Rattle.accepted_proof.proofs.Joined.{have_main, lowerable}
 use Rattle.lower_checks.proofs.Roomy.{are_roomy}
 use Rattle.lower_checks.proofs.Promised.{is_lowering}
 use Rattle.lower_checks.proofs.program.lower.Goals as goal
@@ -21,6 +22,7 @@ lower_tree-requires c =
     record {
       room = are_roomy c.program-program.result.now c.items.ensures.room;
       taken = subst IsLowerable (sym c.program-program.ensures.same) (lowerable c.args.checked.now c.program-program.ensures.accepted few);
+      main = subst HasMain (sym c.program-program.ensures.same) (have_main c.args.checked.now c.program-program.ensures.accepted);
     }
 
 pub returns-in-Ok-clause-code : goal.returns-in-Ok-clause-code

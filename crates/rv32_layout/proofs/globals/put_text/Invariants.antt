@@ -1,5 +1,5 @@
 use Rattle.std.proofs.Common.{◌≡◌, ◌++◌, drop}
-use Rattle.rv32_layout.specs.Addresses.{AreChars}
+use Rattle.rv32_layout.specs.Chars.{AreChars}
 use Rattle.rv32_layout.proofs.globals.put_text.Given as goal
 
 abbrev pub invariant-each : goal.invariant-each

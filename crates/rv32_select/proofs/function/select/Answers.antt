@@ -12,7 +12,7 @@ pub invariant_of-result : goal.invariant_of-result
 invariant_of-result c =
     let program = c.args.program.now in
     let lines = c.in_ok-lines.lines.items in
-    let there : program.main < length (map function_tree program.functions.items) = omega (arith, length-map program.functions.items function_tree) in
+    let there : program.main < length (map function_tree program.functions.items) = omega (arith, length-map program.functions.items function_tree, program.main_there) in
     (program_begins (program_tree program) lines c.in_ok-lines.ensures there, program_long (program_tree program) lines c.in_ok-lines.ensures)
 
 pub returns : goal.returns

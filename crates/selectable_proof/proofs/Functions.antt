@@ -8,8 +8,8 @@ use Rattle.source_meaning.specs.Steps.{World, Routine}
 use Rattle.source_meaning.specs.Strings.{Literal}
 use Rattle.source_meaning.specs.Programs.{global_shape, globals_from}
 use Rattle.core_meaning.specs.Core as core
-use Rattle.core_lines.specs.Layouts.{IsLayout}
-use Rattle.core_lines.specs.Selectable.{AreLayouts, HaveLayouts}
+use Rattle.core_meaning.specs.Layouts.{IsLayout}
+use Rattle.core_meaning.specs.Selectable.{AreLayouts, HaveLayouts}
 use Rattle.source_lowering.specs.Members.{words_in, all_words}
 use Rattle.source_lowering.specs.Lowered.{Named}
 use Rattle.source_lowering.specs.Programs.{block_shapes, locals_of, named_here, no_regions, items_code, parameter_names, parameters_code, end_code, body_code}
@@ -23,14 +23,14 @@ use Rattle.source_lowering.proofs.bounds.WholeObjects.{item_objects}
 use Rattle.source_lowering.proofs.Programs.{global_variable}
 use Rattle.source_lowering.proofs.regions.Heap.{laid_out_as}
 use Rattle.source_lowering.proofs.regions.HeapValues.{heap_data}
-use Rattle.compile_proof.specs.Naming.{AreNaming, CodeNames}
-use Rattle.compile_proof.proofs.Naming.{both_name, all_name}
-use Rattle.compile_proof.proofs.Layouts.{object_layout, variable_layout}
-use Rattle.compile_proof.proofs.Parts.{LocalsLie, GlobalsLie, Around, stored_local}
-use Rattle.compile_proof.proofs.Texts.{TextsLie}
+use Rattle.selectable_proof.specs.Naming.{AreNaming, CodeNames}
+use Rattle.selectable_proof.proofs.Naming.{both_name, all_name}
+use Rattle.selectable_proof.proofs.Layouts.{object_layout, variable_layout}
+use Rattle.selectable_proof.proofs.Parts.{LocalsLie, GlobalsLie, Around, stored_local}
+use Rattle.selectable_proof.proofs.Texts.{TextsLie}
 use Rattle.source_lowering.specs.Objects.{AreVariables}
 use Rattle.source_lowering.proofs.statements.BlockVariables.{block_variables}
-use Rattle.compile_proof.proofs.Statements.{layouts_taken, objects_are, as_many, items_names}
+use Rattle.selectable_proof.proofs.Statements.{layouts_taken, objects_are, as_many, items_names}
 
 -- ---- functions
 

@@ -7,16 +7,16 @@ use Rattle.source_meaning.specs.Steps.{World, Routine}
 use Rattle.source_meaning.specs.Strings.{program_strings}
 use Rattle.source_meaning.specs.Programs.{world_of}
 use Rattle.core_meaning.specs.Core.{Function}
-use Rattle.core_lines.specs.Selectable.{IsSelectableIn, IsSelectable, scope_of}
+use Rattle.core_meaning.specs.Selectable.{IsSelectableIn, IsSelectable, scope_of}
 use Rattle.source_lowering.specs.Programs.{body_code, function_code, data_of, string_datum, program_code}
 use Rattle.source_lowering.specs.Lowerable.{IsLowerable}
 use Rattle.source_lowering.proofs.expressions.Names.{IsPlainWorld, IsRoutine, AreRoutines}
 use Rattle.source_lowering.proofs.Programs.{routines_are, world_plain}
-use Rattle.compile_proof.proofs.Naming.{have_lines}
+use Rattle.selectable_proof.proofs.Naming.{have_lines}
 use Rattle.source_lowering.proofs.regions.HeapValues.{heap_data}
-use Rattle.compile_proof.proofs.Texts.{TextsLie, program_texts}
-use Rattle.compile_proof.proofs.Parts.{GlobalsLie}
-use Rattle.compile_proof.proofs.Functions.{body_names, own_layouts, globals_lie, data_layouts}
+use Rattle.selectable_proof.proofs.Texts.{TextsLie, program_texts}
+use Rattle.selectable_proof.proofs.Parts.{GlobalsLie}
+use Rattle.selectable_proof.proofs.Functions.{body_names, own_layouts, globals_lie, data_layouts}
 
 -- a function of Core is the code of a function of the source
 pub record IsCodeOf (w : World) (fs : List Routine) (number : ℕ) (f : Function) : Type 0 where

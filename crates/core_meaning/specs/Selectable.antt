@@ -51,7 +51,7 @@ use Rattle.core_meaning.specs.Core.{
   Datum,
   Program,
 }
-use Rattle.core_lines.specs.Layouts.{IsLayout, IsFull, IsZero}
+use Rattle.core_meaning.specs.Layouts.{IsLayout, IsFull, IsZero}
 
 -- ---- layouts
 

@@ -8,7 +8,7 @@ use Rattle.source_meaning.specs.Shapes.{Shape, ThinShape, FatShape, StructShape,
 use Rattle.source_meaning.specs.Shapes.{part_shapes, written, settled, settled_by}
 use Rattle.source_meaning.specs.Steps.{World}
 use Rattle.source_meaning.specs.Places.{bound_to}
-use Rattle.core_lines.specs.Selectable.{AreLayouts}
+use Rattle.core_meaning.specs.Selectable.{AreLayouts}
 use Rattle.source_lowering.specs.Members.{words_in}
 use Rattle.source_lowering.specs.Lowered.{Named, static_shape, union_parts, put_local, conversion_code, expression_values, expression_code, Home, InBlock}
 use Rattle.source_lowering.specs.Lowered.{InTemporary, local_named}
@@ -41,14 +41,14 @@ use Rattle.source_lowering.proofs.statements.BlockVariables.{block_variables}
 use Rattle.source_lowering.proofs.statements.EachDeclaration.{shape_object}
 use Rattle.source_lowering.proofs.statements.WrittenTypes.{object_settled, object_by}
 use Rattle.source_lowering.proofs.bounds.PartCosts.{results_many}
-use Rattle.compile_proof.specs.Naming.{CodeNames}
-use Rattle.compile_proof.proofs.Naming.{both_name, all_name}
-use Rattle.compile_proof.proofs.Layouts.{object_layout, variable_layout}
-use Rattle.compile_proof.proofs.Parts.{HomeLies, LocalsLie, Around, local_lies, global_lies, stored_local, get_names, conversion_names}
-use Rattle.compile_proof.proofs.StaticShapes.{union_values, member_value}
-use Rattle.compile_proof.proofs.Pointers.{held_names, exchange_names}
-use Rattle.compile_proof.proofs.Expressions.{place_names, expression_names}
-use Rattle.compile_proof.proofs.WholeNames.{source_names, run_names}
+use Rattle.selectable_proof.specs.Naming.{CodeNames}
+use Rattle.selectable_proof.proofs.Naming.{both_name, all_name}
+use Rattle.selectable_proof.proofs.Layouts.{object_layout, variable_layout}
+use Rattle.selectable_proof.proofs.Parts.{HomeLies, LocalsLie, Around, local_lies, global_lies, stored_local, get_names, conversion_names}
+use Rattle.selectable_proof.proofs.StaticShapes.{union_values, member_value}
+use Rattle.selectable_proof.proofs.Pointers.{held_names, exchange_names}
+use Rattle.selectable_proof.proofs.Expressions.{place_names, expression_names}
+use Rattle.selectable_proof.proofs.WholeNames.{source_names, run_names}
 
 -- ---- layouts
 

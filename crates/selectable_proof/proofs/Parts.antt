@@ -11,7 +11,7 @@ use Rattle.source_meaning.specs.Steps.{Entity, Variable, Fixed, Binding, World, 
 use Rattle.source_meaning.specs.Places.{bound_to}
 use Rattle.source_meaning.specs.Calls.{function_of}
 use Rattle.core_meaning.specs.Core.{Operation, Statement, Do, IsNull, SamePlace, Getchar, Putchar}
-use Rattle.core_lines.specs.Selectable.{IsLocal}
+use Rattle.core_meaning.specs.Selectable.{IsLocal}
 use Rattle.source_lowering.specs.Members.{null_check, words_in}
 use Rattle.source_lowering.specs.Operators.{enough_code}
 use Rattle.source_lowering.specs.Lowered.{Named, local_named, number_of, get_local, load_global, stored_code, get_by, put_by, address_by, reach_code}
@@ -20,10 +20,10 @@ use Rattle.source_lowering.specs.Lowered.{compared_code, fat_code, operator_code
 use Rattle.source_lowering.specs.Lowered.{call_code, Home, InBlock, InTemporary, get_home, put_home, home_address}
 use Rattle.source_lowering.specs.Lowerable.{IsTarget, TakesPrefix, TakesPointer}
 use Rattle.source_lowering.proofs.expressions.Names.{AreObjectNames, IsPlainWorld}
-use Rattle.compile_proof.specs.Naming.{NamesIn, CodeNames}
-use Rattle.compile_proof.proofs.Naming.{both_name, all_name}
-use Rattle.compile_proof.proofs.Texts.{TextsLie}
-use Rattle.compile_proof.proofs.Pointers.{loads_names, stores_names, check_names, bounds_names, enough_names, reach_names}
+use Rattle.selectable_proof.specs.Naming.{NamesIn, CodeNames}
+use Rattle.selectable_proof.proofs.Naming.{both_name, all_name}
+use Rattle.selectable_proof.proofs.Texts.{TextsLie}
+use Rattle.selectable_proof.proofs.Pointers.{loads_names, stores_names, check_names, bounds_names, enough_names, reach_names}
 
 -- ---- names in scope
 

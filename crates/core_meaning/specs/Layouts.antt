@@ -1,8 +1,11 @@
 -- When the parts of a layout lie as they have to: each within the layout's bytes, at a multiple of its width, and no two of them meeting; when they leave no
 -- byte out; and when they begin with nothing.
-use Rattle.std.specs.Prelude.{◌≡◌, ℕ, ◌+◌, ◌%◌, ◌≤◌, ◌<◌, ◌⊎◌, ◌&&◌, false, nat_eq, [], ◌∷◌, Some, slice_get}
+use Rattle.std.specs.Prelude.{◌≡◌, ℕ, ◌+◌, ◌%◌, ◌≤◌, ◌<◌, ◌⊎◌, ◌&&◌, false, nat_eq, List, [], ◌∷◌, Some, slice_get}
 use Rattle.core_meaning.specs.Memory.{Content, Blank, Word, Null, Pointer, Birth, PartShape, Layout, shape_in}
-use Rattle.core_lines.specs.Lies.{Apart}
+
+-- so many bytes from one place on, and so many from another, don't meet
+abbrev pub Apart : ℕ → ℕ → ℕ → ℕ → Type 0
+Apart at width at' width' = (at + width ≤ at') ⊎ (at' + width' ≤ at)
 
 -- the layout's cell has this part
 pub record HasPart (l : Layout) (cell part : ℕ) (shape : PartShape) : Type 0 where
@@ -47,3 +50,23 @@ pub record IsZero (l : Layout) : Type 0 where
 -- one cell of one part, which fills it
 abbrev pub one_part : ℕ → Content → Layout
 one_part width first = record { cells = (record { offset = 0; width = width; first = first } ∷ []) ∷ []; bytes = width }
+
+-- ---- parts one behind the other
+
+-- Bytes and words that lie one behind the other, the first at an offset; where the last one ends.
+abbrev pub AreJoined : ℕ → List PartShape → Type 0
+AreJoined at [] = Unit {0}
+AreJoined at (s ∷ ss) = (s.offset ≡ at) × ((s.width ≡ 1) ⊎ (s.width ≡ 4)) × AreJoined (at + s.width) ss
+
+abbrev pub parts_end : ℕ → List PartShape → ℕ
+parts_end at [] = at
+parts_end at (s ∷ ss) = parts_end (at + s.width) ss
+
+-- so the parts of all cells
+abbrev pub AreCellsJoined : ℕ → List (List PartShape) → Type 0
+AreCellsJoined at [] = Unit {0}
+AreCellsJoined at (c ∷ cs) = AreJoined at c × AreCellsJoined (parts_end at c) cs
+
+abbrev pub cells_end : ℕ → List (List PartShape) → ℕ
+cells_end at [] = at
+cells_end at (c ∷ cs) = cells_end (parts_end at c) cs

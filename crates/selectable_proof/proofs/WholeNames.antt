@@ -11,11 +11,11 @@ use Rattle.source_lowering.specs.Programs.{source_code}
 use Rattle.source_lowering.specs.Lowerable.{Takes, TakesWhole, TakesAssigned, TakesDropped, TakesCalled, TakesRun}
 use Rattle.source_lowering.proofs.bounds.WholeObjects.{unmade_place}
 use Rattle.source_lowering.proofs.expressions.Names.{IsPlainWorld}
-use Rattle.compile_proof.specs.Naming.{CodeNames}
-use Rattle.compile_proof.proofs.Naming.{both_name}
-use Rattle.compile_proof.proofs.Layouts.{object_layout}
-use Rattle.compile_proof.proofs.Parts.{Around}
-use Rattle.compile_proof.proofs.Expressions.{place_names, expression_names, assign_names, whole_names}
+use Rattle.selectable_proof.specs.Naming.{CodeNames}
+use Rattle.selectable_proof.proofs.Naming.{both_name}
+use Rattle.selectable_proof.proofs.Layouts.{object_layout}
+use Rattle.selectable_proof.proofs.Parts.{Around}
+use Rattle.selectable_proof.proofs.Expressions.{place_names, expression_names, assign_names, whole_names}
 
 module _ (blocks : List ℕ) (own n : ℕ) (w : World) (names : List Named) (plain : IsPlainWorld w) (around : Around blocks n w names) where
   -- ---- initializers

@@ -14,7 +14,7 @@ use Rattle.source_lowering.specs.Programs.{data_of, string_datum, program_code}
 use Rattle.source_lowering.specs.Lowerable.{AreStrings, IsLowerable}
 use Rattle.source_lowering.specs.Simulation.{AllStrings}
 use Rattle.source_lowering.proofs.Texts.{string_found}
-use Rattle.compile_proof.specs.Naming.{CodeNames}
+use Rattle.selectable_proof.specs.Naming.{CodeNames}
 
 -- a fat pointer to the first of so many characters, whose object is one of the first
 pub record IsTextIn (n : ℕ) (v : Scalar) : Type 0 where

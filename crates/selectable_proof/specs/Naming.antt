@@ -48,8 +48,8 @@ use Rattle.core_meaning.specs.Core.{
   NoStatements,
   MoreStatements,
 }
-use Rattle.core_lines.specs.Layouts.{IsLayout, IsFull, IsZero}
-use Rattle.core_lines.specs.Selectable.{AreLayouts, IsLocal}
+use Rattle.core_meaning.specs.Layouts.{IsLayout, IsFull, IsZero}
+use Rattle.core_meaning.specs.Selectable.{AreLayouts, IsLocal}
 
 -- An operation within blocks that have so many locals each, the innermost first, in a function of so many unnamed values, over so many objects of
 -- the data.

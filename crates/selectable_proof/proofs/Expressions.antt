@@ -36,14 +36,14 @@ use Rattle.source_lowering.proofs.UnionSizes.{union_of}
 use Rattle.source_lowering.proofs.values.Integers.{value_taken, taken_target}
 use Rattle.source_lowering.proofs.expressions.Names.{IsPlainWorld}
 use Rattle.source_lowering.proofs.expressions.EachCall.{AllValues, call_values}
-use Rattle.compile_proof.specs.Naming.{CodeNames}
-use Rattle.compile_proof.proofs.Naming.{both_name, all_name}
-use Rattle.compile_proof.proofs.StaticShapes.{member_value, place_target, shape_taken}
-use Rattle.compile_proof.proofs.Texts.{text_names}
-use Rattle.compile_proof.proofs.Pointers.{stores_names, LeftNames, member_left, behind_left, element_left, pointed_left, stored_left}
-use Rattle.compile_proof.proofs.MadeNames.{read_names, union_names, member_names, made_names, array_names, element_names}
+use Rattle.selectable_proof.specs.Naming.{CodeNames}
+use Rattle.selectable_proof.proofs.Naming.{both_name, all_name}
+use Rattle.selectable_proof.proofs.StaticShapes.{member_value, place_target, shape_taken}
+use Rattle.selectable_proof.proofs.Texts.{text_names}
+use Rattle.selectable_proof.proofs.Pointers.{stores_names, LeftNames, member_left, behind_left, element_left, pointed_left, stored_left}
+use Rattle.selectable_proof.proofs.MadeNames.{read_names, union_names, member_names, made_names, array_names, element_names}
 use Rattle.source_lowering.proofs.expressions.Homes.{element_values, same_element}
-use Rattle.compile_proof.proofs.Parts.{
+use Rattle.selectable_proof.proofs.Parts.{
   local_lies,
   global_lies,
   Around,

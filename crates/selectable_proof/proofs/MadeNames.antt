@@ -10,14 +10,14 @@ use Rattle.source_lowering.specs.Lowerable.{IsTarget, IsObject, IsWholeShape, Ta
 use Rattle.source_lowering.proofs.values.Integers.{object_target}
 use Rattle.source_lowering.proofs.expressions.Names.{IsPlainWorld}
 use Rattle.source_lowering.proofs.bounds.WholeObjects.{struct_object}
-use Rattle.compile_proof.specs.Naming.{CodeNames}
-use Rattle.compile_proof.proofs.Naming.{both_name, all_name}
-use Rattle.compile_proof.proofs.Layouts.{object_layout}
-use Rattle.compile_proof.proofs.Pointers.{stores_names, given_names}
-use Rattle.compile_proof.proofs.Parts.{conversion_names}
+use Rattle.selectable_proof.specs.Naming.{CodeNames}
+use Rattle.selectable_proof.proofs.Naming.{both_name, all_name}
+use Rattle.selectable_proof.proofs.Layouts.{object_layout}
+use Rattle.selectable_proof.proofs.Pointers.{stores_names, given_names}
+use Rattle.selectable_proof.proofs.Parts.{conversion_names}
 use Rattle.source_meaning.specs.Conversions.{cells_of}
 use Rattle.source_lowering.specs.Layouts.{extent_of}
-use Rattle.compile_proof.proofs.StaticShapes.{target_small}
+use Rattle.selectable_proof.proofs.StaticShapes.{target_small}
 
 module _ (blocks : List ℕ) (own n : ℕ) (w : World) (plain : IsPlainWorld w) where
   -- a place that is read whole

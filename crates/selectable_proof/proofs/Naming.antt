@@ -47,7 +47,7 @@ use Rattle.core_meaning.specs.Core.{
   NoStatements,
   MoreStatements,
 }
-use Rattle.core_lines.specs.Selectable.{Scope, AreBelow, HasCode, HasLinesIn, HaveLinesIn, scope_within}
+use Rattle.core_meaning.specs.Selectable.{Scope, AreBelow, HasCode, HasLinesIn, HaveLinesIn, scope_within}
 use Rattle.source_lowering.specs.Lowered.{all_of}
 use Rattle.source_lowering.specs.Programs.{
   last_of,
@@ -58,7 +58,7 @@ use Rattle.source_lowering.specs.Programs.{
   passed_by,
 }
 use Rattle.source_lowering.proofs.bounds.Costs.{max_first, max_second}
-use Rattle.compile_proof.specs.Naming.{NamesIn, IsNaming, AreNaming, CodeNames}
+use Rattle.selectable_proof.specs.Naming.{NamesIn, IsNaming, AreNaming, CodeNames}
 
 -- ---- code that is put together
 

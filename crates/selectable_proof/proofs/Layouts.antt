@@ -5,8 +5,7 @@ use Rattle.source_meaning.specs.Shapes.{Shape, IntShape, UnsignedShape, CharShap
 use Rattle.source_meaning.specs.Placing.{Placed}
 use Rattle.source_meaning.specs.Steps.{World}
 use Rattle.core_meaning.specs.Memory.{PartShape, Layout}
-use Rattle.core_lines.specs.Layouts.{IsLayout, IsFull, IsNothing, IsZero}
-use Rattle.core_lines.specs.Statics.{AreCellsJoined, cells_end}
+use Rattle.core_meaning.specs.Layouts.{IsLayout, IsFull, IsNothing, IsZero, AreCellsJoined, cells_end}
 use Rattle.source_lowering.specs.Layouts.{has_fat, union_pieces, cell_pieces, part_shape_of, cell_parts, padding, next_at, padded, layout_of, local_of}
 use Rattle.source_lowering.specs.Layouts.{placed_of, extent_of}
 use Rattle.source_lowering.specs.Lowered.{width_of}
@@ -15,7 +14,7 @@ use Rattle.source_lowering.proofs.UnionSizes.{union_bytes, union_size}
 use Rattle.source_lowering.proofs.expressions.Names.{IsPlainWorld}
 use Rattle.source_lowering.proofs.memory.StructCells.{shapes_in, IsCellShape, AreCellShapes, HasCells, object_cells}
 use Rattle.source_lowering.proofs.memory.Ordered.{bytes_taken, AreOrdered, AreEven, IsOrdered, object_ordered}
-use Rattle.compile_proof.proofs.Tiles.{
+use Rattle.selectable_proof.proofs.Tiles.{
   Tile,
   AllTile,
   tile_both,

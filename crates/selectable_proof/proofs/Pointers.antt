@@ -46,9 +46,9 @@ use Rattle.source_lowering.specs.Programs.{value_exchange, words_read, words_wri
 use Rattle.source_lowering.specs.Lowerable.{IsTarget, IsObject}
 use Rattle.source_lowering.proofs.values.Integers.{object_target}
 use Rattle.source_lowering.proofs.expressions.Names.{IsPlainWorld}
-use Rattle.compile_proof.specs.Naming.{AreNaming, CodeNames}
-use Rattle.compile_proof.proofs.Naming.{both_name}
-use Rattle.compile_proof.proofs.StaticShapes.{target_small}
+use Rattle.selectable_proof.specs.Naming.{AreNaming, CodeNames}
+use Rattle.selectable_proof.proofs.Naming.{both_name}
+use Rattle.selectable_proof.proofs.StaticShapes.{target_small}
 
 module _ (blocks : List ℕ) (own n : ℕ) where
   pub loads_names : (s : Shape) (d cells bytes : ℕ) → CodeNames blocks own n (loads_code s d cells bytes)

@@ -31,8 +31,7 @@ use Rattle.std.proofs.lemmas.Bool.{eqb-true, eq-eqb}
 use Rattle.std.proofs.lemmas.Bool.Decides.{nat_tests}
 use Rattle.std.proofs.lemmas.Option.{same_Some, none-some}
 use Rattle.core_meaning.specs.Memory.{PartShape, shape_in}
-use Rattle.core_lines.specs.Lies.{Apart}
-use Rattle.core_lines.specs.Statics.{AreJoined, parts_end, AreCellsJoined, cells_end}
+use Rattle.core_meaning.specs.Layouts.{Apart, AreJoined, parts_end, AreCellsJoined, cells_end}
 
 -- ---- parts that tile bytes
 

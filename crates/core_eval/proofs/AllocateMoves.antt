@@ -1,9 +1,9 @@
 -- A region gets a block, as Core does it.
-use Rattle.std.specs.Prelude.{if◌then◌else◌, slice_get, slice_set, option_map}
+use Rattle.std.specs.Prelude.{if◌then◌else◌, slice_set, option_map}
 use Rattle.std.proofs.Common.{◌≡◌, ℕ, zero, suc, ◌*◌, Bool, true, false, Option, Some, None, List, [], ◌∷◌, ◌++◌, length, refl, ap, ◌∙◌, sym, subst, arith}
 use Rattle.cyc_words.specs.Events as events
 use Rattle.core_meaning.specs.Memory as memory
-use Rattle.core_meaning.specs.Memory.{Region, Born, Content, Pointer, Part, is_live, with_object, blanks, first_spot}
+use Rattle.core_meaning.specs.Memory.{Region, Born, Content, Pointer, is_live, with_object, blanks, first_spot}
 use Rattle.core_meaning.specs.Core as core
 use Rattle.core_meaning.specs.Steps as steps
 use Rattle.core_meaning.specs.Steps.{Config, with_temp, with_memory, Step, checked, birth_of, word_of}
@@ -15,16 +15,19 @@ use Rattle.core_eval.specs.declared.value.Place.{Place}
 use Rattle.core_eval.specs.declared.value.Value.{Value}
 use Rattle.core_eval.specs.declared.value.Value.TheVariants as value
 use Rattle.core_eval.specs.declared.value.Slot.{Slot}
-use Rattle.core_eval.specs.Values.{region_of, spot_of, content_of, temp_of, part_in, Shows}
-use Rattle.core_eval.specs.Regions.{Kept, Regions, still_held, region_at, is_open, open_objects, with_blocks, grown_held, area_of, block_place}
+use Rattle.core_eval.specs.Values.{region_of, spot_of, content_of, temp_of, part_in, cell_in, Shows}
+use Rattle.core_eval.specs.Regions.{Kept, Regions, still_held, region_at, is_open, open_objects, with_blocks, grown_held, grown_region, area_of, block_place}
 use Rattle.core_eval.specs.Elements.{block_cells}
-use Rattle.core_eval.specs.Blocks.{Stored, born_objects, next_place, grown}
+use Rattle.core_eval.specs.LongBlocks.{LongBlock, with_long_block}
+use Rattle.core_eval.specs.Blocks.{Stored, born_objects, next_place, grown_long, grown}
 use Rattle.core_eval.specs.Whole.{is_still}
 use Rattle.core_eval.specs.Pendings.{Execute, Leave, Wait, Go, Wrong, Mark}
 use Rattle.core_eval.specs.Standing.{Known, Agrees, Gives}
 use Rattle.core_eval.specs.Costs.{IsMove}
 use Rattle.core_eval.proofs.Memories.{other_number, shows_object, shows_grown}
+use Rattle.core_eval.proofs.Lists.{get_past}
 use Rattle.core_eval.proofs.Elements.{block_parts}
+use Rattle.core_eval.proofs.LongBlocks.{kept_grown}
 use Rattle.core_eval.proofs.Born.{reached_there, kept_shows, heap_changed, region_changed, region_shows, born_agrees}
 use Rattle.core_eval.proofs.Changes.{stored_in, with_stored}
 use Rattle.core_eval.proofs.Laid.{live_is}
@@ -44,18 +47,22 @@ same_there [] n held e = refl
 same_there (r ∷ regions) zero held e = ap (λ o. o ∷ regions) (sym e)
 same_there (r ∷ regions) (suc n) held e = ap (λ l. r ∷ l) (same_there regions n held e)
 
-pub ungrown : (stored : Stored) (d : ℕ) (block : List Slot) → born_objects stored d ≡ None → grown stored d block ≡ stored
-ungrown stored zero block none = cc
-ungrown stored (suc n) block none =
-    ap (λ (rs : Regions). record stored { regions = rs }) (by (region_at stored.regions n) refl none)
+pub ungrown : (stored : Stored) (d : ℕ) (l : code.Layout) (count : ℕ) → born_objects stored d ≡ None → grown stored d l count ≡ stored
+ungrown stored zero l count none = cc
+ungrown stored (suc n) l count none =
+    ap (λ (held : Option (List (List Slot))). record stored {
+      regions = grown_region stored.regions n (block_cells false l count);
+      long_blocks = grown_long stored.long_blocks n l count held;
+    }) none
+    ∙ ap (λ (rs : Regions). record stored { regions = rs }) (by (region_at stored.regions n) refl none)
   where
     within : (kept : Kept) (b : Bool) → (if b then Some kept.objects else None) ≡ None
-        → (if b then with_blocks kept (kept.objects ++ block ∷ []) else kept) ≡ kept
+        → (if b then with_blocks kept (kept.objects ++ block_cells false l count ∷ []) else kept) ≡ kept
     within kept true e = cc
     within kept false e = refl
 
     by : (held : Option Kept) → region_at stored.regions n ≡ held → open_objects held ≡ None
-        → slice_set stored.regions n (grown_held block held) ≡ stored.regions
+        → slice_set stored.regions n (grown_held (block_cells false l count) held) ≡ stored.regions
     by None at e = same_there stored.regions n None at
     by (Some kept) at e =
         ap (λ (k : Kept). slice_set stored.regions n (Some k)) (within kept (is_open kept.standing) e) ∙ same_there stored.regions n (Some kept) at
@@ -80,36 +87,51 @@ module _ (known : Known) (ws : List Wait) (marks : List Mark) (c : Config) (h : 
       (subst (λ (os : List (List Slot)). Shows c.memory (Born 0) os) same h.globals, h.born.heap ∙ ap length same)
   born_there (suc n) objects has =
       let is = reached_there known.regions n objects has in
-      let shows = region_shows c.memory c.memory known.globals known.regions h.born n is.kept is.there in (
+      let shows = region_shows c.memory c.memory known.globals known.regions known.long_blocks h.born n is.kept is.there in (
         subst (λ (os : List (List Slot)). Shows c.memory (Born (suc n)) os) (sym is.same) (kept_shows c.memory (Born (suc n)) is.kept shows is.opens),
         shows.counted ∙ ap length (sym is.same),
       )
 
   -- with a block more
-  pub grown_agrees : (d : ℕ) (objects : List (List Slot)) → born_objects (stored_in known) d ≡ Some objects → (o : ℕ → ℕ → Option Part) (block : List Slot)
-      → ((k j : ℕ) → o k j ≡ part_in (slice_get block k) j)
-      → Agrees (with_stored known (grown (stored_in known) d block)) ws marks (with_memory (with_object c.memory (Born d) o) c)
-  grown_agrees zero objects has o block parts =
+  pub grown_agrees : (d : ℕ) (objects : List (List Slot)) → born_objects (stored_in known) d ≡ Some objects → (l : code.Layout) (count : ℕ)
+      → Agrees (with_stored known (grown (stored_in known) d l count)) ws marks
+      (with_memory (with_object c.memory (Born d) (blanks (layout_tree l) count)) c)
+  grown_agrees zero objects has l count =
       let m = c.memory in
+      let o = blanks (layout_tree l) count in
+      let block = block_cells false l count in
+      let parts = block_parts l count in
       let m' = with_object m (Born 0) o in
-      born_agrees known ws marks c h m' (object_keeps m 0 o) (known.globals ++ block ∷ []) known.regions (shows_grown h.globals h.born.heap o block parts)
-      (heap_changed m m' known.globals known.regions h.born (object_others m 0 o) refl (known.globals ++ block ∷ [])
+      born_agrees known ws marks c h m' (object_keeps m 0 o) (known.globals ++ block ∷ []) known.regions known.long_blocks (shows_grown h.globals h.born.heap o block parts)
+      (heap_changed m m' known.globals known.regions known.long_blocks h.born (object_others m 0 o) refl (known.globals ++ block ∷ [])
       (one_counted m (Born 0) o known.globals block h.born.heap))
-  grown_agrees (suc n) objects has o block parts =
+  grown_agrees (suc n) objects has l count =
       let m = c.memory in
+      let o = blanks (layout_tree l) count in
+      let block = block_cells false l count in
+      let parts = block_parts l count in
       let m' = with_object m (Born (suc n)) o in
       let is = reached_there known.regions n objects has in
-      let was = region_shows c.memory c.memory known.globals known.regions h.born n is.kept is.there in
+      let was = region_shows c.memory c.memory known.globals known.regions known.long_blocks h.born n is.kept is.there in
       let shows = shows_grown (kept_shows m (Born (suc n)) is.kept was is.opens) was.counted o block parts in
       let more : Kept = with_blocks is.kept (is.kept.objects ++ block ∷ []) in
+      let counted : m.objects (Born (suc n)) ≡ length objects = was.counted ∙ ap length (sym is.same) in
+      let none : (k : ℕ) → m.parts (spot_of (Born (suc n)) (length objects) k) 0 ≡ None =
+      λ k. was.holds (length objects) k 0
+      ∙ ap (λ o. part_in (cell_in o k) 0) (get_past is.kept.objects (length objects) (let e = ap length is.same in omega (arith, e))) in
+      let longs : List LongBlock = with_long_block known.long_blocks n (length objects) l count in
       subst
-      (λ (held : Option Kept). Agrees (record known { regions = slice_set known.regions n held }) ws marks (with_memory m' c))
+      (λ (bs : List LongBlock). Agrees (record known { regions = grown_region known.regions n block; long_blocks = bs }) ws marks (with_memory m' c))
+      (sym (ap (grown_long known.long_blocks n l count) has))
+      (subst
+      (λ (held : Option Kept). Agrees (record known { regions = slice_set known.regions n held; long_blocks = longs }) ws marks (with_memory m' c))
       (sym (ap (λ o. grown_held block (still_held o)) is.there
       ∙ ap (λ b. Some (if b then with_blocks is.kept (is.kept.objects ++ block ∷ []) else is.kept)) is.opens))
-      (born_agrees known ws marks c h m' (object_keeps m (suc n) o) known.globals (slice_set known.regions n (Some more))
+      (born_agrees known ws marks c h m' (object_keeps m (suc n) o) known.globals (slice_set known.regions n (Some more)) longs
       (shows_object h.globals (Born (suc n)) (other_number 0 (suc n) (omega arith)) o)
-      (region_changed m m' known.globals known.regions h.born n (object_others m (suc n) o) (Some more) (Some is.kept) is.there
-      (record { standing = was.standing; holds = shows.holds; counted = one_counted m (Born (suc n)) o is.kept.objects block was.counted })))
+      (region_changed m m' known.globals known.regions known.long_blocks h.born n (object_others m (suc n) o) (Some more) (Some is.kept) is.there
+      (record { standing = was.standing; holds = shows.holds; counted = one_counted m (Born (suc n)) o is.kept.objects block was.counted })
+      longs (kept_grown m known.long_blocks h.born.kept n (length objects) counted none l count))))
 
 -- ---- moves
 
@@ -142,7 +164,7 @@ module _ (known : Known) (ws : List Wait) (x : ℕ) (u : Value) (read : content_
 
     -- what is known then
     abbrev pub with_more : Known
-    with_more = with_stored known (grown (stored_in known) d (block_cells false l count))
+    with_more = with_stored known (grown (stored_in known) d l count)
 
     block_placed : (temps : List Value) (p : Place) (held : Option (List (List Slot))) → born_objects (stored_in known) d ≡ held
         → option_map (λ objects. block_place d (length objects)) held ≡ Some p → Gives t (content_of (value.Pointer p)) known.temps temps
@@ -163,7 +185,7 @@ module _ (known : Known) (ws : List Wait) (x : ℕ) (u : Value) (read : content_
         agrees_given with_more temps ws t (Pointer (first_spot c.memory (Born d)) 0)
         (subst (λ (w : Content). Gives t w known.temps temps) leads gives) marks
         (with_memory (with_object c.memory (Born d) (blanks tree count)) c)
-        (grown_agrees known ws marks c h d objects has (blanks tree count) (block_cells false l count) (block_parts l count)))
+        (grown_agrees known ws marks c h d objects has l count))
 
     pub allocate_moves : (temps : List Value) (p : Place) → next_place (stored_in known) d ≡ Some p → Gives t (content_of (value.Pointer p)) known.temps temps
         → IsMove (Execute (core.Do (core.RegionAlloc t x y tree))) ws known (Go (Leave steps.Falls)) ws (given with_more temps)

@@ -46,6 +46,7 @@ use Rattle.core_eval.specs.declared.memory.Memory.{Memory}
 use Rattle.core_eval.specs.declared.value.Slot.{Slot}
 use Rattle.core_eval.specs.Values.{content_of, temp_of, cells_of, is_kept, value_of}
 use Rattle.core_eval.specs.Regions.{held_region}
+use Rattle.core_eval.specs.LongBlocks.{long_block_of}
 use Rattle.core_eval.specs.Blocks.{Activation, Stored, Descends, AreOrdered, activation_of, slot_in, local_slot, put_local, stored_of, put_to}
 use Rattle.core_eval.specs.Pendings.{Task, Execute, Leave, Wait, Next, Go, Wrong, next_of}
 use Rattle.core_eval.specs.Standing.{Known, Gives, known_of}
@@ -136,24 +137,24 @@ value_there m p d cell byte slot r o further later there read is =
 -- what is known after a store
 pub stored_known : (f : Frame) (m m' : Memory) → m'.entered ≡ m.entered → m'.called ≡ m.called
     → known_of f m' ≡ with_stored (known_of f m) (stored_of m')
-stored_known f m m' entered called = known_same (known_of f m') _ refl refl refl entered refl called refl refl
+stored_known f m m' entered called = known_same (known_of f m') _ refl refl refl entered refl called refl refl refl
 
 unstored_known : (f : Frame) (m m' : Memory) → stored_of m' ≡ stored_of m → m'.entered ≡ m.entered → m'.called ≡ m.called → known_of f m' ≡ known_of f m
 unstored_known f m m' same entered called = stored_known f m m' entered called ∙ ap (with_stored (known_of f m)) same
 
 -- what is stored where a block's locals alone changed
 blocks_known : (f : Frame) (m m' : Memory) → m'.entered ≡ m.entered → m'.owns ≡ m.owns → m'.called ≡ m.called → m'.globals ≡ m.globals
-    → m'.regions ≡ m.regions → known_of f m' ≡ record (known_of f m) { blocks = map activation_of m'.blocks.items }
-blocks_known f m m' entered owns called globals regions =
+    → m'.regions ≡ m.regions → m'.long_blocks ≡ m.long_blocks → known_of f m' ≡ record (known_of f m) { blocks = map activation_of m'.blocks.items }
+blocks_known f m m' entered owns called globals regions long_blocks =
     known_same (known_of f m') _ refl refl refl entered (ap (λ os. map activation_of os.items) owns) called
-    (ap (λ gs. map cells_of gs.items) globals) (ap (λ rs. map held_region rs.items) regions)
+    (ap (λ gs. map cells_of gs.items) globals) (ap (λ rs. map held_region rs.items) regions) (ap (λ bs. map long_block_of bs.items) long_blocks)
 
 -- what is stored where regions that were born alone changed
 pub regions_known : (f : Frame) (m m' : Memory) → m'.blocks ≡ m.blocks → m'.entered ≡ m.entered → m'.owns ≡ m.owns → m'.called ≡ m.called
-    → m'.globals ≡ m.globals → known_of f m' ≡ record (known_of f m) { regions = map held_region m'.regions.items }
-regions_known f m m' blocks entered owns called globals =
+    → m'.globals ≡ m.globals → m'.long_blocks ≡ m.long_blocks → known_of f m' ≡ record (known_of f m) { regions = map held_region m'.regions.items }
+regions_known f m m' blocks entered owns called globals long_blocks =
     known_same (known_of f m') _ refl refl (ap (λ bs. map activation_of bs.items) blocks) entered (ap (λ os. map activation_of os.items) owns) called
-    (ap (λ gs. map cells_of gs.items) globals) refl
+    (ap (λ gs. map cells_of gs.items) globals) refl (ap (λ bs. map long_block_of bs.items) long_blocks)
 
 -- what a store answers
 abbrev stored_if : {A : Type 0} → Bool → A → Option A
@@ -164,21 +165,22 @@ module _ (f : Frame) (m m' : Memory) (x : ℕ) (v : Value) (is_there : Bool) (re
   abbrev blocks_of : Memory → List Activation
   blocks_of m = map activation_of m.blocks.items
 
-  module _ (owns : m'.owns ≡ m.owns) (globals : m'.globals ≡ m.globals) (regions : m'.regions ≡ m.regions) (out i : ℕ) (w : Width)
+  module _ (owns : m'.owns ≡ m.owns) (globals : m'.globals ≡ m.globals) (regions : m'.regions ≡ m.regions)
+      (long_blocks : m'.long_blocks ≡ m.long_blocks) (out i : ℕ) (w : Width)
       (put : put_local f.base (blocks_of m) out i w v ≡ stored_if is_there (blocks_of m')) where
     pub put_answer : is_there ≡ true
         → IsMove (Execute (core.Do (core.Put out i (bytes_of w) x))) ws (known_of f m) (Go (Leave steps.Falls)) ws (known_of f m')
     put_answer stored =
         move_as _ ws (known_of f m) (Go (Leave steps.Falls)) _ ws (record (known_of f m) { blocks = blocks_of m' }) (known_of f m')
-        refl (blocks_known f m m' entered owns called globals regions)
+        refl (blocks_known f m m' entered owns called globals regions long_blocks)
         (put_moves (known_of f m) ws x v read out i w (blocks_of m') (put ∙ ap (λ b. stored_if b (blocks_of m')) stored))
 
-  pub unput_answer : m'.owns ≡ m.owns → m'.globals ≡ m.globals → m'.regions ≡ m.regions → (out i : ℕ) (w : Width) → blocks_of m' ≡ blocks_of m
+  pub unput_answer : m'.owns ≡ m.owns → m'.globals ≡ m.globals → m'.regions ≡ m.regions → m'.long_blocks ≡ m.long_blocks → (out i : ℕ) (w : Width) → blocks_of m' ≡ blocks_of m
       → value_of 0 0 w (local_slot f.base (blocks_of m') out i) ≡ None
       → IsMove (Execute (core.Do (core.Put out i (bytes_of w) x))) ws (known_of f m) Wrong ws (known_of f m')
-  unput_answer owns globals regions out i w same missing =
+  unput_answer owns globals regions long_blocks out i w same missing =
       move_as _ ws (known_of f m) Wrong _ ws (known_of f m) (known_of f m') refl
-      (blocks_known f m m' entered owns called globals regions ∙ ap (λ bs. record (known_of f m) { blocks = bs }) same)
+      (blocks_known f m m' entered owns called globals regions long_blocks ∙ ap (λ bs. record (known_of f m) { blocks = bs }) same)
       (put_wrong (known_of f m) ws x v read out i w (ap (λ bs. value_of 0 0 w (local_slot f.base bs out i)) (sym same) ∙ missing))
 
   module _ (y : ℕ) (u : Value) (place : content_of u ≡ temp_of f.temps.items y) (p : Place) (is_place : u ≡ value.Pointer p) (d : Distance) (cell byte : ℕ)

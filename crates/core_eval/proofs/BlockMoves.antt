@@ -183,8 +183,8 @@ module _ (known : Known) (ws : List Wait) (locals : List code.Local) where
             (λ k objects below shows. still (Own k) objects refl shows) h.owned;
         called = h.called ∙ sym calls;
         values_live = λ k gone. ap is_live (standing_same (Frame a) ls (begun m) (Own k)) ∙ h.values_live k gone;
-        born = born_kept (begun m) m' known.globals known.regions
-            (born_kept m (begun m) known.globals known.regions h.born
+        born = born_kept (begun m) m' known.globals known.regions known.long_blocks
+            (born_kept m (begun m) known.globals known.regions known.long_blocks h.born
             (record { births = refl; standing = λ d. refl; objects = λ d. refl; parts = λ d i k j. refl }))
             (objects_keep (Frame a) ls (begun m) (λ d. refl));
       }
@@ -208,7 +208,7 @@ left_goes : (exit : Exit) (ws : List Wait) (known : Known) (blocks : List Activa
     → Holds c.temps known.temps → IsFresh c.memory → Shows c.memory (Born 0) known.globals → known.entered ≡ c.memory.activations
     → AreAllLive c.memory blocks → AreNested c.memory c.memory.activations c.blocks known.base blocks (Block ∷ ws) marks
     → AreOwned c.memory c.memory.calls c.own known.owns (Block ∷ ws) marks → known.called ≡ c.memory.calls → AreAllOwned c.memory known.owns
-    → AreBorn c.memory known.globals known.regions
+    → AreBorn c.memory known.globals known.regions known.long_blocks
     → Stands main (rest_of main (Block ∷ ws) marks exit c) (Go (Leave exit)) ws (record known { blocks = drop 1 blocks })
 left_goes exit ws known blocks is main [] c temps fresh globals entered live nested owned called values_live born = absurd nested
 left_goes exit ws known [] is main (mark ∷ marks) c temps fresh globals entered live nested owned called values_live born = absurd nested
@@ -227,7 +227,7 @@ left_goes exit ws known (b ∷ blocks) is main (mark ∷ marks) c temps fresh gl
           (λ k os less s. shows_standing s (Frame mark.number) refl Dead) owned;
       called = called;
       values_live = values_live;
-      born = born_kept c.memory m' known.globals known.regions born
+      born = born_kept c.memory m' known.globals known.regions known.long_blocks born
           (record { births = refl; standing = λ d. refl; objects = λ d. refl; parts = λ d i k j. refl });
     }) refl
   where

@@ -4,15 +4,17 @@ use Rattle.std.proofs.Common.{◌≡◌, ◌≢◌, ℕ, suc, Bool, true, false,
 use Rattle.std.proofs.lemmas.Bool.Decides.{nat_tests}
 use Rattle.std.proofs.lemmas.List.{length-set}
 use Rattle.core_meaning.specs.Memory.{Region, Frame, Own, Born, Memory, is_live}
+use Rattle.core_meaning.specs.Operations.{lies_at}
 use Rattle.core_meaning.specs.Steps.{Config, with_memory}
 use Rattle.core_eval.specs.declared.value.Slot.{Slot}
 use Rattle.core_eval.specs.declared.region.Standing.{Standing}
 use Rattle.core_eval.specs.declared.region.Standing.TheVariants as standing
 use Rattle.core_eval.specs.Values.{spot_of, Shows}
+use Rattle.core_eval.specs.LongBlocks.{LongBlock}
 use Rattle.core_eval.specs.Regions.{Kept, Regions, still_held, region_at, is_open, open_objects, live_at}
 use Rattle.core_eval.specs.Whole.{is_still}
 use Rattle.core_eval.specs.Pendings.{Wait, Mark}
-use Rattle.core_eval.specs.Standing.{Known, Agrees, ShowsKept, ShowsBlocks, AreBorn, standing_of}
+use Rattle.core_eval.specs.Standing.{Known, Agrees, ShowsKept, ShowsBlocks, AreKept, AreBorn, standing_of}
 use Rattle.core_eval.proofs.Lists.{get_set, get_grown, get_less}
 use Rattle.core_eval.proofs.Nested.{nested_still}
 use Rattle.core_eval.proofs.Owned.{owned_still}
@@ -114,8 +116,8 @@ module _ (m m' : Memory) (r : Region) (standing : m'.standing r ≡ m.standing r
     counted = objects ∙ s.counted;
   }
 
-module _ (m m' : Memory) (globals : List (List Slot)) (regions : Regions) (born : AreBorn m globals regions) where
-  pub born_kept : KeepsBorn m m' → AreBorn m' globals regions
+module _ (m m' : Memory) (globals : List (List Slot)) (regions : Regions) (long_blocks : List LongBlock) (born : AreBorn m globals regions long_blocks) where
+  pub born_kept : KeepsBorn m m' → AreBorn m' globals regions long_blocks
   born_kept keeps = record {
     births = keeps.births ∙ born.births;
     lexical = keeps.standing 0 ∙ born.lexical;
@@ -123,11 +125,12 @@ module _ (m m' : Memory) (globals : List (List Slot)) (regions : Regions) (born 
     each = λ n. blocks_same m m' (Born (suc n)) (keeps.standing (suc n)) (keeps.objects (suc n)) (keeps.parts (suc n)) (region_at regions n) (born.each n);
     empty = λ n le. keeps.objects (suc n) ∙ born.empty n le;
     missing = λ n i cell j le. keeps.parts (suc n) i cell j ∙ born.missing n i cell j le;
+    kept = λ n i k byte far. ap (λ p. lies_at p byte) (keeps.parts (suc n) i k 0) ∙ born.kept n i k byte far;
   }
 
   -- the heap alone changes
   pub heap_changed : KeepsOthers 0 m m' → m'.standing (Born 0) ≡ m.standing (Born 0) → (globals' : List (List Slot))
-      → m'.objects (Born 0) ≡ length globals' → AreBorn m' globals' regions
+      → m'.objects (Born 0) ≡ length globals' → AreBorn m' globals' regions long_blocks
   heap_changed keeps same globals' counted = record {
     births = keeps.births ∙ born.births;
     lexical = same ∙ born.lexical;
@@ -136,11 +139,12 @@ module _ (m m' : Memory) (globals : List (List Slot)) (regions : Regions) (born 
         (λ i k j. keeps.parts (suc n) i k j (omega arith)) (region_at regions n) (born.each n);
     empty = λ n le. keeps.objects (suc n) (omega arith) ∙ born.empty n le;
     missing = λ n i cell j le. keeps.parts (suc n) i cell j (omega arith) ∙ born.missing n i cell j le;
+    kept = λ n i k byte far. ap (λ p. lies_at p byte) (keeps.parts (suc n) i k 0 (omega arith)) ∙ born.kept n i k byte far;
   }
 
   -- another region alone changes
   module _ (n : ℕ) (keeps : KeepsOthers (suc n) m m') (held old : Option Kept) (at : slice_get regions n ≡ Some old)
-      (shows : ShowsBlocks m' (Born (suc n)) held) where
+      (shows : ShowsBlocks m' (Born (suc n)) held) (long_blocks' : List LongBlock) (kept : AreKept m' long_blocks') where
     each_changed : (q : ℕ) (b : Bool) → nat_eq q n ≡ b → ShowsBlocks m' (Born (suc q)) (if b then held else region_at regions q)
     each_changed q true e =
         let same : q ≡ n = grind (arith, nat_tests, e) in
@@ -150,7 +154,7 @@ module _ (m m' : Memory) (globals : List (List Slot)) (regions : Regions) (born 
         blocks_same m m' (Born (suc q)) (keeps.standing (suc q) other) (keeps.objects (suc q) other) (λ i k j. keeps.parts (suc q) i k j other)
         (region_at regions q) (born.each q)
 
-    pub region_changed : AreBorn m' globals (slice_set regions n held)
+    pub region_changed : AreBorn m' globals (slice_set regions n held) long_blocks'
     region_changed =
         let long = length-set regions n held in
         let less = get_less regions n old at in
@@ -161,6 +165,7 @@ module _ (m m' : Memory) (globals : List (List Slot)) (regions : Regions) (born 
           each = λ q. subst (ShowsBlocks m' (Born (suc q))) (sym (region_set regions n held old q at)) (each_changed q (nat_eq q n) refl);
           empty = λ q le. keeps.objects (suc q) (omega (arith, le, long, less)) ∙ born.empty q (omega (arith, le, long));
           missing = λ q i cell j le. keeps.parts (suc q) i cell j (omega (arith, le, long, less)) ∙ born.missing q i cell j (omega (arith, le, long));
+          kept = kept;
         }
 
   -- a region that isn't freed shows its blocks, and has so many
@@ -182,9 +187,9 @@ pub record KeepsFrames (m m' : Memory) : Type 0 where
 
 -- all is known where the blocks of regions alone change
 pub born_agrees : (known : Known) (ws : List Wait) (marks : List Mark) (c : Config) → Agrees known ws marks c → (m' : Memory) → KeepsFrames c.memory m'
-    → (globals : List (List Slot)) (regions : Regions) → Shows m' (Born 0) globals → AreBorn m' globals regions
-    → Agrees (record known { globals = globals; regions = regions }) ws marks (with_memory m' c)
-born_agrees known ws marks c h m' keeps globals regions shows born =
+    → (globals : List (List Slot)) (regions : Regions) (long_blocks : List LongBlock) → Shows m' (Born 0) globals → AreBorn m' globals regions long_blocks
+    → Agrees (record known { globals = globals; regions = regions; long_blocks = long_blocks }) ws marks (with_memory m' c)
+born_agrees known ws marks c h m' keeps globals regions long_blocks shows born =
     let m = c.memory in
     let a = keeps.activations in
     let f = keeps.calls in

@@ -10,6 +10,7 @@ use Rattle.core_eval.specs.Elements.{blank_object}
 use Rattle.core_eval.specs.declared.frame.Frame as frame_code
 use Rattle.core_eval.specs.declared.memory.Memory as memory_code
 use Rattle.core_eval.specs.Regions.{held_region}
+use Rattle.core_eval.specs.LongBlocks.{long_block_of}
 use Rattle.core_eval.specs.Blocks.{activation_of}
 use Rattle.core_eval.specs.Pendings.{Wait, Next, rest_of, returned_to}
 use Rattle.core_eval.specs.Standing.{Known, Stands, IsCall, known_of}
@@ -35,13 +36,13 @@ pub called_known : (f : frame_code.Frame) (m m' : memory_code.Memory) (g : frame
     → g.base ≡ length (map activation_of m.blocks.items)
     → m'.blocks ≡ m.blocks → m'.entered ≡ m.entered
     → map activation_of m'.owns.items ≡ record { number = m.called; objects = map blank_object locals } ∷ map activation_of m.owns.items
-    → m'.called ≡ m.called + 1 → m'.globals ≡ m.globals → m'.regions ≡ m.regions
+    → m'.called ≡ m.called + 1 → m'.globals ≡ m.globals → m'.regions ≡ m.regions → m'.long_blocks ≡ m.long_blocks
     → known_of g m' ≡ record (known_of f m) {
       temps = g.temps.items;
       base = length (map activation_of m.blocks.items);
       owns = record { number = m.called; objects = map blank_object locals } ∷ map activation_of m.owns.items;
       called = m.called + 1;
     }
-called_known f m m' g locals base blocks entered owns called globals regions =
+called_known f m m' g locals base blocks entered owns called globals regions long_blocks =
     known_same (known_of g m') _ refl base (ap (λ bs. map activation_of bs.items) blocks) entered owns called (ap (λ gs. map cells_of gs.items) globals)
-    (ap (λ rs. map held_region rs.items) regions)
+    (ap (λ rs. map held_region rs.items) regions) (ap (λ bs. map long_block_of bs.items) long_blocks)

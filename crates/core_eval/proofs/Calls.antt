@@ -18,6 +18,7 @@ use Rattle.core_eval.specs.Values.{content_of, Shows}
 use Rattle.core_eval.specs.Elements.{blank_object, first_object}
 use Rattle.core_eval.specs.declared.value.Slot.{Slot}
 use Rattle.core_eval.specs.Regions.{Regions}
+use Rattle.core_eval.specs.LongBlocks.{LongBlock}
 use Rattle.core_eval.specs.Blocks.{position_of}
 use Rattle.core_eval.specs.Pendings.{Follow, Wait, Caller, Go, Wrong, Mark, rest_of, coming, returned_to}
 use Rattle.core_eval.specs.Standing.{Known, IsFresh, Agrees, AreBorn, Stands, IsCall, first_known}
@@ -74,10 +75,11 @@ module _ (m : Memory) (locals : List local_code.Local) where
       shows_objects q (Own m.calls) objects other (map local_tree locals) called_in (record { live = s.live; holds = s.holds })
 
   -- nothing changes of what was born
-  born_after : (globals : List (List Slot)) (regions : Regions) → AreBorn m globals regions → AreBorn after_call globals regions
-  born_after globals regions born =
-      born_kept called_in after_call globals regions
-      (born_kept m called_in globals regions born (record { births = refl; standing = λ d. refl; objects = λ d. refl; parts = λ d i k j. refl }))
+  born_after : (globals : List (List Slot)) (regions : Regions) (long_blocks : List LongBlock) → AreBorn m globals regions long_blocks
+      → AreBorn after_call globals regions long_blocks
+  born_after globals regions long_blocks born =
+      born_kept called_in after_call globals regions long_blocks
+      (born_kept m called_in globals regions long_blocks born (record { births = refl; standing = λ d. refl; objects = λ d. refl; parts = λ d i k j. refl }))
       (objects_keep (Own m.calls) (map local_tree locals) called_in (λ d. refl))
 
 module _ (known : Known) (ws : List Wait) (marks : List Mark) (temps : List Value) (locals : List local_code.Local) where
@@ -165,7 +167,7 @@ module _ (functions : List code.Function) (results : List ℕ) (n : ℕ) (argume
             let apart : nat_eq k m.calls ≡ false = let e = h.called in grind (arith, nat_tests, other, e) in
             ap is_live (standing_same r ls (called_in m locals) (Own k) ∙ ap (λ b. if b then Live else m.standing (Own k)) apart)
             ∙ h.values_live k (not_later known.called k (position_of known.owns k) gone);
-        born = born_after m locals known.globals known.regions h.born;
+        born = born_after m locals known.globals known.regions known.long_blocks h.born;
       }
 
   abbrev call_step : Config → ℕ → List Mark → Option Function → Step
@@ -249,13 +251,14 @@ module _ (p : code_program.Program) where
             let other : nat_eq 0 k ≡ false = not_first 0 k None gone in
             let apart : nat_eq k 0 ≡ false = grind (arith, nat_tests, other) in
             ap is_live (standing_same (Own 0) ls (called_in begin_memory locals) (Own k) ∙ ap (λ b. if b then Live else Dead) apart);
-        born = born_after begin_memory locals (map first_object p.globals.items) [] (record {
+        born = born_after begin_memory locals (map first_object p.globals.items) [] [] (record {
           births = refl;
           lexical = refl;
           heap = length-map p.globals.items datum_tree ∙ sym (length-map p.globals.items first_object);
           each = λ n. refl;
           empty = λ n le. refl;
           missing = λ n i cell j le. refl;
+          kept = λ n i k byte far. refl;
         });
       }
 

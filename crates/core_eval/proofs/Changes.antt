@@ -2,6 +2,7 @@
 use Rattle.std.specs.Prelude.{if◌then◌else◌, slice_get, slice_set, ◌&&◌, nat_eq}
 use Rattle.std.proofs.Common.{◌≡◌, ℕ, suc, true, false, Option, Some, List, length, refl, ap, ◌∙◌, sym, subst, arith}
 use Rattle.core_meaning.specs.Memory.{Region, Frame, Own, Born, Spot, Part, Memory, same_region, with_part}
+use Rattle.core_meaning.specs.Operations.{lies_at}
 use Rattle.core_meaning.specs.Steps.{Config, with_memory}
 use Rattle.core_eval.specs.declared.value.Area.{Area}
 use Rattle.core_eval.specs.declared.value.Area.TheVariants as area
@@ -18,10 +19,10 @@ use Rattle.core_eval.proofs.Nested.{nested_still, nested_shows, nested_put, posi
 
 -- what is stored, of what is known
 abbrev pub stored_in : Known → Stored
-stored_in known = record { blocks = known.blocks; owns = known.owns; globals = known.globals; regions = known.regions }
+stored_in known = record { blocks = known.blocks; owns = known.owns; globals = known.globals; regions = known.regions; long_blocks = known.long_blocks }
 
 abbrev pub with_stored : Known → Stored → Known
-with_stored known after = record known { blocks = after.blocks; owns = after.owns; globals = after.globals; regions = after.regions }
+with_stored known after = record known { blocks = after.blocks; owns = after.owns; globals = after.globals; regions = after.regions; long_blocks = after.long_blocks }
 
 -- an area's objects are these, and afterwards those, and nothing else is stored in another way
 abbrev pub Replaces : Known → Area → (objects objects' : List (List Slot)) → Stored → Type 0
@@ -53,7 +54,7 @@ module _ (known : Known) (ws : List Wait) (marks : List Mark) (c : Config) (h : 
   replaced_shows area.Globals objects objects' after (same, is) = subst (λ (os : List (List Slot)). Shows c.memory (Born 0) os) (sym same) h.globals
   replaced_shows (area.Region n) objects objects' after (kept, at, opens, same, is) =
       subst (λ (os : List (List Slot)). Shows c.memory (Born (suc n)) os) (sym same)
-      (kept_shows c.memory (Born (suc n)) kept (region_shows c.memory c.memory known.globals known.regions h.born n kept at) opens)
+      (kept_shows c.memory (Born (suc n)) kept (region_shows c.memory c.memory known.globals known.regions known.long_blocks h.born n kept at) opens)
   replaced_shows (area.Block n) objects objects' after (p, b, at, there, same, is) =
       let (below, shows) = nested_shows c.memory c.memory.activations c.blocks known.base known.blocks ws marks p b h.nested there in
       subst (λ (os : List (List Slot)). Shows c.memory (Frame n) os) (sym same)
@@ -63,7 +64,8 @@ module _ (known : Known) (ws : List Wait) (marks : List Mark) (c : Config) (h : 
       subst (λ (os : List (List Slot)). Shows c.memory (Own n) os) (sym same)
       (subst (λ (k : ℕ). Shows c.memory (Own k) b.objects) (block_number known.owns n p b at there) shows)
 
-  module _ (parts' : Spot → ℕ → Option Part) where
+  -- where parts change, and none lies elsewhere
+  module _ (parts' : Spot → ℕ → Option Part) (lies : (t : Spot) (byte : ℕ) → lies_at (parts' t 0) byte ≡ lies_at (c.memory.parts t 0) byte) where
     -- the memory with other parts
     abbrev changed : Memory
     changed = record c.memory { parts = parts' }
@@ -109,18 +111,20 @@ module _ (known : Known) (ws : List Wait) (marks : List Mark) (c : Config) (h : 
         → ((i k j : ℕ) → parts' (spot_of (Born 0) i k) j ≡ part_in (slot_at objects' i k) j)
         → Agrees (record known { globals = objects' }) ws marks (with_memory changed c)
     globals_agree objects' long others shows =
-        born_agrees known ws marks c h changed (keeps_frames 0 others) objects' known.regions (record { live = h.globals.live; holds = shows })
-        (heap_changed c.memory changed known.globals known.regions h.born (keeps_others 0 others) refl objects' (h.born.heap ∙ sym long))
+        born_agrees known ws marks c h changed (keeps_frames 0 others) objects' known.regions known.long_blocks (record { live = h.globals.live; holds = shows })
+        (heap_changed c.memory changed known.globals known.regions known.long_blocks h.born (keeps_others 0 others) refl objects' (h.born.heap ∙ sym long))
 
     region_agrees : (n : ℕ) (kept : Kept) (objects' : List (List Slot)) → slice_get known.regions n ≡ Some (Some kept) → length objects' ≡ length kept.objects
         → ElsewhereThan (Born (suc n)) → ((i k j : ℕ) → parts' (spot_of (Born (suc n)) i k) j ≡ part_in (slot_at objects' i k) j)
         → Agrees (record known { regions = slice_set known.regions n (Some (with_blocks kept objects')) }) ws marks (with_memory changed c)
     region_agrees n kept objects' at long others shows =
-        let was = region_shows c.memory c.memory known.globals known.regions h.born n kept at in
+        let was = region_shows c.memory c.memory known.globals known.regions known.long_blocks h.born n kept at in
         born_agrees known ws marks c h changed (keeps_frames (suc n) others) known.globals (slice_set known.regions n (Some (with_blocks kept objects')))
+        known.long_blocks
         (shows_other (Born (suc n)) (Born 0) known.globals others (other_number 0 (suc n) (omega arith)) h.globals)
-        (region_changed c.memory changed known.globals known.regions h.born n (keeps_others (suc n) others) (Some (with_blocks kept objects'))
-        (Some kept) at (record { standing = was.standing; holds = shows; counted = was.counted ∙ sym long }))
+        (region_changed c.memory changed known.globals known.regions known.long_blocks h.born n (keeps_others (suc n) others) (Some (with_blocks kept objects'))
+        (Some kept) at (record { standing = was.standing; holds = shows; counted = was.counted ∙ sym long }) known.long_blocks
+        (λ n i k byte far. lies (spot_of (Born (suc n)) i k) byte ∙ h.born.kept n i k byte far))
 
     values_agree : (p : ℕ) (b : Activation) (objects' : List (List Slot)) → slice_get known.owns p ≡ Some b
         → ((t : Spot) (j : ℕ) → same_region t.region (Own b.number) ≡ false → parts' t j ≡ c.memory.parts t j)
@@ -147,7 +151,7 @@ module _ (known : Known) (ws : List Wait) (marks : List Mark) (c : Config) (h : 
           called = h.called;
           values_live = λ k gone.
               h.values_live k (sym (position_put known.owns p k b (record { number = b.number; objects = objects' }) at refl) ∙ gone);
-          born = born_kept c.memory changed known.globals known.regions h.born (keeps_born (Own b.number) (λ d. refl) others);
+          born = born_kept c.memory changed known.globals known.regions known.long_blocks h.born (keeps_born (Own b.number) (λ d. refl) others);
         }
 
     block_agrees : (p : ℕ) (b : Activation) (objects' : List (List Slot)) → slice_get known.blocks p ≡ Some b
@@ -174,7 +178,7 @@ module _ (known : Known) (ws : List Wait) (marks : List Mark) (c : Config) (h : 
               (λ k os less s. shows_other (Frame b.number) (Own k) os others refl s) h.owned;
           called = h.called;
           values_live = h.values_live;
-          born = born_kept c.memory changed known.globals known.regions h.born (keeps_born (Frame b.number) (λ d. refl) others);
+          born = born_kept c.memory changed known.globals known.regions known.long_blocks h.born (keeps_born (Frame b.number) (λ d. refl) others);
         }
 
     -- after a change of the area's objects all is known as it is stored

@@ -5,7 +5,7 @@ use Rattle.std.proofs.Math.Dec.{eqb-suc-zero}
 use Rattle.std.proofs.lemmas.Bool.{and_parts}
 use Rattle.std.proofs.lemmas.Bool.Decides.{nat_tests}
 use Rattle.core_meaning.specs.Memory.{Part, PartShape}
-use Rattle.core_meaning.specs.Operations.{content_from, begun}
+use Rattle.core_meaning.specs.Operations.{lies_at, content_from, begun}
 use Rattle.cyc_core.specs.declared.operation.Width.{Width}
 use Rattle.cyc_core.specs.declared.operation.Width.TheVariants as width
 use Rattle.cyc_core.specs.Trees.{bytes_of, padding_parts}
@@ -26,6 +26,18 @@ copied_by (Some p) (Some s) q = content_from p q
 abbrev pub cleared_by : Option Part → Option PartShape → Option Part
 cleared_by None s = None
 cleared_by (Some p) s = Some (begun p s)
+
+-- neither moves it
+pub copied_lies : (o : Option Part) (s : Option PartShape) (q : Option Part) (byte : ℕ) → lies_at (copied_by o s q) byte ≡ lies_at o byte
+copied_lies None s q byte = refl
+copied_lies (Some p) None q byte = refl
+copied_lies (Some p) (Some s) None byte = refl
+copied_lies (Some p) (Some s) (Some q) byte = refl
+
+pub cleared_lies : (o : Option Part) (s : Option PartShape) (byte : ℕ) → lies_at (cleared_by o s) byte ≡ lies_at o byte
+cleared_lies None s byte = refl
+cleared_lies (Some p) None byte = refl
+cleared_lies (Some p) (Some s) byte = refl
 
 -- ---- lists of parts
 

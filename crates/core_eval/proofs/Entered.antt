@@ -16,6 +16,7 @@ use Rattle.core_eval.specs.declared.pending.Due.{Due}
 use Rattle.core_eval.specs.Values.{cells_of}
 use Rattle.core_eval.specs.Elements.{blank_object}
 use Rattle.core_eval.specs.Regions.{held_region}
+use Rattle.core_eval.specs.LongBlocks.{long_block_of}
 use Rattle.core_eval.specs.Blocks.{activation_of}
 use Rattle.core_eval.specs.Pendings as specs
 use Rattle.core_eval.specs.Pendings.{Execute, Follow, Wait, Block, Breakable, Go, next_of}
@@ -37,14 +38,15 @@ pub block_answer : {E : Type 0} (r : Result Due E) (f : Frame) (m m' : Memory) (
     → IfOk r (λ due. next_of due ≡ Go (Follow body')) → OnOk r (ws' ≡ Block ∷ ws)
     → OnOk r (map activation_of m'.blocks.items ≡ record { number = m.entered; objects = map blank_object locals' } ∷ map activation_of m.blocks.items)
     → OnOk r (m'.entered ≡ m.entered + 1) → OnOk r (m'.owns ≡ m.owns) → OnOk r (m'.called ≡ m.called) → OnOk r (m'.globals ≡ m.globals)
-    → OnOk r (m'.regions ≡ m.regions)
+    → OnOk r (m'.regions ≡ m.regions) → OnOk r (m'.long_blocks ≡ m.long_blocks)
     → IfOk r (λ due. IsMove (Execute s) ws (known_of f m) (next_of due) ws' (known_of f m'))
-block_answer (Ok due) f m m' s locals locals' body body' ws ws' is same_locals same_body next waits blocks entered owns called globals regions =
+block_answer (Ok due) f m m' s locals locals' body body' ws ws' is same_locals same_body next waits blocks entered owns called globals regions long_blocks =
     let all : map activation_of m'.blocks.items ≡ record { number = m.entered; objects = map blank_object locals } ∷ map activation_of m.blocks.items =
     blocks ∙ ap (λ l. record { number = m.entered; objects = map blank_object l } ∷ map activation_of m.blocks.items) same_locals in
     let known : known_of f m' ≡ inside (known_of f m) ws locals =
     known_same (known_of f m') (inside (known_of f m) ws locals) refl refl all entered (ap (λ os. map activation_of os.items) owns) called
-    (ap (λ gs. map cells_of gs.items) globals) (ap (λ rs. map held_region rs.items) regions) in
+    (ap (λ gs. map cells_of gs.items) globals) (ap (λ rs. map held_region rs.items) regions)
+    (ap (λ bs. map long_block_of bs.items) long_blocks) in
     subst (λ (t : core.Statement). IsMove (Execute t) ws (known_of f m) (next_of due) ws' (known_of f m')) (sym is)
     (subst (λ (n : specs.Next). IsMove (Execute (core.Block (map local_tree locals) body)) ws (known_of f m) n ws' (known_of f m'))
     (sym (next ∙ ap (λ b. Go (Follow b)) same_body))
@@ -53,7 +55,7 @@ block_answer (Ok due) f m m' s locals locals' body body' ws ws' is same_locals s
     (subst (λ (k : standing.Known). IsMove (Execute (core.Block (map local_tree locals) body)) ws (known_of f m) (Go (Follow body)) (Block ∷ ws) k)
     (sym known)
     (block_enters (known_of f m) ws locals body))))
-block_answer (Err e) f m m' s locals locals' body body' ws ws' is same_locals same_body next waits blocks entered owns called globals regions = tt
+block_answer (Err e) f m m' s locals locals' body body' ws ws' is same_locals same_body next waits blocks entered owns called globals regions long_blocks = tt
 
 -- ---- a body that a break ends
 

@@ -1,23 +1,25 @@
 -- Pointers that lead further on, as Core does it.
 use Rattle.std.specs.Prelude.{if◌then◌else◌, ◌||◌, nat_lt}
 use Rattle.std.proofs.Common.{◌≡◌, ℕ, ◌+◌, ◌*◌, Bool, true, false, Option, Some, None, List, refl, ap, ◌∙◌, sym}
-use Rattle.core_meaning.specs.Memory.{Content, Pointer, Part, beyond, is_live}
+use Rattle.core_meaning.specs.Memory.{Frame, Own, Content, Pointer, Part, beyond, is_live}
 use Rattle.core_meaning.specs.Core as core
 use Rattle.core_meaning.specs.Steps as steps
 use Rattle.core_meaning.specs.Steps.{Config, with_temp, Step, stuck, word_of, pointer_of, checked}
 use Rattle.core_meaning.specs.Operations.{does, too_far, lies_at, reaches}
+use Rattle.core_eval.specs.declared.value.Area.{Area}
+use Rattle.core_eval.specs.declared.value.Area.TheVariants as area
 use Rattle.core_eval.specs.declared.value.Place.{Place}
 use Rattle.core_eval.specs.declared.value.Value.{Value}
 use Rattle.core_eval.specs.declared.value.Value.TheVariants as value
 use Rattle.core_eval.specs.declared.value.Slot.{Slot}
-use Rattle.core_eval.specs.Values.{region_of, place_spot, content_of, temp_of, part_in}
+use Rattle.core_eval.specs.Values.{region_of, spot_of, place_spot, content_of, temp_of, part_in}
 use Rattle.core_eval.specs.Blocks.{Stored, slot_in, is_there}
-use Rattle.core_eval.specs.Whole.{is_held}
-use Rattle.core_eval.specs.Leading.{place_on, may_lead, lead_on}
+use Rattle.core_eval.specs.Leading.{lies_far, recalls, place_on, may_lead, lead_on}
 use Rattle.core_eval.specs.Pendings.{Execute, Leave, Wait, Go, Wrong, Mark}
 use Rattle.core_eval.specs.Standing.{Known, Agrees, Gives}
 use Rattle.core_eval.specs.Costs.{IsMove}
 use Rattle.core_eval.proofs.Changes.{stored_in}
+use Rattle.core_eval.proofs.LongBlocks.{lies_is}
 use Rattle.core_eval.proofs.Moves.{goes_wrong}
 use Rattle.core_eval.proofs.OperationMoves.{IsNoWord, no_word, given, given_moves}
 use Rattle.core_eval.proofs.MemoryMoves.{AreInOrder, ordered, area_part}
@@ -25,20 +27,12 @@ use Rattle.core_eval.proofs.Laid.{held_part}
 
 -- ---- where a pointer may lead
 
-lies_is : (byte : ℕ) (o : Option Slot) → lies_at (part_in o 0) byte ≡ is_there byte o
-lies_is byte None = refl
-lies_is byte (Some s) = refl
-
 -- a part of a live region lies where a cell is
 live_lies : (live : Bool) (p : Option Part) (byte : ℕ) (o : Option Slot) → (if live then p else None) ≡ part_in o 0 → is_there byte o ≡ true
     → lies_at p byte ≡ true
 live_lies true p byte o same there = ap (λ q. lies_at q byte) same ∙ lies_is byte o ∙ there
 live_lies false p byte o same there =
     let lies : false ≡ true = ap (λ q. lies_at q byte) same ∙ lies_is byte o ∙ there in cc
-
-or_lies : (near : Bool) (lies there : Bool) → (there ≡ true → lies ≡ true) → (near || there) ≡ true → (near || lies) ≡ true
-or_lies true lies there h may = refl
-or_lies false lies there h may = h may
 
 -- the place that a pointer leads to, said in another way
 pub leads_as : (stored : Stored) (p : Place) (cells cells' bytes bytes' : ℕ) (o r : Option Place) → cells' ≡ cells → bytes' ≡ bytes
@@ -52,25 +46,50 @@ lead_step next None = stuck
 lead_step next (Some q) = next (content_of (value.Pointer q))
 
 module _ (known : Known) (ws : List Wait) (marks : List Mark) (c : Config) (h : Agrees known ws marks c) where
-  abbrev slot_there : Place → Option Slot
-  slot_there q = slot_in (stored_in known) q.area q.object q.cell
+  -- a part lies where a cell does
+  lies_there : (a : Area) (i k byte : ℕ) → recalls (stored_in known) a ≡ true → nat_lt byte too_far ≡ false
+      → lies_at (c.memory.parts (spot_of (region_of a) i k) 0) byte ≡ lies_far (stored_in known) a i k byte
+  lies_there area.Globals i k byte known_there far =
+      ap (λ p. lies_at p byte) (h.globals.holds i k 0) ∙ lies_is byte (slot_in (stored_in known) area.Globals i k)
+  lies_there (area.Region n) i k byte known_there far = h.born.kept n i k byte far
+  lies_there (area.Block n) i k byte held far =
+      ap (λ p. lies_at p byte) (held_part known ws marks c h (area.Block n) i k 0 held) ∙ lies_is byte (slot_in (stored_in known) (area.Block n) i k)
+  lies_there (area.Own n) i k byte held far =
+      ap (λ p. lies_at p byte) (held_part known ws marks c h (area.Own n) i k 0 held) ∙ lies_is byte (slot_in (stored_in known) (area.Own n) i k)
+
+  -- one does where a cell lies that is known of
+  there_lies : (a : Area) (i k byte : ℕ) → nat_lt byte too_far ≡ false → lies_far (stored_in known) a i k byte ≡ true
+      → lies_at (c.memory.parts (spot_of (region_of a) i k) 0) byte ≡ true
+  there_lies area.Globals i k byte far lies = lies_there area.Globals i k byte refl far ∙ lies
+  there_lies (area.Region n) i k byte far lies = lies_there (area.Region n) i k byte refl far ∙ lies
+  there_lies (area.Block n) i k byte far lies =
+      live_lies (is_live (c.memory.standing (Frame n))) (c.memory.parts (spot_of (Frame n) i k) 0) byte (slot_in (stored_in known) (area.Block n) i k)
+      (area_part known ws marks c h (area.Block n) i k 0) lies
+  there_lies (area.Own n) i k byte far lies =
+      live_lies (is_live (c.memory.standing (Own n))) (c.memory.parts (spot_of (Own n) i k) 0) byte (slot_in (stored_in known) (area.Own n) i k)
+      (area_part known ws marks c h (area.Own n) i k 0) lies
 
   may_reach : (q : Place) → may_lead (stored_in known) q ≡ true → reaches c.memory (place_spot q) q.byte ≡ true
-  may_reach q may =
-      or_lies (nat_lt q.byte too_far) (lies_at (c.memory.parts (place_spot q) 0) q.byte) (is_there q.byte (slot_there q))
-      (live_lies (is_live (c.memory.standing (region_of q.area))) (c.memory.parts (place_spot q) 0) q.byte (slot_there q)
-      (area_part known ws marks c h q.area q.object q.cell 0)) may
+  may_reach q may = by (nat_lt q.byte too_far) refl may
+    where
+      by : (near : Bool) → nat_lt q.byte too_far ≡ near → (near || lies_far (stored_in known) q.area q.object q.cell q.byte) ≡ true
+          → (near || lies_at (c.memory.parts (place_spot q) 0) q.byte) ≡ true
+      by true is may = refl
+      by false far lies = there_lies q.area q.object q.cell q.byte far lies
 
-  held_reach : (q : Place) → is_held (stored_in known) q.area ≡ true → reaches c.memory (place_spot q) q.byte ≡ may_lead (stored_in known) q
-  held_reach q held =
-      ap (λ b. nat_lt q.byte too_far || b)
-      (ap (λ p. lies_at p q.byte) (held_part known ws marks c h q.area q.object q.cell 0 held) ∙ lies_is q.byte (slot_there q))
+  recalled_reach : (q : Place) → recalls (stored_in known) q.area ≡ true → reaches c.memory (place_spot q) q.byte ≡ may_lead (stored_in known) q
+  recalled_reach q recalled = by (nat_lt q.byte too_far) refl
+    where
+      by : (near : Bool) → nat_lt q.byte too_far ≡ near
+          → (near || lies_at (c.memory.parts (place_spot q) 0) q.byte) ≡ (near || lies_far (stored_in known) q.area q.object q.cell q.byte)
+      by true is = refl
+      by false far = lies_there q.area q.object q.cell q.byte recalled far
 
   pub leads_there : (p : Place) (cells bytes : ℕ) (o : Option Place) → o ≡ lead_on (stored_in known) p cells bytes
-      → (o ≡ None → is_held (stored_in known) p.area ≡ true) → (next : Content → Step)
+      → (o ≡ None → recalls (stored_in known) p.area ≡ true) → (next : Content → Step)
       → checked (reaches c.memory (beyond (place_spot p) cells) (p.byte + bytes)) (next (Pointer (beyond (place_spot p) cells) (p.byte + bytes)))
       ≡ lead_step next o
-  leads_there p cells bytes o is held next = by (may_lead (stored_in known) (place_on p cells bytes)) refl
+  leads_there p cells bytes o is recalled next = by (may_lead (stored_in known) (place_on p cells bytes)) refl
     where
       step : Bool → Step
       step b = checked b (next (Pointer (beyond (place_spot p) cells) (p.byte + bytes)))
@@ -82,7 +101,7 @@ module _ (known : Known) (ws : List Wait) (marks : List Mark) (c : Config) (h : 
           → step (reaches c.memory (beyond (place_spot p) cells) (p.byte + bytes)) ≡ lead_step next o
       by true may = ap step (may_reach (place_on p cells bytes) may) ∙ ap (lead_step next) (sym (found true may))
       by false none =
-          ap step (held_reach (place_on p cells bytes) (held (found false none)) ∙ none) ∙ ap (lead_step next) (sym (found false none))
+          ap step (recalled_reach (place_on p cells bytes) (recalled (found false none)) ∙ none) ∙ ap (lead_step next) (sym (found false none))
 
 -- ---- operations
 
@@ -133,10 +152,10 @@ module _ (known : Known) (ws : List Wait) (o : core.Operation) (t : ℕ) (p : Pl
       leads marks c h next
       ∙ leads_there known ws marks c h p cells bytes (Some q) (is (ordered known ws marks c h)) (λ none. cc) (λ (u : Content). next (with_temp t u c)))
 
-  pub lead_wrong : (AreInOrder known → None ≡ lead_on (stored_in known) p cells bytes) → (AreInOrder known → is_held (stored_in known) p.area ≡ true)
+  pub lead_wrong : (AreInOrder known → None ≡ lead_on (stored_in known) p cells bytes) → (AreInOrder known → recalls (stored_in known) p.area ≡ true)
       → IsMove (Execute (core.Do o)) ws known Wrong ws known
-  lead_wrong is held =
+  lead_wrong is recalled =
       goes_wrong o ws known (λ marks c h next.
       leads marks c h next
-      ∙ leads_there known ws marks c h p cells bytes None (is (ordered known ws marks c h)) (λ none. held (ordered known ws marks c h))
+      ∙ leads_there known ws marks c h p cells bytes None (is (ordered known ws marks c h)) (λ none. recalled (ordered known ws marks c h))
       (λ (u : Content). next (with_temp t u c)))

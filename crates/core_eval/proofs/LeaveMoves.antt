@@ -184,7 +184,7 @@ module _ (known : Known) (ws : List Wait) where
               (λ k os less s. shows_standing s (Own mark.number) (other_number k mark.number (omega (arith, less, same))) Dead) others;
           called = h.called;
           values_live = λ k gone. ended k (nat_eq k mark.number) refl gone;
-          born = born_kept c.memory m' known.globals known.regions h.born
+          born = born_kept c.memory m' known.globals known.regions known.long_blocks h.born
               (record { births = refl; standing = λ d. refl; objects = λ d. refl; parts = λ d i k j. refl });
         }
       where

@@ -2,6 +2,7 @@ mod Lists
 mod Regions
 mod Parts
 mod Elements
+mod LongBlocks
 mod Positions
 mod Memories
 mod Nested

@@ -35,9 +35,10 @@ pub record RegionsAlone (m m' : Memory) : Type 0 where
   pub owns : m'.owns ≡ m.owns
   pub called : m'.called ≡ m.called
   pub globals : m'.globals ≡ m.globals
+  pub long_blocks : m'.long_blocks ≡ m.long_blocks
 
 pub alone_known : (f : Frame) (m m' : Memory) → RegionsAlone m m' → known_of f m' ≡ record (known_of f m) { regions = regions_of m' }
-alone_known f m m' alone = regions_known f m m' alone.blocks alone.entered alone.owns alone.called alone.globals
+alone_known f m m' alone = regions_known f m m' alone.blocks alone.entered alone.owns alone.called alone.globals alone.long_blocks
 
 -- what is done, or can't be
 pub done_answer : (due : Due) (f : Frame) (m m' : Memory) (o : core.Operation) (is_done : Bool) → next_of due ≡ (if is_done then Go (Leave steps.Falls) else Wrong)

@@ -94,7 +94,7 @@ module _ (known : Known) (ws : List Wait) (s : Standing) where
   with_birth = record known { regions = known.regions ++ Some (record { standing = s; objects = [] }) ∷ [] }
 
   -- the memory in which it is what it is
-  each_born : (m : Memory) → AreBorn m known.globals known.regions → (n : ℕ) (b : Bool) → nat_eq n (length known.regions) ≡ b
+  each_born : (m : Memory) → AreBorn m known.globals known.regions known.long_blocks → (n : ℕ) (b : Bool) → nat_eq n (length known.regions) ≡ b
       → ShowsBlocks (born (standing_of s) m) (Born (suc n)) (if b then Some (record { standing = s; objects = [] }) else region_at known.regions n)
   each_born m b n true e =
       let last : n ≡ length known.regions = grind (arith, nat_tests, e) in
@@ -134,7 +134,7 @@ module _ (known : Known) (ws : List Wait) (s : Standing) where
         own_objects = λ k. refl;
         own_parts = λ n i k j. refl;
       })
-      known.globals (known.regions ++ Some one ∷ []) (record { live = shows.live; holds = shows.holds })
+      known.globals (known.regions ++ Some one ∷ []) known.long_blocks (record { live = shows.live; holds = shows.holds })
       (record {
         births = omega (arith, births, long);
         lexical = ap (λ t. if t then standing_of s else m.standing (Born 0)) first ∙ b.lexical;
@@ -143,6 +143,7 @@ module _ (known : Known) (ws : List Wait) (s : Standing) where
             (each_born m b n (nat_eq n (length known.regions)) refl);
         empty = λ n le. b.empty n (omega (arith, le, long));
         missing = λ n i k j le. b.missing n i k j (omega (arith, le, long));
+        kept = b.kept;
       })
 
   -- an operation that gives a temporary the birth of a new region

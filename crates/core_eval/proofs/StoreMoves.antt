@@ -1,12 +1,14 @@
 -- What the evaluator stores to locals and globals, as Core does it.
-use Rattle.std.specs.Prelude.{if◌then◌else◌, slice_get, slice_set, option_map}
-use Rattle.std.proofs.Common.{◌≡◌, ℕ, ◌+◌, Bool, true, false, Option, Some, None, List, length, refl, ap, ◌∙◌, sym, arith}
+use Rattle.std.specs.Prelude.{if◌then◌else◌, ◌&&◌, nat_eq, slice_get, slice_set, option_map}
+use Rattle.std.proofs.Common.{◌≡◌, ℕ, ◌+◌, ◌*◌, Bool, true, false, Option, Some, None, List, length, refl, ap, ◌∙◌, sym, arith}
+use Rattle.std.proofs.lemmas.Bool.Decides.{nat_tests}
 use Rattle.std.proofs.lemmas.List.{length-set}
-use Rattle.core_meaning.specs.Memory.{Region, Frame, Content, Part, Memory, with_part}
+use Rattle.core_meaning.proofs.Spots.{spot_same}
+use Rattle.core_meaning.specs.Memory.{Region, Frame, Spot, Content, Part, Memory, same_spot, with_part}
 use Rattle.core_meaning.specs.Core as core
 use Rattle.core_meaning.specs.Steps as steps
 use Rattle.core_meaning.specs.Steps.{Config, with_memory, Step, stuck, needed, pointer_of}
-use Rattle.core_meaning.specs.Operations.{reached, at_once, local_spot, fitting}
+use Rattle.core_meaning.specs.Operations.{reached, at_once, local_spot, fitting, lies_at}
 use Rattle.cyc_core.specs.declared.operation.Width.{Width}
 use Rattle.cyc_core.specs.declared.operation.Width.TheVariants as width
 use Rattle.cyc_core.specs.declared.operation.Distance.{Distance}
@@ -22,6 +24,7 @@ use Rattle.core_eval.specs.Values.{
   spot_of,
   content_of,
   temp_of,
+  width_of,
   values_in,
   part_in,
   cell_in,
@@ -83,6 +86,25 @@ found_put byte j w s old v u next fit there is =
 -- Core's memory after a store
 abbrev stored : Memory → Region → (i k j : ℕ) → Slot → Value → Memory
 stored m r i k j s v = with_part m (spot_of r i k) j (valued_part s j v)
+
+-- no part lies elsewhere then
+stored_lies : {m : Memory} {r : Region} {objects : List (List Slot)} (shows : Shows m r objects) (i k j : ℕ) (v : Value) (cells : List Slot) (old : Slot)
+    → slice_get objects i ≡ Some cells → slice_get cells k ≡ Some old → (t : Spot) (byte : ℕ)
+    → lies_at ((stored m r i k j old v).parts t 0) byte ≡ lies_at (m.parts t 0) byte
+stored_lies {m} {r} {objects} shows i k j v cells old object there t byte = by (same_spot t (spot_of r i k)) (nat_eq 0 j) refl refl
+  where
+    by : (s first : Bool) → same_spot t (spot_of r i k) ≡ s → nat_eq 0 j ≡ first
+        → lies_at (if s && first then Some (valued_part old j v) else m.parts t 0) byte ≡ lies_at (m.parts t 0) byte
+    by false first is none = refl
+    by true false is none = refl
+    by true true is zero_th =
+        let at : t ≡ spot_of r i k = spot_same t (spot_of r i k) is in
+        let begins : old.offset + j * bytes_of (width_of old.held) ≡ old.offset =
+        (let none : j ≡ 0 = grind (arith, nat_tests, zero_th) in
+        ap (λ (x : ℕ). old.offset + x * bytes_of (width_of old.held)) none ∙ omega arith) in
+        ap (λ (x : ℕ). nat_eq x byte) begins
+        ∙ sym (ap (λ (u : Spot). lies_at (m.parts u 0) byte) at
+        ∙ ap (λ p. lies_at p byte) (shows.holds i k 0 ∙ ap (λ o. part_in (cell_in o k) 0) object ∙ ap (λ o. part_in o 0) there))
 
 -- what a store does where the region shows the cell
 store_is : {m : Memory} {r : Region} {objects objects' : List (List Slot)} (shows : Shows m r objects) (i k b cells bytes j : ℕ) (w : Width) (v : Value)
@@ -234,7 +256,10 @@ module _ (known : Known) (ws : List Wait) (x : ℕ) (v : Value) (read : content_
       → Agrees known ws marks c
       → Agrees (with_stored known after) ws marks (after_put c (region_of a) i k j is.put.old (fitted w v))
   stored_agrees a i k byte j w after is marks c h =
-      replaced_agrees known ws marks c h (stored c.memory (region_of a) i k j is.put.old (fitted w v)).parts a is.objects is.objects' after is.replaces
+      replaced_agrees known ws marks c h (stored c.memory (region_of a) i k j is.put.old (fitted w v)).parts
+      (stored_lies (replaced_shows known ws marks c h a is.objects is.objects' after is.replaces) i k j (fitted w v) is.put.cells is.put.old
+      is.put.object is.put.there)
+      a is.objects is.objects' after is.replaces
       (ap length is.put.after ∙ length-set is.objects i (slice_set is.put.cells k (with_held is.put.old is.put.holds)))
       (λ t x other. part_elsewhere c.memory (region_of a) i k j (valued_part is.put.old j (fitted w v)) t x other)
       (λ y z x.

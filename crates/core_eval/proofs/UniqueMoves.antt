@@ -19,13 +19,13 @@ use Rattle.core_eval.specs.declared.value.Value.TheVariants as value
 use Rattle.core_eval.specs.declared.value.Slot.{Slot}
 use Rattle.core_eval.specs.Values.{region_of, spot_of, content_of, temp_of}
 use Rattle.core_eval.specs.Elements.{block_cells}
-use Rattle.core_eval.specs.Regions.{Kept, Regions, region_at, open_objects, grown_held, single_freed}
-use Rattle.core_eval.specs.Blocks.{grown}
+use Rattle.core_eval.specs.Regions.{Kept, Regions, region_at, open_objects, grown_held, grown_region, single_freed}
+use Rattle.core_eval.specs.LongBlocks.{with_long_block}
+use Rattle.core_eval.specs.Blocks.{grown_long, grown}
 use Rattle.core_eval.specs.Pendings.{Execute, Leave, Wait, Go, Wrong, Mark}
 use Rattle.core_eval.specs.Standing.{Known, Agrees, Gives}
 use Rattle.core_eval.specs.Costs.{IsMove}
 use Rattle.core_eval.proofs.Memories.{same_number}
-use Rattle.core_eval.proofs.Elements.{block_parts}
 use Rattle.core_eval.proofs.Born.{region_grown}
 use Rattle.core_eval.proofs.Changes.{stored_in, with_stored}
 use Rattle.core_eval.proofs.Moves.{Becomes, becomes_saying, goes_wrong}
@@ -49,16 +49,24 @@ module _ (known : Known) (ws : List Wait) (t : ℕ) (l : code.Layout) where
 
   -- what is known then
   abbrev pub with_unique : Known
-  with_unique = record known { regions = known.regions ++ lone (block_cells false l 1 ∷ []) ∷ [] }
+  with_unique = record known {
+    regions = known.regions ++ lone (block_cells false l 1 ∷ []) ∷ [];
+    long_blocks = with_long_block known.long_blocks (length known.regions) 0 l 1;
+  }
 
   empty_there : region_at (known.regions ++ lone [] ∷ []) (length known.regions) ≡ lone []
   empty_there =
       region_grown known.regions (lone []) (length known.regions)
       ∙ ap (λ b. if b then lone [] else region_at known.regions (length known.regions)) (same_number (length known.regions))
 
-  grown_last : grown (stored_in (with_birth known ws standing.Single)) (suc (length known.regions)) (block_cells false l 1) ≡ stored_in with_unique
+  grown_last : grown (stored_in (with_birth known ws standing.Single)) (suc (length known.regions)) l 1 ≡ stored_in with_unique
   grown_last =
-      ap (λ (rs : Regions). record (stored_in known) { regions = rs })
+      let n = length known.regions in
+      ap (λ (held : Option Kept). record (stored_in known) {
+        regions = grown_region (known.regions ++ lone [] ∷ []) n (block_cells false l 1);
+        long_blocks = grown_long known.long_blocks n l 1 (open_objects held);
+      }) empty_there
+      ∙ ap (λ (rs : Regions). record (stored_in known) { regions = rs; long_blocks = with_long_block known.long_blocks n 0 l 1 })
       (ap (λ held. slice_set (known.regions ++ lone [] ∷ []) (length known.regions) (grown_held (block_cells false l 1) held)) empty_there
       ∙ set_last known.regions (lone []) (lone (block_cells false l 1 ∷ [])))
 
@@ -70,7 +78,7 @@ module _ (known : Known) (ws : List Wait) (t : ℕ) (l : code.Layout) where
   unique_agrees marks c h =
       let empty = birth_agrees known ws standing.Single marks c h in
       let whole = grown_agrees (with_birth known ws standing.Single) ws marks (with_memory (born Single c.memory) c) empty (suc (length known.regions)) []
-      (ap open_objects empty_there) (blanks tree 1) (block_cells false l 1) (block_parts l 1) in
+      (ap open_objects empty_there) l 1 in
       subst (λ (d : ℕ). Agrees with_unique ws marks (with_memory (then_born c d) c)) (sym h.born.births)
       (subst (λ s. Agrees (with_stored known s) ws marks (with_memory (then_born c (suc (length known.regions))) c)) grown_last whole)
 

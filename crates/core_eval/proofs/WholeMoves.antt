@@ -41,6 +41,7 @@ use Rattle.core_meaning.specs.Operations.{
   copied,
   in_element,
   cleared,
+  lies_at,
 }
 use Rattle.cyc_core.specs.declared.layout.CellLayout.{CellLayout}
 use Rattle.cyc_core.specs.declared.layout.Layout as code
@@ -86,7 +87,7 @@ use Rattle.core_eval.proofs.Changes.{stored_in, with_stored, Replaces, replaced_
 use Rattle.core_eval.proofs.MemoryMoves.{AreInOrder, ordered, same_regions}
 use Rattle.core_eval.proofs.Laid.{held_part, laid_is, elements_is}
 use Rattle.core_eval.proofs.Filled.{filled_slot, fill_length, object_changed}
-use Rattle.core_eval.proofs.CopiedParts.{copied_by, cleared_by}
+use Rattle.core_eval.proofs.CopiedParts.{copied_by, cleared_by, copied_lies, cleared_lies}
 use Rattle.core_eval.proofs.WholeParts.{
   copied_part,
   cleared_part,
@@ -171,6 +172,7 @@ module _ (known : Known) (ws : List Wait) (marks : List Mark) (c : Config) (h : 
     (held : is_held (stored_in known) p.area ≡ true)
     (change : Option ℕ → ℕ → Option Part → Option Part) (n : ℕ) (long : length vs ≡ n)
     (none : (j : ℕ) (o : Option Part) → change None j o ≡ o)
+    (lying : (q : Option ℕ) (j : ℕ) (o : Option Part) (byte : ℕ) → lies_at (change q j o) byte ≡ lies_at o byte)
     (some : (q j : ℕ) (v : Held) → slice_get vs q ≡ Some v
     → change (Some q) j (part_in (slots_of (stored_in known) p (p.cell + q)) j) ≡ part_in (filled_slot (Some v) (slots_of (stored_in known) p (p.cell + q))) j) where
   change_agrees : (parts' : Spot → ℕ → Option Part) → ((t : Spot) (j : ℕ) → parts' t j ≡ change (cells_on n (place_spot p) t) j (c.memory.parts t j))
@@ -184,7 +186,9 @@ module _ (known : Known) (ws : List Wait) (marks : List Mark) (c : Config) (h : 
       λ q j v e. subst
       (λ (o : Option Slot). change (Some q) j (part_in o j) ≡ part_in (filled_slot (Some v) o) j)
       (replaced_slots known p.area objects (fill_in objects p.object p.cell vs) after replaces p.object (p.cell + q)) (some q j v e) in
-      replaced_agrees known ws marks c h parts' p.area objects (fill_in objects p.object p.cell vs) after replaces
+      replaced_agrees known ws marks c h parts'
+      (λ t byte. ap (λ part. lies_at part byte) (is t 0) ∙ lying (cells_on n (place_spot p) t) 0 (c.memory.parts t 0) byte)
+      p.area objects (fill_in objects p.object p.cell vs) after replaces
       (fill_length objects p.object p.cell vs)
       (λ t j other.
       is t j
@@ -260,6 +264,7 @@ module _ (known : Known) (ws : List Wait) (x : ℕ) (u : Value) (read : content_
         (λ k j o. copied_by o (part_of tree k j) (c.memory.parts (on_from (place_spot q) k) j))
         (length tree.cells) (values_long (slots_of (stored_in known) q) cs q.cell)
         (λ j o. unchanged o (c.memory.parts (place_spot q) j))
+        (λ k j o byte. copied_lies o (part_of tree k j) (c.memory.parts (on_from (place_spot q) k) j) byte)
         one
         (copied tree (place_spot p) (place_spot q) c.memory).parts
         (λ t j. copied_part tree c.memory (place_spot p) (place_spot q) t j (c.memory.parts t j)
@@ -339,6 +344,7 @@ module _ (known : Known) (ws : List Wait) (x : ℕ) (u : Value) (read : content_
         (count * length tree.cells)
         (first_long cs 0 count ∙ ap (λ n. count * n) (sym (length-map cs cell_parts)))
         (λ j o. unchanged o)
+        (λ k j o byte. cleared_lies o (part_of tree (in_element tree k) j) byte)
         one
         (cleared tree count (place_spot p) c.memory).parts
         (λ t j. cleared_part tree c.memory (place_spot p) count t j (c.memory.parts t j) refl)

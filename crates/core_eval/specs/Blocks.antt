@@ -25,6 +25,7 @@ use Rattle.std.specs.Prelude.{
   if◌then◌else◌,
 }
 use Rattle.cyc_core.specs.declared.operation.Width.{Width}
+use Rattle.cyc_core.specs.declared.layout.Layout.{Layout}
 use Rattle.core_eval.specs.declared.value.Area.{Area}
 use Rattle.core_eval.specs.declared.value.Area.TheVariants as area
 use Rattle.core_eval.specs.declared.value.Place.{Place}
@@ -34,6 +35,8 @@ use Rattle.core_eval.specs.declared.value.Slot.{Slot}
 use Rattle.core_eval.specs.declared.blocks.Block.{Block}
 use Rattle.core_eval.specs.declared.memory.Memory.{Memory}
 use Rattle.core_eval.specs.Values.{cells_of, slot_at, null_of, put_in, same_cell}
+use Rattle.core_eval.specs.Elements.{block_cells}
+use Rattle.core_eval.specs.LongBlocks.{LongBlock, long_block_of, with_long_block}
 use Rattle.core_eval.specs.Regions.{Regions, held_region, live_at, slot_within, put_region, grown_region, block_place}
 
 -- the locals of a block that isn't left yet, and how many blocks were entered before it; or a function's unnamed values, and how many functions were called
@@ -76,13 +79,14 @@ slot_through blocks (Some position) i k = slot_among (slice_get blocks position)
 abbrev pub local_slot : ℕ → List Activation → (out index : ℕ) → Option Slot
 local_slot base blocks out index = slot_through blocks (own_position base blocks out) index 0
 
--- what is stored: the locals of all blocks, the unnamed values of all functions that are active, the globals with the heap's blocks behind them, and the blocks
--- of regions
+-- what is stored: the locals of all blocks, the unnamed values of all functions that are active, the globals with the heap's blocks behind them, the blocks of
+-- regions, and where the cells of long ones lie
 pub record Stored : Type 0 where
   pub blocks : List Activation
   pub owns : List Activation
   pub globals : List (List Slot)
   pub regions : Regions
+  pub long_blocks : List LongBlock
 
 abbrev pub stored_of : Memory → Stored
 stored_of m = record {
@@ -90,6 +94,7 @@ stored_of m = record {
   owns = map activation_of m.owns.items;
   globals = map cells_of m.globals.items;
   regions = map held_region m.regions.items;
+  long_blocks = map long_block_of m.long_blocks.items;
 }
 
 -- the numbers of blocks and of functions fall
@@ -188,7 +193,15 @@ born_objects stored (suc n) = live_at stored.regions n
 abbrev pub next_place : Stored → (birth : ℕ) → Option Place
 next_place stored d = option_map (λ objects. block_place d (length objects)) (born_objects stored d)
 
--- what is stored with a block more in a region
-abbrev pub grown : Stored → (birth : ℕ) → List Slot → Stored
-grown stored zero block = record stored { globals = stored.globals ++ block ∷ [] }
-grown stored (suc n) block = record stored { regions = grown_region stored.regions n block }
+-- where the cells of long blocks lie, with a block more in a region that has these objects
+abbrev pub grown_long : List LongBlock → ℕ → Layout → ℕ → Option (List (List Slot)) → List LongBlock
+grown_long blocks n l count None = blocks
+grown_long blocks n l count (Some objects) = with_long_block blocks n (length objects) l count
+
+-- what is stored with a block more in a region, of so many elements of a layout
+abbrev pub grown : Stored → (birth : ℕ) → Layout → ℕ → Stored
+grown stored zero l count = record stored { globals = stored.globals ++ block_cells false l count ∷ [] }
+grown stored (suc n) l count = record stored {
+  regions = grown_region stored.regions n (block_cells false l count);
+  long_blocks = grown_long stored.long_blocks n l count (live_at stored.regions n);
+}

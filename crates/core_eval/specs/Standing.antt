@@ -1,11 +1,12 @@
 -- When an evaluator's state stands for a step of Core.
-use Rattle.std.specs.Prelude.{◌≡◌, ℕ, suc, ◌<◌, ◌≤◌, Bool, true, false, Option, Some, None, List, [], ◌∷◌, length, map, drop}
+use Rattle.std.specs.Prelude.{◌≡◌, ℕ, suc, ◌<◌, ◌≤◌, Bool, true, false, Option, Some, None, List, [], ◌∷◌, length, map, drop, nat_lt}
 use Rattle.cyc_words.specs.Events.{ByteRead, ByteWritten}
 use Rattle.step_trees.specs.Trees.{Says}
 use Rattle.core_meaning.specs.Memory as memory
 use Rattle.core_meaning.specs.Memory.{Region, Born, Live, Single, Opened, Closed, Dead, Memory, Content, is_live}
 use Rattle.core_meaning.specs.Steps.{Config, set_temp, Event, Visible, Step}
 use Rattle.core_meaning.specs.Core.{Function}
+use Rattle.core_meaning.specs.Operations.{too_far, lies_at}
 use Rattle.core_meaning.specs.Meaning.{called}
 use Rattle.cyc_core.specs.declared.program.Datum.{Datum}
 use Rattle.cyc_core.specs.declared.layout.Local.{Local}
@@ -18,7 +19,9 @@ use Rattle.core_eval.specs.declared.region.Standing.TheVariants as standing
 use Rattle.core_eval.specs.Values.{spot_of, temp_of, cells_of, HasParts, Shows}
 use Rattle.core_eval.specs.Elements.{blank_object, first_object}
 use Rattle.core_eval.specs.Regions.{Kept, Regions, held_region, region_at}
+use Rattle.core_eval.specs.LongBlocks.{LongBlock, long_block_of}
 use Rattle.core_eval.specs.Blocks.{Activation, activation_of, position_of}
+use Rattle.core_eval.specs.Leading.{lies_among}
 use Rattle.core_eval.specs.Pendings.{Wait, Block, Caller, Next, Mark, rest_of, returned_to, coming}
 
 -- these temporaries hold these values
@@ -60,7 +63,7 @@ AreOwned m bound own owns (w ∷ ws) marks = AreOwned m bound own owns ws marks
 
 -- What an evaluator knows: the temporaries of the function that it is in, and how many blocks there are outside of that; the blocks of all functions that are
 -- active, the innermost first; how many blocks were entered so far; the unnamed values of all functions that are active, the innermost first; how many functions were
--- called so far; the globals, with the heap's blocks behind them; and the blocks of regions.
+-- called so far; the globals, with the heap's blocks behind them; the blocks of regions, and where the cells of long ones lie.
 pub record Known : Type 0 where
   pub temps : List Value
   pub base : ℕ
@@ -70,6 +73,7 @@ pub record Known : Type 0 where
   pub called : ℕ
   pub globals : List (List Slot)
   pub regions : Regions
+  pub long_blocks : List LongBlock
 
 -- a block that isn't among these is over, or was not entered as yet
 abbrev pub AreAllLive : Memory → List Activation → Type 0
@@ -97,14 +101,21 @@ abbrev pub ShowsBlocks : Memory → Region → Option Kept → Type 0
 ShowsBlocks m r None = m.standing r ≡ Dead
 ShowsBlocks m r (Some kept) = ShowsKept m r kept
 
+-- The cells of long blocks lie as they are kept, also where a region is closed or freed, and no other block has a cell so far on.
+abbrev pub AreKept : Memory → List LongBlock → Type 0
+AreKept m long_blocks =
+    (n i k byte : ℕ) → nat_lt byte too_far ≡ false
+    → lies_at (m.parts (spot_of (Born (suc n)) i k) 0) byte ≡ lies_among long_blocks n i k byte
+
 -- The heap is born first, and then as many regions as are known, each with its blocks. What was not born as yet has none.
-pub record AreBorn (m : Memory) (globals : List (List Slot)) (regions : Regions) : Type 0 where
+pub record AreBorn (m : Memory) (globals : List (List Slot)) (regions : Regions) (long_blocks : List LongBlock) : Type 0 where
   pub births : m.births ≡ suc (length regions)
   pub lexical : m.standing (Born 0) ≡ Live
   pub heap : m.objects (Born 0) ≡ length globals
   pub each : (n : ℕ) → ShowsBlocks m (Born (suc n)) (region_at regions n)
   pub empty : (n : ℕ) → length regions ≤ n → m.objects (Born (suc n)) ≡ 0
   pub missing : (n i cell j : ℕ) → length regions ≤ n → m.parts (spot_of (Born (suc n)) i cell) j ≡ None
+  pub kept : AreKept m long_blocks
 
 -- a state of Core is as the evaluator knows it
 pub record Agrees (known : Known) (ws : List Wait) (marks : List Mark) (c : Config) : Type 0 where
@@ -117,7 +128,7 @@ pub record Agrees (known : Known) (ws : List Wait) (marks : List Mark) (c : Conf
   pub owned : AreOwned c.memory c.memory.calls c.own known.owns ws marks
   pub called : known.called ≡ c.memory.calls
   pub values_live : AreAllOwned c.memory known.owns
-  pub born : AreBorn c.memory known.globals known.regions
+  pub born : AreBorn c.memory known.globals known.regions known.long_blocks
 
 -- events that were said, and then a step
 abbrev pub saying : List Event → Step → Step
@@ -182,6 +193,7 @@ known_of frame m = record {
   called = m.called;
   globals = map cells_of m.globals.items;
   regions = map held_region m.regions.items;
+  long_blocks = map long_block_of m.long_blocks.items;
 }
 
 -- the innermost function is left, and nothing else changes
@@ -192,6 +204,7 @@ pub record LeavesCall (m m' : code.Memory) : Type 0 where
   pub called : m'.called ≡ m.called
   pub globals : m'.globals ≡ m.globals
   pub regions : m'.regions ≡ m.regions
+  pub long_blocks : m'.long_blocks ≡ m.long_blocks
 
 -- A call whose unit is paid: each state that is known so goes on thus.
 abbrev pub IsCall : List Function → List ℕ → ℕ → List Content → List Wait → Known → Next → List Wait → Known → Type 0
@@ -212,4 +225,5 @@ first_known ds own = record {
   called = 1;
   globals = map first_object ds;
   regions = [];
+  long_blocks = [];
 }

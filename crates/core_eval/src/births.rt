@@ -1,11 +1,11 @@
 // Regions in what is stored: how they are born, become others and are freed, and get blocks.
 
-ghost use Rattle.std.specs.Prelude.{◌≡◌, ◌∷◌, ◌++◌, suc, [], Some, None, false, if◌then◌else◌, map, length, IfOk, OnOk};
+ghost use Rattle.std.specs.Prelude.{◌≡◌, ◌∷◌, ◌++◌, suc, [], Some, None, false, if◌then◌else◌, map, length, option_map, IfOk, OnOk};
 ghost use Rattle.core_eval.specs.Values.{cells_of};
-ghost use Rattle.core_eval.specs.Elements.{block_cells};
-ghost use Rattle.core_eval.specs.Regions.{held_region, single_freed, turned};
+ghost use Rattle.core_eval.specs.Regions.{held_region, live_at, single_freed, turned};
 ghost use Rattle.core_eval.specs.Blocks.{grown, next_place, stored_of};
 
+use crate::long_block::keep_block;
 use crate::memory::Memory;
 use crate::region::{self, Region, Standing};
 use crate::value::{Area, Object, Place};
@@ -27,6 +27,7 @@ impl Memory {
         ensures owns { OnOk result (self.new.owns ≡ self.old.owns) }
         ensures called { OnOk result (self.new.called ≡ self.old.called) }
         ensures globals { OnOk result (self.new.globals ≡ self.old.globals) }
+        ensures long_blocks { OnOk result (self.new.long_blocks ≡ self.old.long_blocks) }
     {
         self.regions.push(Region::Held(standing, objects))?;
         Ok(self.regions.len() as u64)
@@ -42,6 +43,7 @@ impl Memory {
         ensures owns { self.new.owns ≡ self.old.owns }
         ensures called { self.new.called ≡ self.old.called }
         ensures globals { self.new.globals ≡ self.old.globals }
+        ensures long_blocks { self.new.long_blocks ≡ self.old.long_blocks }
     {
         birth != 0 && region::turn(&mut self.regions, birth - 1, from, to)
     }
@@ -56,12 +58,35 @@ impl Memory {
         ensures owns { self.new.owns ≡ self.old.owns }
         ensures called { self.new.called ≡ self.old.called }
         ensures globals { self.new.globals ≡ self.old.globals }
+        ensures long_blocks { self.new.long_blocks ≡ self.old.long_blocks }
     {
         match area {
             Area::Region(number) => {
                 region::turn(&mut self.regions, number, Standing::Single, None)
             }
             Area::Globals | Area::Block(_) | Area::Own(_) => false,
+        }
+    }
+
+    /// The region with this number gets a block of so many elements of a layout, if it isn't freed or closed: how many it had before.
+    fn allocate_within(
+        &mut self,
+        alloc: Global,
+        number: u64,
+        layout: &Layout,
+        count: u32,
+    ) -> Result<Option<usize>, AllocError>
+        ensures before { IfOk result (λ before. before ≡ option_map length (live_at (map held_region self.old.regions.items) number)) }
+        ensures stored { OnOk result (stored_of self.new ≡ grown (stored_of self.old) (suc number) layout.now count) }
+        ensures entered { OnOk result (self.new.entered ≡ self.old.entered) }
+        ensures called { OnOk result (self.new.called ≡ self.old.called) }
+    {
+        match region::allocate(alloc, &mut self.regions, number, layout, count)? {
+            Some(object) => {
+                keep_block(alloc, &mut self.long_blocks, number, object, layout, count)?;
+                Ok(Some(object))
+            }
+            None => Ok(None),
         }
     }
 
@@ -75,14 +100,14 @@ impl Memory {
         count: u32,
     ) -> Result<Option<Place>, AllocError>
         ensures place { IfOk result (λ place. place ≡ next_place (stored_of self.old) birth) }
-        ensures stored { OnOk result (stored_of self.new ≡ grown (stored_of self.old) birth (block_cells false layout.now count)) }
+        ensures stored { OnOk result (stored_of self.new ≡ grown (stored_of self.old) birth layout.now count) }
         ensures entered { OnOk result (self.new.entered ≡ self.old.entered) }
         ensures called { OnOk result (self.new.called ≡ self.old.called) }
     {
         let (area, added) = match birth.checked_sub(1) {
             Some(number) => (
                 Area::Region(number),
-                region::allocate(alloc, &mut self.regions, number, layout, count)?,
+                self.allocate_within(alloc, number, layout, count)?,
             ),
             None => (
                 Area::Globals,

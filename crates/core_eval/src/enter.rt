@@ -127,6 +127,7 @@ fn enter_block<'p>(
     ensures called { OnOk result (memory.new.called ≡ memory.old.called) }
     ensures globals { OnOk result (memory.new.globals ≡ memory.old.globals) }
     ensures regions { OnOk result (memory.new.regions ≡ memory.old.regions) }
+    ensures long_blocks { OnOk result (memory.new.long_blocks ≡ memory.old.long_blocks) }
 {
     let objects = blank_objects(alloc, locals)?;
     memory.enter_block(objects)?;

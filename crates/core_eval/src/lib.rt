@@ -14,6 +14,7 @@ mod ending;
 mod enter;
 mod frame;
 mod held;
+mod long_block;
 mod memory;
 mod object;
 mod operation;

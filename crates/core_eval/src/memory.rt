@@ -22,6 +22,7 @@ ghost use Rattle.core_eval.specs.Blocks.{
 
 use crate::blocks::{Block, fill_by, position_of, set_at, set_by, slot_at, slot_by};
 use crate::held::Held;
+use crate::long_block::LongBlock;
 use crate::object::{blank_objects, first_objects};
 use crate::region::{self, Region};
 use crate::value::{Area, Object, Place, Slot, Value, fill_in, put_in, slot_in, value_of};
@@ -44,6 +45,8 @@ pub struct Memory {
     pub globals: Vec<Object>,
     /// The regions that were born, by how many were before each.
     pub regions: Vec<Region>,
+    /// Where the cells of long blocks of regions lie, also of those that are closed or freed.
+    pub long_blocks: Vec<LongBlock>,
 }
 
 impl Memory {
@@ -63,6 +66,7 @@ impl Memory {
             called: 1,
             globals,
             regions: Vec::new(alloc),
+            long_blocks: Vec::new(alloc),
         })
     }
 
@@ -75,6 +79,7 @@ impl Memory {
         ensures called { OnOk result (self.new.called ≡ self.old.called) }
         ensures globals { OnOk result (self.new.globals ≡ self.old.globals) }
         ensures regions { OnOk result (self.new.regions ≡ self.old.regions) }
+        ensures long_blocks { OnOk result (self.new.long_blocks ≡ self.old.long_blocks) }
     {
         let Some(entered) = self.entered.checked_add(1) else {
             return Err(AllocError);
@@ -95,6 +100,7 @@ impl Memory {
         ensures called { self.new.called ≡ self.old.called }
         ensures globals { self.new.globals ≡ self.old.globals }
         ensures regions { self.new.regions ≡ self.old.regions }
+        ensures long_blocks { self.new.long_blocks ≡ self.old.long_blocks }
     {
         self.blocks.pop_front();
     }
@@ -108,6 +114,7 @@ impl Memory {
         ensures called { OnOk result (self.new.called ≡ self.old.called + 1) }
         ensures globals { OnOk result (self.new.globals ≡ self.old.globals) }
         ensures regions { OnOk result (self.new.regions ≡ self.old.regions) }
+        ensures long_blocks { OnOk result (self.new.long_blocks ≡ self.old.long_blocks) }
     {
         let Some(called) = self.called.checked_add(1) else {
             return Err(AllocError);
@@ -128,6 +135,7 @@ impl Memory {
         ensures called { self.new.called ≡ self.old.called }
         ensures globals { self.new.globals ≡ self.old.globals }
         ensures regions { self.new.regions ≡ self.old.regions }
+        ensures long_blocks { self.new.long_blocks ≡ self.old.long_blocks }
     {
         self.owns.pop_front();
     }
@@ -235,6 +243,7 @@ impl Memory {
         ensures called { self.new.called ≡ self.old.called }
         ensures globals { self.new.globals ≡ self.old.globals }
         ensures regions { self.new.regions ≡ self.old.regions }
+        ensures long_blocks { self.new.long_blocks ≡ self.old.long_blocks }
     {
         match self.own_position(base, variable.out) {
             Some(position) => set_at(

@@ -317,7 +317,8 @@ fn putchar<'p>(frame: &Frame, to: Temporary, from: Temporary) -> Due<'p>
 }
 
 /// The move of an operation. Fails only where no host memory is left, there would be a cell with a number over 2^64 - 1 or a byte behind
-/// 2^32 - 1, a pointer would lead 2^25 bytes or further into what is gone or closed, or a part is read or stored of which nothing is kept.
+/// 2^32 - 1, a pointer would lead 2^25 bytes or further into an object of a block or a function that is left, or a part is read or stored of
+/// which nothing is kept.
 pub fn operate<'p>(
     alloc: Global,
     operation: Operation,

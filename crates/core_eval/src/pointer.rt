@@ -3,15 +3,12 @@
 ghost use Rattle.std.specs.Prelude.{◌≡◌, IfOk, None, true};
 ghost use Rattle.core_eval.specs.Values.{null_of, same_area, same_cell};
 ghost use Rattle.core_eval.specs.Blocks.{AreOrdered, same_places, same_values, stored_of};
-ghost use Rattle.core_eval.specs.Whole.{is_held};
-ghost use Rattle.core_eval.specs.Leading.{lead_on};
+ghost use Rattle.core_eval.specs.Leading.{lead_on, lies_far, recalls};
 
+use crate::long_block::{TOO_FAR, lies_among};
 use crate::memory::Memory;
 use crate::value::{Area, Place, Value};
 use std::alloc::AllocError;
-
-/// No object that is granted has so many bytes.
-const TOO_FAR: u64 = 0x0200_0000;
 
 /// Whether a value is NULL, if it is a pointer.
 pub fn is_null(value: Value) -> Option<bool>
@@ -69,9 +66,35 @@ pub fn same_place(memory: &Memory, first: Value, second: Value) -> Option<bool>
     }
 }
 
+/// Whether a cell lies where a place leads, too far from where its object begins. Fails only where the block or the function that had the object
+/// is left.
+fn lies_far(memory: &Memory, place: Place) -> Result<bool, AllocError>
+    ensures lies { IfOk result (λ lies. AreOrdered memory.now
+        → lies ≡ lies_far (stored_of memory.now) place.area place.object place.cell place.byte) }
+    ensures recalls { IfOk result (λ lies. AreOrdered memory.now → recalls (stored_of memory.now) place.area ≡ true) }
+{
+    match place.area {
+        Area::Globals => Ok(memory.is_there(place)),
+        Area::Region(region) => Ok(lies_among(
+            &memory.long_blocks,
+            region,
+            place.object,
+            place.cell,
+            u64::from(place.byte),
+        )),
+        Area::Block(_) | Area::Own(_) => {
+            if memory.is_held(place.area) {
+                Ok(memory.is_there(place))
+            } else {
+                Err(AllocError)
+            }
+        }
+    }
+}
+
 /// The place so many cells and so many bytes on, if a pointer may lead there: where that is less than too far from where its object begins, or
-/// a cell is there. Fails only where there would be a cell with a number over 2^64 - 1 or a byte behind 2^32 - 1, or where what had the object is
-/// gone or closed, so that nobody looks whether a cell was there.
+/// a cell lies there. Fails only where there would be a cell with a number over 2^64 - 1 or a byte behind 2^32 - 1, or the block or the function
+/// that had the object is left.
 pub fn lead_on(
     memory: &Memory,
     place: Place,
@@ -79,7 +102,7 @@ pub fn lead_on(
     bytes: u64,
 ) -> Result<Option<Place>, AllocError>
     ensures leads { IfOk result (λ there. AreOrdered memory.now → there ≡ lead_on (stored_of memory.now) place cells bytes) }
-    ensures held { IfOk result (λ there. there ≡ None → AreOrdered memory.now → is_held (stored_of memory.now) place.area ≡ true) }
+    ensures recalls { IfOk result (λ there. there ≡ None → AreOrdered memory.now → recalls (stored_of memory.now) place.area ≡ true) }
 {
     let Some(cell) = place.cell.checked_add(cells) else {
         return Err(AllocError);
@@ -95,11 +118,12 @@ pub fn lead_on(
         cell,
         ..place
     };
-    if byte < TOO_FAR || memory.is_there(there) {
+    if byte < TOO_FAR {
+        return Ok(Some(there));
+    }
+    if lies_far(memory, there)? {
         Ok(Some(there))
-    } else if memory.is_held(place.area) {
-        Ok(None)
     } else {
-        Err(AllocError)
+        Ok(None)
     }
 }

@@ -9,6 +9,7 @@ ghost use Rattle.core_eval.specs.Standing.{known_of};
 ghost use Rattle.core_eval.specs.Costs.{IsMove};
 
 use crate::frame::Frame;
+use crate::long_block::keep_block;
 use crate::memory::Memory;
 use crate::operation::give;
 use crate::pending::{Due, Flow, Now};
@@ -157,6 +158,7 @@ pub fn allocate_unique<'p>(
     let mut objects = Vec::new(alloc);
     let object = push_block(alloc, &mut objects, layout, 1)?;
     let birth = memory.make_region(Standing::Single, objects)?;
+    keep_block(alloc, &mut memory.long_blocks, birth - 1, object, layout, 1)?;
     let place = Place {
         area: Area::Region(birth - 1),
         object,

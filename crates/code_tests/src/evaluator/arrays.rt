@@ -38,7 +38,7 @@ end
 return 1
 end
 --
-# nothing is known of how long an object was whose block is over
+# nothing is kept of how long an object was whose block is over
 Ended(5) <- offset 0 0 1 0x1ffffff
 HostMemory <- offset 0 0 1 0x2000000
 

@@ -28,6 +28,7 @@ fn layout_of(alloc: Global, shape: Shape) -> Option<Rc<Layout>> {
         Shape::Pair => object(alloc, &[cell(0, Cell::Byte, 3), cell(4, Cell::Word, 0)], 8),
         Shape::Union => object(alloc, &[cell(0, Cell::Tagged, 0)], 8),
         Shape::FatUnion => object(alloc, &[cell(0, Cell::TaggedFat, 0)], 16),
+        Shape::Wide => object(alloc, &[cell(0, Cell::Word, 0)], 0x0100_0000),
     }
 }
 

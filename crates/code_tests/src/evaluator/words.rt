@@ -3,13 +3,15 @@
 use cyc_core::{Binary, Cell, Width};
 use cyc_words::Kind;
 
-/// The shapes of objects: `int`; `struct { char first; int second; }`; a tagged union none of whose members is a fat pointer, and one with a fat pointer.
+/// The shapes of objects: `int`; `struct { char first; int second; }`; a tagged union none of whose members is a fat pointer, and one with a fat pointer; an
+/// int that takes 2^24 bytes.
 #[derive(Clone, Copy)]
 pub enum Shape {
     Int,
     Pair,
     Union,
     FatUnion,
+    Wide,
 }
 
 /// What is done with objects of a shape.
@@ -107,7 +109,7 @@ const OPERATIONS: [(&str, Word); 30] = [
 ];
 
 // the names of globals, locals, and other statements
-const PARTS: [(&str, Word); 36] = [
+const PARTS: [(&str, Word); 37] = [
     ("function", Word::Function),
     ("block", Word::Block),
     ("leave", Word::Leave),
@@ -144,6 +146,7 @@ const PARTS: [(&str, Word); 36] = [
     ("clear_unions", Word::Object(Verb::Clear, Shape::Union)),
     ("unique_pair", Word::Object(Verb::Unique, Shape::Pair)),
     ("region_words", Word::Object(Verb::Region, Shape::Int)),
+    ("region_wide", Word::Object(Verb::Region, Shape::Wide)),
 ];
 
 // the word of a name in a table

@@ -44,6 +44,6 @@ returns c =
     (c.in_ok-enter_call.ensures.owns
     ∙ ap (λ os. record { number = m.called; objects = os } ∷ map activation_of m.owns.items)
     (c.in_ok-own.ensures ∙ ap (map blank_object) c.deref.ensures.value))
-    c.in_ok-enter_call.ensures.called c.in_ok-enter_call.ensures.globals c.in_ok-enter_call.ensures.regions)
+    c.in_ok-enter_call.ensures.called c.in_ok-enter_call.ensures.globals c.in_ok-enter_call.ensures.regions c.in_ok-enter_call.ensures.long_blocks)
     (call_enters c.args.functions.now (optional_tree c.args.to) c.args.function c.args.arguments.items
     (known_of f m) ws c.in-Some.callee.now c.in-Some.ensures.some fits)

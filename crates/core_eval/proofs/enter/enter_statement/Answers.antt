@@ -12,7 +12,7 @@ returns-in-Block c =
     (waits_of c.args.stack.now.items) _ (ap statement_tree c.in-Block.is ∙ block_tree c.in-Block.locals c.in-Block.body)
     c.deref-in-Block.ensures.value (ap body_tree c.deref-in-Block-2.ensures.value)
     c.enter_block.ensures.next c.enter_block.ensures.waits c.enter_block.ensures.blocks c.enter_block.ensures.entered c.enter_block.ensures.owns c.enter_block.ensures.called
-    c.enter_block.ensures.globals c.enter_block.ensures.regions
+    c.enter_block.ensures.globals c.enter_block.ensures.regions c.enter_block.ensures.long_blocks
 
 pub returns-in-Leave : goal.returns-in-Leave
 returns-in-Leave c =

@@ -45,4 +45,4 @@ returns-in-None c =
     c.args.to.0 c.args.cells c.args.bytes n c.in-Word.is)
     (λ d. leads_as (stored_of m) p (n * c.args.cells) (c.from.result * c.from-2.result) (n * c.args.bytes) (c.from-3.result * c.from-4.result) _
     c.in_ok-there.field-0 further later (c.in_ok-there.ensures.leads d) c.in-None.is)
-    (c.in_ok-there.ensures.held c.in-None.is)
+    (c.in_ok-there.ensures.recalls c.in-None.is)

@@ -37,4 +37,4 @@ returns-in-None c =
     (offset_leads (known_of f m) ws c.args.from.0 c.temp.result c.temp.ensures p c.in-Pointer.is c.args.to.0 c.args.cells c.args.bytes)
     (λ d. leads_as (stored_of m) p c.args.cells c.from.result c.args.bytes c.from-2.result _ c.in_ok-there.field-0 further later
     (c.in_ok-there.ensures.leads d) c.in-None.is)
-    (c.in_ok-there.ensures.held c.in-None.is)
+    (c.in_ok-there.ensures.recalls c.in-None.is)

@@ -1,10 +1,9 @@
-use Rattle.std.proofs.Common.{◌≡◌, false, None, refl, ap, ◌∙◌, sym, subst}
+use Rattle.std.proofs.Common.{◌≡◌, None, refl, ap, ◌∙◌, sym, subst}
 use Rattle.core_meaning.specs.Core as core
 use Rattle.core_meaning.specs.Steps as steps
 use Rattle.cyc_core.specs.Trees.{layout_tree}
 use Rattle.core_eval.specs.declared.value.Value.TheVariants as value
 use Rattle.core_eval.specs.Values.{content_of}
-use Rattle.core_eval.specs.Elements.{block_cells}
 use Rattle.core_eval.specs.Blocks.{next_place, stored_of}
 use Rattle.core_eval.specs.Pendings.{Execute, Leave, Go, Wrong}
 use Rattle.core_eval.specs.Standing.{Known, known_of}
@@ -44,7 +43,7 @@ returns-in-None c =
     let l = c.args.layout.now in
     let after = c.in_ok-place.ensures in
     let none : next_place (stored_of m) c.in-Birth.birth ≡ None = sym after.place ∙ c.in-None.is in
-    let same = ungrown (stored_of m) c.in-Birth.birth (block_cells false l c.in-Word.count) (unplaced (stored_of m) c.in-Birth.birth none) in
+    let same = ungrown (stored_of m) c.in-Birth.birth l c.in-Word.count (unplaced (stored_of m) c.in-Birth.birth none) in
     λ ws. move_as _ ws (known_of f m) Wrong _ ws (known_of f m) (known_of f m') refl
     (stored_known f m m' after.entered after.called ∙ ap (with_stored (known_of f m)) (after.stored ∙ same))
     (allocate_wrong (known_of f m) ws c.args.region.0 c.temp.result c.temp.ensures c.in-Birth.birth c.in-Birth.is

@@ -17,5 +17,6 @@ returns-in-Birth c =
       owns = after.owns;
       called = after.called;
       globals = after.globals;
+      long_blocks = after.long_blocks;
     })
     after.regions after.kept

@@ -24,6 +24,7 @@ returns-in-Pointer c =
       owns = after.owns;
       called = after.called;
       globals = after.globals;
+      long_blocks = after.long_blocks;
     })
     (λ ws. free_answer (known_of f m) ws x c.temp.result c.temp.ensures c.in-Pointer.place c.in-Pointer.is first c.free_single.result
     (map held_region m'.regions.items) after.regions after.kept)

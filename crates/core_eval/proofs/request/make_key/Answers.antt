@@ -17,5 +17,6 @@ returns c =
       owns = after.owns;
       called = after.called;
       globals = after.globals;
+      long_blocks = after.long_blocks;
     })
     c.new.result.items c.new.ensures.items after.regions c.give.ensures.next c.give.ensures.gives c.give.ensures.base

@@ -58,6 +58,7 @@ returns-in-Caller-default c =
       called = c.leave_call.ensures.called;
       globals = c.leave_call.ensures.globals;
       regions = c.leave_call.ensures.regions;
+      long_blocks = c.leave_call.ensures.long_blocks;
     } in
     left_ok c.take_caller.result (exit_of c.args.flow)
     (wait_of (pending.Caller c.in-Caller-default.result c.in-Caller-default.field-1-0 c.in-Caller-default.saved) ∷ ws)

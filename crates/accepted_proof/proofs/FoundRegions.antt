@@ -3,13 +3,11 @@ use Rattle.std.proofs.Common.{◌≡◌, ℕ, zero, suc, Bool, true, false, Opti
 use Rattle.std.specs.Prelude.{◌++◌, bytes_eq, if◌then◌else◌, length, map, replicate}
 use Rattle.cyc_tree.specs.Tree as tree
 use Rattle.cyc_tree.specs.Tree.{Pointer}
-use Rattle.source_typing.specs.Named.{Below}
+use Rattle.source_typing.specs.Named.{Below, NamesBelow}
 use Rattle.source_typing.specs.Regions.{Region}
 use Rattle.source_typing.specs.Tables.{Tables, tag_in}
-use Rattle.source_typing.specs.Written.{Found, Is, IsUnique, Missing, RegionNamed, Spot, all_found, argument_spots, base_spots, find_region, found_by}
-use Rattle.source_typing.specs.Written.{found_named, regions_of_tag, spot}
+use Rattle.source_typing.specs.Written.{Found, Is, IsUnique, Missing, RegionNamed, Spot, all_found, argument_spots, base_spots, find_region, found_by, found_named, regions_of_tag, spot}
 use Rattle.source_typing.proofs.Inversion.{none_of_both}
-use Rattle.accepted_proof.specs.Good.{NamesBelow}
 
 -- ---- what is found
 

@@ -28,7 +28,8 @@ use Rattle.source_typing.specs.Types.{StaticType, Void, is_key, shape_of}
 use Rattle.source_typing.specs.Verdicts.{Faulty, Of, Unjudged, Verdict, after, faults_of}
 use Rattle.source_typing.specs.Written.{RegionNamed, Spot, spots_of, written}
 use Rattle.source_typing.proofs.Inversion.{none_of_both}
-use Rattle.accepted_proof.specs.Good.{NamesBelow, Surely}
+use Rattle.source_typing.specs.Named.{NamesBelow}
+use Rattle.accepted_proof.specs.Good.{Surely}
 use Rattle.accepted_proof.proofs.Constants.{InitialGood, initial_good}
 use Rattle.accepted_proof.proofs.good.Locals.{IsFitting, fitting_is}
 use Rattle.accepted_proof.proofs.good.Pointers.{IsWritten}

@@ -8,17 +8,16 @@ use Rattle.source_lowering.specs.Taken.{IsVoidBase, IsVoidType}
 use Rattle.source_meaning.specs.Shapes as shapes
 use Rattle.source_meaning.specs.Shapes.{VoidShape}
 use Rattle.type_proof.specs.Entries.{IsObjectType, IsPlain}
-use Rattle.source_typing.specs.Named.{AllBelow, Below, TypeBelow}
+use Rattle.source_typing.specs.Named.{AllBelow, Below, TypeBelow, NamesBelow}
 use Rattle.type_proof.proofs.Entries.{object_plain}
-use Rattle.source_typing.specs.Functions.{AllSpotted, Spotted, Variables, fits_parameter, if_parameter, if_result, parameter_type, result_type, take_named}
-use Rattle.source_typing.specs.Functions.{take_spot, take_spots}
+use Rattle.source_typing.specs.Functions.{AllSpotted, Spotted, Variables, fits_parameter, if_parameter, if_result, parameter_type, result_type, take_named, take_spot, take_spots}
 use Rattle.source_typing.specs.Regions.{Level, Region, TheHeap}
 use Rattle.source_typing.specs.Tables.{Tables}
 use Rattle.source_typing.specs.Tags.{settled_alone}
 use Rattle.source_typing.specs.Types.{Fat, Handle, Char, Int, Key, PartialType, StaticType, Struct, Thin, Union, Unique, Unsigned, Void, is_void, shape_of}
 use Rattle.source_typing.specs.Verdicts.{after, if_fits}
 use Rattle.source_typing.specs.Written.{Found, Is, IsUnique, Missing, RegionNamed, Spot, base_spots, find_region, spot, spots_of, written, written_with}
-use Rattle.accepted_proof.specs.Good.{NamesBelow, Surely}
+use Rattle.accepted_proof.specs.Good.{Surely}
 use Rattle.accepted_proof.proofs.FoundRegions.{AreAllFound, AreArguments, FoundBelow, IsFoundAs, base_arguments}
 use Rattle.accepted_proof.proofs.good.Pointers.{IsWritten, RegionBelow, WritesKey, WritesNothing, WritesObject}
 use Rattle.accepted_proof.proofs.good.Types.{KnowsTags, scope_written, written_good}

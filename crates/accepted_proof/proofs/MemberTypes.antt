@@ -11,7 +11,7 @@ use Rattle.source_meaning.specs.Shapes as shapes
 use Rattle.source_meaning.specs.Shapes.{FatShape, Owner, Shape, StructShape, ThinShape, UnionShape, part_of}
 use Rattle.type_proof.specs.Entries.{AreObjects, IsObjectType}
 use Rattle.type_proof.specs.Flat.{Declared}
-use Rattle.source_typing.specs.Named.{TypesBelow}
+use Rattle.source_typing.specs.Named.{TypesBelow, NamesBelow}
 use Rattle.type_proof.specs.Structs.{AreMemberTypes, AreMembers, AreNamedApart, AreUnionMembers, IsMemberType, IsNewName, IsUnionMember, declares}
 use Rattle.type_proof.proofs.invariant.Layouts.{same_text}
 use Rattle.source_typing.specs.Declarations.{stands_earlier}
@@ -23,7 +23,7 @@ use Rattle.source_typing.specs.Types.{Char, Fat, Handle, Int, Key, Null, StaticT
 use Rattle.source_typing.specs.Verdicts.{Faulty, Of, Verdict, after, faults_of, if_fits, known}
 use Rattle.source_typing.specs.Written.{Found, all_found, if_sound, of_kind, spots_of, tag_of, written, written_on}
 use Rattle.source_typing.proofs.Inversion.{none_of_both, test_is}
-use Rattle.accepted_proof.specs.Good.{NamesBelow, Surely}
+use Rattle.accepted_proof.specs.Good.{Surely}
 use Rattle.accepted_proof.proofs.good.Pointers.{IsWritten}
 use Rattle.accepted_proof.proofs.good.Types.{KnowsTags, MeansKnown, scope_written}
 use Rattle.accepted_proof.proofs.HeadTypes.{GivesNothing, GivesObject, ObjectGood, PlainGood, alone_good}

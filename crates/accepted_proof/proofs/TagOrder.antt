@@ -3,18 +3,16 @@ use Rattle.std.proofs.Common.{◌≡◌, ◌<◌, ◌≤◌, ◌+◌, ℕ, suc, 
 use Rattle.std.specs.Prelude.{bytes_eq, length}
 use Rattle.cyc_tree.specs.Tree as tree
 use Rattle.cyc_tree.specs.Tree.{Item}
-use Rattle.source_typing.specs.Named.{Below}
+use Rattle.source_typing.specs.Named.{Below, NamesBelow}
 use Rattle.source_typing.specs.Faults.{Fault, is_clean}
 use Rattle.source_typing.specs.Programs.{Judged, all_tag_faults, bare_from, builtins, entries, first_entry, first_from, judged_tag, name_of, named}
 use Rattle.source_typing.specs.Regions.{Level, Region, TheHeap}
 use Rattle.source_typing.specs.Scope.{Env}
 use Rattle.source_typing.specs.Tables.{Entry, Named, OfBuiltin, OfFunction, OfOther, OfTag, OfValue, Tables, find}
-use Rattle.source_typing.specs.Tags.{bare_tag, head_entry, head_faults, head_scope, member_faults, parameter_added, parameters_from, region_parameters}
-use Rattle.source_typing.specs.Tags.{repeated, struct_sized, tag_faults, tag_parts, tag_scope}
+use Rattle.source_typing.specs.Tags.{bare_tag, head_entry, head_faults, head_scope, member_faults, parameter_added, parameters_from, region_parameters, repeated, struct_sized, tag_faults, tag_parts, tag_scope}
 use Rattle.source_typing.specs.Written.{RegionNamed, find_region}
 use Rattle.source_typing.proofs.Entries.{judged_name}
 use Rattle.source_typing.proofs.Inversion.{both_none, none_of_both, own_is}
-use Rattle.accepted_proof.specs.Good.{NamesBelow}
 use Rattle.accepted_proof.proofs.good.Types.{IsKnownEntry, KnowsTags, MeansKnown}
 use Rattle.accepted_proof.proofs.HeadClean.{heads_clean}
 use Rattle.accepted_proof.proofs.HeadTags.{AreAlike, TablesAlike, own_first}

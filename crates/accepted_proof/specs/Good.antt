@@ -5,8 +5,7 @@ use Rattle.cyc_tree.specs.Tree.{BlockItems, Expression}
 use Rattle.type_proof.specs.Entries.{AreObjects, IsObjectType, IsPlain}
 use Rattle.type_proof.specs.Judged.{ItemsJudged}
 use Rattle.type_proof.specs.Members.{names_union}
-use Rattle.source_typing.specs.Named.{Below, TypeBelow, TypesBelow}
-pub use Rattle.source_typing.specs.Named.{NamesBelow}
+use Rattle.source_typing.specs.Named.{Below, TypeBelow, TypesBelow, NamesBelow}
 use Rattle.source_typing.specs.Expressions.{judge}
 use Rattle.source_typing.specs.Scope.{Enclosing, Env, In, InBlock, InRegion, InUnique, Local, NotKnown, Nowhere, Seat, Value, in_scope, is_place}
 use Rattle.source_typing.specs.Statements.{items_faults}

@@ -1,7 +1,7 @@
 // What a command reads and writes between: bytes that are given one at a call, and bytes that are kept, where a call may fail.
 
 use crate::cases::Case;
-use cycc_answer::{Counted, Input, Output};
+use cyc_words::{Counted, Input, Output};
 use std::alloc::Global;
 use std::io::{Error, ErrorKind, Read, Write};
 use std::{fmt, io};

@@ -3,7 +3,12 @@
 use crate::answers::{Found, found_between};
 use crate::devices::Given;
 use command_line::Command;
-use cycc_answer::{Image, Machine, PlainStore, compile, ended, load, run};
+use cyc_image::{Image, load};
+use rv32_machine::Machine;
+use cyc_arena::PlainStore;
+use cycc_driver::compile;
+use cycc_answer::ended;
+use cyc_host::run;
 use std::alloc::{AllocError, Global};
 
 /// How far an image is run, and what is told of it: its ending, and where it ended.

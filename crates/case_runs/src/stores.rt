@@ -1,6 +1,10 @@
 // Calls of a store, and runs over it, to be timed by `bench/run`.
 
-use cycc_answer::{BlockStore, Counted, Ending, Image, Machine, PagedStore, PlainStore, load, run};
+use cyc_arena::{BlockStore, PagedStore, PlainStore};
+use cyc_words::Counted;
+use cyc_host::{Ending, run};
+use cyc_image::{Image, load};
+use rv32_machine::Machine;
 use std::alloc::Global;
 use std::io;
 use std::time::{Duration, Instant};

@@ -5,6 +5,4 @@ pub mod Fitted
 pub mod Held
 pub mod Targets
 pub mod Unions
-pub use Rattle.check_operators.specs.Goals
-pub use Rattle.check_operators.specs.declared.value.Value
-pub use Rattle.check_operators.specs.Values
+

@@ -6,7 +6,7 @@ ghost use Rattle.cyc_types.specs.Types.{static_type};
 ghost use Rattle.check_operators.specs.Values.{value_of};
 ghost use Rattle.check_scopes.specs.Knows.{Sees};
 ghost use Rattle.check_scopes.specs.Means.{signature_of};
-ghost use Rattle.check_scopes.specs.Fields.{pair_of};
+ghost use Rattle.check_regions.specs.Fields.{pair_of};
 ghost use Rattle.source_typing.specs.Calls.{ToBuiltin, ToFunction, all_live, all_ordered, builtin_parameters, call_entered, called};
 ghost use Rattle.source_typing.specs.Faults.{effect_rule, outlives_rule, test};
 ghost use Rattle.source_typing.specs.Regions.{Region, same_id};

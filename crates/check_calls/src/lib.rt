@@ -13,11 +13,6 @@ mod target;
 mod unions;
 
 pub use call::called;
-pub use check_operators::{
-    Goal, Seat, Value, applied, array_made, arrow, assigned, character, converted, counted,
-    grouped, handled, heap_region, indexed, made, member, null, number, prefixed, renamed_type,
-    string, tested_both, variable,
-};
 pub use enclosing::Enclosing;
 pub use target::{Target, called_target};
 pub use unions::{UnionMember, union_made, union_tag};

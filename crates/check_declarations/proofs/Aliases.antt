@@ -17,7 +17,7 @@ use Rattle.cyc_types.specs.declared.region.RegionId.{RegionId}
 use Rattle.source_typing.specs.Declarations.{aliased, with_region}
 use Rattle.source_typing.specs.Regions.{Region, Regions}
 use Rattle.source_typing.specs.Scope.{Env, in_scope}
-use Rattle.source_typing.specs.Shapes.{single}
+use Rattle.source_meaning.specs.Shapes.{single}
 use Rattle.source_typing.specs.Types.{StaticType, Thin}
 use Rattle.check_declarations.specs.Operands.{outside_unique}
 

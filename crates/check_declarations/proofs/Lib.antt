@@ -9,4 +9,4 @@ pub mod Parameters
 pub mod RegionScopes
 pub mod Sizes
 pub mod Unions
-pub use Rattle.check_heads.proofs.Answered
+

@@ -21,17 +21,16 @@ use Rattle.source_typing.specs.Faults.{Fault}
 use Rattle.source_typing.specs.Scope.{Env}
 use Rattle.source_typing.specs.Scope as judged
 use Rattle.source_typing.specs.Tables.{Entry, OfFunction, Tables, has_beginning, tag_in}
-use Rattle.source_typing.specs.Types.{Char, Fat, Handle, Int, Key, Null, PartialType, StaticType}
-use Rattle.source_typing.specs.Types.{Struct, Thin, Union, Unique, Unsigned, Void, is_element, is_void}
+use Rattle.source_typing.specs.Types.{Char, Fat, Handle, Int, Key, Null, PartialType, StaticType, Struct, Thin, Union, Unique, Unsigned, Void, is_element, is_void}
 use Rattle.source_typing.specs.Verdicts as verdict
 use Rattle.check_faults.proofs.Shortened.{after_of, after_unjudged, after_wrong}
 use Rattle.check_faults.specs.Verdicts.{Is, Wrong, fault_found, short_of, shortened, wrong_if}
 use Rattle.check_faults.specs.declared.verdict.Verdict as code_verdict
 use Rattle.check_faults.specs.declared.verdict.Verdict.TheVariants as variant
-use Rattle.check_heads.specs.Tagged.{tag_name_of}
-use Rattle.check_heads.specs.Written.{partial_type}
-use Rattle.check_heads.specs.WrittenType.{WrittenType}
-use Rattle.check_heads.specs.TagName.TheVariants as tag
+use Rattle.check_types.specs.Tagged.{tag_name_of}
+use Rattle.check_types.specs.Written.{partial_type}
+use Rattle.check_types.specs.declared.settling.WrittenType.{WrittenType}
+use Rattle.check_types.specs.declared.tagged.TagName.TheVariants as tag
 use Rattle.check_declarations.specs.Declaring.{could_be, elements_fit, fitting_by, stands_before, tag_of_meaning}
 use Rattle.check_heads.proofs.Answered.{of_short}
 

@@ -4,8 +4,7 @@ use Rattle.cyc_tree.specs.Tree as tree
 use Rattle.check_scopes.specs.Means.{WhatIs}
 use Rattle.check_scopes.specs.declared.meaning.Meaning.{Meaning}
 use Rattle.check_scopes.specs.declared.meaning.Meaning.TheVariants as meaning
-use Rattle.source_typing.specs.Declarations.{if_sized, opened_region, operand, region_declared, set_faults, set_type, tag_earlier, type_of_alias, unset_type}
-use Rattle.source_typing.specs.Declarations.{what_after, what_of, with_region}
+use Rattle.source_typing.specs.Declarations.{if_sized, opened_region, operand, region_declared, set_faults, set_type, tag_earlier, type_of_alias, unset_type, what_after, what_of, with_region}
 use Rattle.source_typing.specs.Expressions.{judge}
 use Rattle.source_typing.specs.Faults.{Fault, earliest}
 use Rattle.source_typing.specs.Regions.{Region, opened, with_name, with_scope}
@@ -14,8 +13,8 @@ use Rattle.source_typing.specs.Tables.{Stored, Tables, Unknown, What, has_beginn
 use Rattle.source_typing.specs.Types.{Handle, Key, StaticType, Struct, Union, is_element, is_unique, is_void}
 use Rattle.source_typing.specs.Verdicts as verdict
 use Rattle.check_faults.specs.Faults.{faults_of}
-use Rattle.check_heads.specs.TagName.{TagName}
-use Rattle.check_heads.specs.TagName.TheVariants as tag
+use Rattle.check_types.specs.declared.tagged.TagName.{TagName}
+use Rattle.check_types.specs.declared.tagged.TagName.TheVariants as tag
 use Rattle.check_declarations.specs.declared.local.Judged.{Judged}
 
 -- ---- types

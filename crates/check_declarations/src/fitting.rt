@@ -12,11 +12,11 @@ ghost use Rattle.source_typing.specs.Tables.{tag_in};
 ghost use Rattle.check_faults.specs.Verdicts.{short_of, shortened};
 ghost use Rattle.check_scopes.specs.Knows.{Knows};
 ghost use Rattle.check_scopes.specs.Means.{meaning_of};
-ghost use Rattle.check_heads.specs.Tagged.{TagIs};
+ghost use Rattle.check_types.specs.Tagged.{TagIs};
 ghost use Rattle.check_declarations.specs.Declaring.{could_be, elements_fit, fitting_by, stands_before, tag_of_meaning};
 
 use check_faults::{Fault, FaultKind, Verdict};
-use check_heads::{TagName, type_tag};
+use check_types::{TagName, type_tag};
 use check_scopes::{Named, Scope};
 use cyc_tree::TypeName;
 use cyc_types::{BaseType, CType, MOST_BYTES, Tables};

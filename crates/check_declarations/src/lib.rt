@@ -16,10 +16,6 @@ mod operand;
 mod parameter;
 mod regions;
 
-pub use check_expressions::judge;
-pub use check_heads::{
-    Head, Names, Parameter, entered, head_meaning, is_main, known_type, read_head,
-};
 pub use context::Context;
 pub use declaration::declare;
 pub use fitting::fitted;

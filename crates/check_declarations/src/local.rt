@@ -13,7 +13,7 @@ ghost use Rattle.source_typing.specs.Tables.{Stored, Unknown};
 ghost use Rattle.source_typing.specs.Types.{StaticType};
 ghost use Rattle.check_faults.specs.Faults.{faults_of};
 ghost use Rattle.check_faults.specs.Verdicts.{short_of, shortened};
-ghost use Rattle.check_expressions.specs.Values.{value_of};
+ghost use Rattle.check_operators.specs.Values.{value_of};
 ghost use Rattle.check_scopes.specs.Knows.{Knows};
 ghost use Rattle.check_scopes.specs.Means.{WhatIs};
 ghost use Rattle.check_declarations.specs.Contexts.{Suits};
@@ -25,7 +25,8 @@ ghost use Rattle.source_typing.specs.Verdicts as verdict;
 
 use crate::context::Context;
 use crate::local_types::{set_type, unset_type};
-use check_expressions::{Value, converted, judge};
+use check_operators::{Value, converted};
+use check_expressions::judge;
 use check_faults::{Fault, Verdict, sooner};
 use check_regions::RegionNames;
 use check_scopes::{Scope, What};

@@ -18,13 +18,13 @@ ghost use Rattle.check_scopes.specs.Means.{WhatIs};
 ghost use Rattle.check_regions.specs.declared.scope.RegionMark.{RegionMark};
 ghost use Rattle.check_declarations.specs.Contexts.{StandsIn};
 ghost use Rattle.check_declarations.specs.declared.context.Context.{Context};
-ghost use Rattle.check_expressions.specs.Values.{value_of};
+ghost use Rattle.check_operators.specs.Values.{value_of};
 ghost use Rattle.check_declarations.specs.Switching.{chosen_in, union_in};
 ghost use Rattle.source_typing.specs.Scope as judged;
 ghost use Rattle.source_typing.specs.Statements as statements;
 ghost use Rattle.source_typing.specs.Verdicts as verdict;
 
-use check_expressions::{Seat, Value, renamed_type};
+use check_operators::{Seat, Value, renamed_type};
 use check_faults::Verdict;
 use check_scopes::{Scope, What};
 use cyc_tree::{Name, Pattern};

@@ -12,10 +12,10 @@ ghost use Rattle.source_typing.specs.Verdicts as verdict;
 ghost use Rattle.check_faults.specs.Faults.{faults_of};
 ghost use Rattle.check_faults.specs.Verdicts.{short_of, shortened};
 ghost use Rattle.check_scopes.specs.Knows.{Knows};
-ghost use Rattle.check_expressions.specs.Values.{value_of};
+ghost use Rattle.check_operators.specs.Values.{value_of};
 ghost use Rattle.check_declarations.specs.Operands.{is_kind};
 
-use check_expressions::{Value, variable};
+use check_operators::{Value, variable};
 use check_faults::{Fault, FaultKind, Verdict};
 use check_scopes::Scope;
 use cyc_tree::Name;

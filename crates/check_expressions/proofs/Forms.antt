@@ -15,8 +15,8 @@ use Rattle.source_typing.specs.Places.{assigned}
 use Rattle.source_typing.specs.Scope.{Env, Value, meant}
 use Rattle.check_faults.specs.Verdicts.{Is, Short, short_after, short_both, short_of, shortened}
 use Rattle.check_faults.specs.declared.verdict.Verdict as verdict
-use Rattle.check_calls.specs.Values.{value_of}
-use Rattle.check_calls.specs.Value as value
+use Rattle.check_operators.specs.Values.{value_of}
+use Rattle.check_operators.specs.declared.value.Value as value
 use Rattle.check_faults.proofs.Shortened.{shortened_after, shortened_both}
 use Rattle.check_expressions.specs.Joined.{one_more, short_all, short_links, short_tests}
 use Rattle.check_expressions.proofs.Joining.{all_are, links_are, tests_are}

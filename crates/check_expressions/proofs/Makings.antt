@@ -11,8 +11,8 @@ use Rattle.source_typing.specs.Making.{Goal, NoHandle, To, ToUnique, array_made,
 use Rattle.source_typing.specs.Regions.{TheHeap}
 use Rattle.source_typing.specs.Scope.{Env, Value}
 use Rattle.source_typing.specs.Verdicts.{Faulty, Of, Unjudged, Verdict, both}
-use Rattle.check_calls.specs.Values.{value_of}
-use Rattle.check_calls.specs.Value as value
+use Rattle.check_operators.specs.Values.{value_of}
+use Rattle.check_operators.specs.declared.value.Value as value
 use Rattle.check_faults.proofs.Shortened.{paired_same, shortened_after, shortened_both}
 use Rattle.check_faults.specs.Verdicts.{Is, NotJudged, Short, Wrong, paired, short_both, short_of, shortened}
 use Rattle.check_faults.specs.declared.verdict.Verdict as code_verdict

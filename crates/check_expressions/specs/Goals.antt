@@ -5,8 +5,8 @@ use Rattle.source_typing.specs.Expressions.{judge}
 use Rattle.source_typing.specs.Faults.{fault, type_rule}
 use Rattle.source_typing.specs.Making.{Goal, NoHandle, To, ToUnique, array_made, elements, handled, made, with_counter}
 use Rattle.source_typing.specs.Scope.{Enclosing, Env, InRegion, InUnique, NotKnown, Value}
-use Rattle.check_calls.specs.Values.{value_of}
-use Rattle.check_calls.specs.Value as code
+use Rattle.check_operators.specs.Values.{value_of}
+use Rattle.check_operators.specs.declared.value.Value as code
 use Rattle.check_faults.specs.Verdicts.{Is, NotJudged, Short, Wrong, short_after, short_both, shortened}
 
 -- the `rnew` around what is made

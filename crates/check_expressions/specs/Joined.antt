@@ -1,8 +1,8 @@
 -- What is answered of phrases of several parts, one part after another.
 use Rattle.std.specs.Prelude.{List, map, [], ◌∷◌, ◌++◌}
 use Rattle.cyc_tree.specs.Tree.{Expressions, Links, MoreExpressions, MoreLinks, NoExpressions, NoLinks}
-use Rattle.check_calls.specs.Values.{value_of}
-use Rattle.check_calls.specs.Value as code
+use Rattle.check_operators.specs.Values.{value_of}
+use Rattle.check_operators.specs.declared.value.Value as code
 use Rattle.source_typing.specs.Expressions.{judge}
 use Rattle.source_typing.specs.Operators.{applied, tested_both}
 use Rattle.source_typing.specs.Scope.{Env, Value}

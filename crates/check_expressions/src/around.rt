@@ -5,13 +5,14 @@ ghost use Rattle.std.specs.List.{list_any};
 ghost use Rattle.check_scopes.specs.Means.{Means, meaning_of};
 ghost use Rattle.source_typing.specs.Scope.{Env, meant};
 ghost use Rattle.check_faults.specs.Verdicts.{short_of};
-ghost use Rattle.check_calls.specs.Goals.{goal_in};
+ghost use Rattle.check_operators.specs.Goals.{goal_in};
 ghost use Rattle.check_calls.specs.Enclosings.{enclosing_of};
 ghost use Rattle.check_expressions.specs.Goals.{enclosed_short};
 ghost use Rattle.check_expressions.specs.Within.{IsIn, is_counter, means_inside};
 
 use crate::making::enclosing_by;
-use check_calls::{Enclosing, Goal};
+use check_calls::Enclosing;
+use check_operators::Goal;
 use check_faults::Verdict;
 use check_scopes::{Named, Scope};
 use std::alloc::{AllocError, Global};

@@ -7,8 +7,8 @@ ghost use Rattle.source_typing.specs.Expressions.{judge};
 ghost use Rattle.source_typing.specs.Scope.{Env};
 ghost use Rattle.check_faults.specs.Verdicts.{short_of, shortened};
 ghost use Rattle.check_scopes.specs.Knows.{Knows};
-ghost use Rattle.check_calls.specs.Goals.{goal_in};
-ghost use Rattle.check_calls.specs.Values.{value_of};
+ghost use Rattle.check_operators.specs.Goals.{goal_in};
+ghost use Rattle.check_operators.specs.Values.{value_of};
 ghost use Rattle.check_expressions.specs.Within.{IsIn};
 ghost use Rattle.check_expressions.specs.Goals.{short_made};
 ghost use Rattle.check_expressions.specs.Joined.{short_links, short_tests};
@@ -21,9 +21,8 @@ use crate::parts::{
     prefixed_part, refused, tested_parts, union_parts,
 };
 use crate::suffixes::{arrow_part, indexed_parts, member_part};
-use check_calls::{
-    Enclosing, Goal, Value, called_target, character, heap_region, null, number, string, variable,
-};
+use check_calls::{Enclosing, called_target};
+use check_operators::{Goal, Value, character, heap_region, null, number, string, variable};
 use check_faults::Verdict;
 use check_scopes::Scope;
 use cyc_tree::{Expression, Link, Made, Name, Suffix};

@@ -8,7 +8,6 @@ mod parts;
 mod suffixes;
 
 pub use around::{Around, is_counter, with_counter};
-pub use check_calls::{Enclosing, Seat, Value, converted, renamed_type, variable};
 pub use expression::{judge, judge_inside};
 pub use making::{goal_part, is_unique_region};
 pub use parts::prefixed_part;

@@ -7,13 +7,14 @@ ghost use Rattle.source_typing.specs.Making.{array_made, handled, made};
 ghost use Rattle.source_typing.specs.Scope.{Env};
 ghost use Rattle.check_faults.specs.Verdicts.{short_both, short_of, shortened};
 ghost use Rattle.check_scopes.specs.Knows.{Sees};
-ghost use Rattle.check_calls.specs.Goals.{goal_in};
-ghost use Rattle.check_calls.specs.Values.{value_of};
+ghost use Rattle.check_operators.specs.Goals.{goal_in};
+ghost use Rattle.check_operators.specs.Values.{value_of};
 ghost use Rattle.check_calls.specs.Enclosings.{enclosing_of};
 ghost use Rattle.check_expressions.specs.Goals.{both_values, enclosed_short, is_refused_alone, short_array, short_goal, with_short_goal};
 
 use crate::parts::refused;
-use check_calls::{Enclosing, Goal, Value, array_made, handled, made};
+use check_calls::Enclosing;
+use check_operators::{Goal, Value, array_made, handled, made};
 use check_faults::Verdict;
 use check_scopes::Scope;
 use cyc_tree::Expression;

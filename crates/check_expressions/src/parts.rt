@@ -9,7 +9,7 @@ ghost use Rattle.source_typing.specs.Scope.{Env, meant};
 ghost use Rattle.source_typing.specs.Faults.{fault, type_rule};
 ghost use Rattle.check_faults.specs.Verdicts.{Wrong, short_after, short_both, short_of, shortened};
 ghost use Rattle.check_scopes.specs.Knows.{Sees};
-ghost use Rattle.check_calls.specs.Values.{value_of};
+ghost use Rattle.check_operators.specs.Values.{value_of};
 ghost use Rattle.check_calls.specs.Enclosings.{enclosing_of};
 ghost use Rattle.check_calls.specs.Targets.{target_of};
 ghost use Rattle.check_calls.specs.Unions.{made_of};
@@ -17,10 +17,8 @@ ghost use Rattle.check_expressions.specs.Within.{IsIn};
 ghost use Rattle.check_expressions.specs.Joined.{one_more, values_of};
 
 use crate::around::{Around, meaning};
-use check_calls::{
-    Enclosing, Target, UnionMember, Value, applied, assigned, called, counted, grouped, prefixed,
-    tested_both, union_made, union_tag,
-};
+use check_calls::{Enclosing, Target, UnionMember, called, union_made, union_tag};
+use check_operators::{Value, applied, assigned, counted, grouped, prefixed, tested_both};
 use check_faults::{Fault, FaultKind, Verdict};
 use check_scopes::Scope;
 use cyc_tree::{Name, Operator, Prefix};

@@ -3,13 +3,13 @@
 ghost use Rattle.std.specs.Prelude.{◌≡◌, IfOk};
 ghost use Rattle.cyc_tree.specs.View.{name_tree};
 ghost use Rattle.cyc_types.specs.Sameness.{HasTags};
-ghost use Rattle.check_calls.specs.Values.{value_of};
+ghost use Rattle.check_operators.specs.Values.{value_of};
 ghost use Rattle.check_scopes.specs.Knows.{Sees};
 ghost use Rattle.source_typing.specs.Places.{arrow, indexed, member};
 ghost use Rattle.source_typing.specs.Scope.{Env};
 ghost use Rattle.check_faults.specs.Verdicts.{short_after, short_both, short_of, shortened};
 
-use check_calls::{Value, arrow, indexed, member};
+use check_operators::{Value, arrow, indexed, member};
 use check_faults::Verdict;
 use check_scopes::Scope;
 use cyc_tree::Name;

@@ -11,18 +11,17 @@ ghost use Rattle.source_typing.specs.Statements.{items_faults};
 ghost use Rattle.source_typing.specs.Tables as known;
 ghost use Rattle.source_typing.specs.Written.{RegionNamed};
 ghost use Rattle.check_faults.specs.Faults.{faults_of};
-ghost use Rattle.check_statements.specs.Contexts.{StandsIn};
-ghost use Rattle.check_statements.specs.Bodies.{KnowsNames, code_names, names_of, types_of};
+ghost use Rattle.check_declarations.specs.Contexts.{StandsIn};
+ghost use Rattle.check_heads.specs.Bodies.{KnowsNames, code_names, names_of, types_of};
 ghost use Rattle.check_functions.specs.Bodies.{own_found};
-ghost use Rattle.check_statements.specs.Heads.{IsHead, known_static};
+ghost use Rattle.check_heads.specs.Heads.{IsHead, known_static};
 
 use check_faults::{Fault, FaultKind, Verdict, sooner};
 use check_regions::RegionNames;
 use check_scopes::Scope;
-use check_statements::{
-    Context, Head, Names, Parameter, declare_parameter, entered, is_main, items_fall, items_fault,
-    known_type, read_head,
-};
+use check_declarations::{Context, declare_parameter};
+use check_heads::{Head, Names, Parameter, entered, is_main, known_type, read_head};
+use check_statements::{items_fall, items_fault};
 use cyc_tree::{BlockItem, Function};
 use cyc_types::{CType, RegionId};
 use std::alloc::{AllocError, Global};

@@ -8,4 +8,4 @@ pub mod KeyTypes
 pub mod ParameterTypes
 pub mod ReadParameters
 pub mod Signatures
-pub use Rattle.check_types.proofs.Naming
+

@@ -12,7 +12,6 @@ mod keys;
 mod meaning;
 mod reading;
 
-pub use check_types::{TagName, WrittenType, misses_region_in, settled, type_tag, written_in};
 pub use entering::{Names, entered};
 pub use head::{Head, Parameter, is_main, read_head};
 pub use meaning::{head_meaning, known_type};

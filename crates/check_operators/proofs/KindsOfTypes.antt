@@ -4,7 +4,7 @@ use Rattle.std.specs.Prelude.{◌&&◌, ◌||◌, if◌then◌else◌, not}
 use Rattle.source_typing.specs.Operators.{common, is_fat, promoted}
 use Rattle.source_typing.specs.Types.{Char, Fat, Handle, Int, Key, Null, StaticType, Struct, Thin, Union, Unique, Unsigned, Void, is_pointer}
 use Rattle.source_typing.specs.Regions.{Region}
-use Rattle.source_typing.specs.Shapes.{Reach}
+use Rattle.source_meaning.specs.Shapes.{Reach}
 use Rattle.cyc_types.specs.Bases.{base_type}
 use Rattle.cyc_types.specs.Layers.{is_plain, last_or, layer_copies, outermost, pointed, pointer_to}
 use Rattle.cyc_types.specs.Types.{static_type}

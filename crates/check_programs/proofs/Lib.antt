@@ -1,4 +1,4 @@
 pub mod Items
 pub mod Seeing
 pub mod Statics
-pub use Rattle.check_tables.proofs.TagTables
+

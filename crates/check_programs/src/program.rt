@@ -3,10 +3,9 @@
 ghost use Rattle.std.specs.Prelude.{◌≡◌, ◌∷◌, [], IfOk, codes};
 ghost use Rattle.cyc_tree.specs.View.{name_tree, program_item_tree, program_tree};
 ghost use Rattle.source_typing.specs.Faults.{earliest, fault, name_rule, test, type_rule};
-ghost use Rattle.source_typing.specs.Programs.{builtins, entries, item_faults, items_from, judged_tags, main_found, main_is, name_of, second_names};
-ghost use Rattle.source_typing.specs.Programs.{tables_of, typing_faults};
+ghost use Rattle.source_typing.specs.Programs.{builtins, entries, item_faults, items_from, judged_tags, main_found, main_is, name_of, second_names, tables_of, typing_faults};
 ghost use Rattle.source_typing.specs.Tables as rules_tables;
-ghost use Rattle.check_tables.specs.Bodies.{KnowsNames};
+ghost use Rattle.check_heads.specs.Bodies.{KnowsNames};
 ghost use Rattle.check_faults.specs.Faults.{fault_of, faults_of};
 ghost use Rattle.check_programs.specs.Programs.{AreSeen};
 ghost use Rattle.check_tables.specs.Structs.{KnowsStructs};
@@ -17,7 +16,8 @@ use check_faults::{Fault, FaultKind, sooner};
 use check_functions::function_fault;
 use check_scopes::Globals;
 use check_structs::judged_tags;
-use check_tables::{Names, Structs, is_main, item_name, judged_global, next_index, program_names};
+use check_heads::{Names, is_main};
+use check_tables::{Structs, item_name, judged_global, next_index, program_names};
 use cyc_tree::{END_OF_TEXT, Item, Name, Program};
 use std::alloc::{AllocError, Global};
 

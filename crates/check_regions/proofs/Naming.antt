@@ -3,7 +3,7 @@ use Rattle.std.specs.Prelude.{bytes_eq, drop, is_some, length, map, option_map, 
 use Rattle.std.proofs.Common.{◌≡◌, ℕ, zero, suc, Bool, true, false, Bor, Option, Some, None, List, [], ◌∷◌, ◌++◌, cond, refl, sym, ◌∙◌, ap}
 use Rattle.std.proofs.lemmas.List.{drop_at, length-drop, length-map, length-reverse, map-append, reverse-append, take-append-drop}
 use Rattle.std.proofs.lemmas.Slice.Eq.{bytes_eq-Decides}
-use Rattle.source_typing.specs.Tree.{Name}
+use Rattle.cyc_tree.specs.Tree.{Name}
 use Rattle.cyc_types.specs.Regions.{region_of}
 use Rattle.cyc_types.specs.declared.region.RegionId.{RegionId}
 use Rattle.source_typing.specs.Declarations.{name_added}

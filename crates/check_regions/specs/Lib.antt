@@ -6,8 +6,4 @@ pub mod Begun
 pub mod Entered
 pub mod Scopes
 pub mod Walked
-pub use Rattle.cyc_types.specs.declared.ctype.CType
-pub use Rattle.cyc_types.specs.declared.region.RegionId
-pub use Rattle.cyc_types.specs.Regions
-pub use Rattle.cyc_types.specs.Sameness
-pub use Rattle.cyc_types.specs.Types
+

@@ -13,6 +13,5 @@ mod scope;
 mod walk;
 
 pub use begun::Begun;
-pub use cyc_types::{CType, RegionId, Tables};
 pub use names::RegionNames;
 pub use scope::{RegionMark, RegionScope};

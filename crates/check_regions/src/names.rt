@@ -1,7 +1,7 @@
 // The region names in scope, with the regions that they name.
 
 ghost use Rattle.std.specs.Prelude.{◌≡◌, ◌-◌, IfOk, OnErr, OnOk, [], drop, is_none, is_some, length, option_map};
-ghost use Rattle.source_typing.specs.Tree.{Name};
+ghost use Rattle.cyc_tree.specs.Tree.{Name};
 ghost use Rattle.cyc_types.specs.Regions.{region_of};
 ghost use Rattle.source_typing.specs.Declarations.{name_added};
 ghost use Rattle.source_typing.specs.Written.{find_region};

@@ -3,8 +3,8 @@ use Rattle.std.proofs.Common.{◌≡◌, ℕ, ◌+◌, ◌≤◌, List, [], ◌�
 use Rattle.std.proofs.lemmas.Bool.Decides.{nat_tests}
 use Rattle.std.proofs.lemmas.List.{take-append-le, take_all}
 use Rattle.std.specs.Prelude.{Option, Some, bytes_eq, nat_eq, nat_le, ◌&&◌, ◌||◌, if◌then◌else◌}
-use Rattle.source_typing.specs.Tree as tree
-use Rattle.check_regions.specs.Sameness.{HasTags}
+use Rattle.cyc_tree.specs.Tree as tree
+use Rattle.cyc_types.specs.Sameness.{HasTags}
 use Rattle.source_typing.specs.Scope.{Env, block_entered, is_second, meant, with_local, with_locals}
 use Rattle.source_typing.specs.Scope as rules
 use Rattle.source_typing.specs.Tables.{OfValue, find}

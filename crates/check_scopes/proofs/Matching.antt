@@ -1,6 +1,6 @@
 -- Locals in code stay those of the rules where one is declared.
 use Rattle.std.proofs.Common.{List, false, true, ℕ, ◌∷◌, ◌≡◌}
-use Rattle.source_typing.specs.Tree as tree
+use Rattle.cyc_tree.specs.Tree as tree
 use Rattle.source_typing.specs.Scope.{Env, is_second, with_local}
 use Rattle.source_typing.specs.Tables as rules
 use Rattle.check_scopes.specs.Locals.{Known, known}

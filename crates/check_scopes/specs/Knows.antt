@@ -1,6 +1,6 @@
 -- When what is in scope in code is what is in scope by the rules.
 use Rattle.std.specs.Prelude.{Bool, List, None, Option, Some, false, true, ℕ, ◌≡◌}
-use Rattle.check_regions.specs.Sameness.{HasTags}
+use Rattle.cyc_types.specs.Sameness.{HasTags}
 use Rattle.source_typing.specs.Regions.{TheHeap}
 use Rattle.source_typing.specs.Scope.{Env, InRegion, meant}
 use Rattle.check_regions.specs.Scopes.{AreThose}

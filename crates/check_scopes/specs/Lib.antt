@@ -5,4 +5,4 @@ pub mod Linked
 pub mod Locals
 pub mod Means
 pub mod Matching
-pub use Rattle.check_regions.specs.Fields
+

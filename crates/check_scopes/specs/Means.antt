@@ -1,7 +1,7 @@
 -- What names mean in code, as the rules say it.
 use Rattle.std.specs.Prelude.{None, Option, Some, false, map, option_map, true, ℕ, ◌≡◌}
-use Rattle.check_regions.specs.Regions.{region_of, regions_of}
-use Rattle.check_regions.specs.Types.{static_type}
+use Rattle.cyc_types.specs.Regions.{region_of, regions_of}
+use Rattle.cyc_types.specs.Types.{static_type}
 use Rattle.source_typing.specs.Tables.{Arrayed, Counter, Entry, OfBuiltin, OfFunction, OfTag, OfValue, Signature, Stored, Tag, Unknown}
 use Rattle.source_typing.specs.Tables as rules
 use Rattle.check_regions.specs.Fields.{pair_of}
@@ -12,8 +12,8 @@ use Rattle.check_scopes.specs.declared.meaning.Meaning.TheVariants as code
 use Rattle.check_scopes.specs.declared.meaning.Signature as head
 use Rattle.check_scopes.specs.declared.scope.Named.{Named}
 use Rattle.check_scopes.specs.declared.scope.Named.TheVariants as named
-use Rattle.check_regions.specs.CType.{CType}
-use Rattle.check_regions.specs.RegionId.{RegionId}
+use Rattle.cyc_types.specs.declared.ctype.CType.{CType}
+use Rattle.cyc_types.specs.declared.region.RegionId.{RegionId}
 
 -- a function whose head has no fault
 abbrev pub signature_of : head.Signature → Signature

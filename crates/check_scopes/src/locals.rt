@@ -5,7 +5,7 @@ ghost use Rattle.check_scopes.specs.Linked.{position_of};
 ghost use Rattle.check_scopes.specs.Locals.{dropped_to, find_what, is_after, known};
 
 use crate::last::LastLocals;
-use check_regions::{CType, RegionId};
+use cyc_types::{CType, RegionId};
 use std::alloc::{AllocError, Global};
 use std::marker::Model;
 

@@ -1,6 +1,6 @@
 // What a name means.
 
-use check_regions::{CType, RegionId};
+use cyc_types::{CType, RegionId};
 
 /// A function whose head has no fault: what it takes and gives, by its region variables, which are the first levels.
 pub struct Signature<'p> {

@@ -1,7 +1,7 @@
 // What is in scope where an expression is judged.
 
 ghost use Rattle.std.specs.Prelude.{◌≡◌, IfOk, option_map};
-ghost use Rattle.check_regions.specs.Regions.{region_of};
+ghost use Rattle.cyc_types.specs.Regions.{region_of};
 ghost use Rattle.source_typing.specs.Scope.{Env, is_live, meant, outlives};
 ghost use Rattle.check_scopes.specs.Globals.{global_meaning};
 ghost use Rattle.check_scopes.specs.Knows.{Names, Sees, means_in, of_local};
@@ -10,7 +10,8 @@ ghost use Rattle.check_scopes.specs.Means.{Means, meaning_of};
 use crate::globals::Globals;
 use crate::locals::{Locals, What};
 use crate::meaning::{Meaning, Signature};
-use check_regions::{CType, RegionId, RegionScope, Tables};
+use cyc_types::{CType, RegionId, Tables};
+use check_regions::RegionScope;
 use std::alloc::AllocError;
 
 /// What a name means where it is used.

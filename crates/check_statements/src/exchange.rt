@@ -14,7 +14,7 @@ ghost use Rattle.source_typing.specs.Verdicts as verdict;
 
 use crate::acts::act_in;
 use crate::returning::unless;
-use check_declarations::judge;
+use check_expressions::judge;
 use check_faults::{Fault, Verdict, sooner};
 use check_operators::{Seat, Value};
 use check_scopes::Scope;

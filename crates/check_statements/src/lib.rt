@@ -12,8 +12,5 @@ mod statement;
 mod switch;
 mod ways;
 
-pub use check_declarations::{
-    Context, Head, Names, Parameter, declare_parameter, entered, is_main, known_type, read_head,
-};
 pub use statement::items_fault;
 pub use ways::items_fall;

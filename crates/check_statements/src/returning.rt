@@ -14,7 +14,7 @@ ghost use Rattle.check_faults.specs.Verdicts.{short_of, shortened};
 ghost use Rattle.check_scopes.specs.Knows.{Knows};
 ghost use Rattle.check_operators.specs.Values.{value_of};
 
-use check_declarations::judge;
+use check_expressions::judge;
 use check_faults::{Fault, FaultKind, Verdict};
 use check_operators::{Value, condition, converted};
 use check_scopes::Scope;

@@ -11,7 +11,7 @@ use Rattle.cyc_types.specs.declared.ctype.CType.{CType}
 use Rattle.cyc_types.specs.declared.extent.Extent as code_extent
 use Rattle.cyc_types.specs.declared.region.RegionId.TheVariants.{Heap}
 use Rattle.cyc_types.specs.declared.tables.Tables as code_tables
-use Rattle.check_declarations.proofs.Answered.{of_short}
+use Rattle.check_heads.proofs.Answered.{of_short}
 use Rattle.check_declarations.proofs.LocalTypes.{alike}
 use Rattle.check_declarations.proofs.Sizes.{bytes_are, is_fitting, too_large}
 use Rattle.check_scopes.specs.Means.{Array, Means, UnknownValue, Variable}

@@ -16,7 +16,7 @@ use Rattle.source_typing.specs.Globals.{string_faults}
 use Rattle.source_typing.specs.Scope.{Value}
 use Rattle.source_typing.specs.Types.{Char, Fat, Handle, Int, Key, Null, StaticType, Struct, Thin, Union, Unique, Unsigned, Void}
 use Rattle.source_typing.specs.Verdicts.{Faulty, Of, Unjudged, Verdict}
-use Rattle.check_declarations.proofs.Answered.{of_short}
+use Rattle.check_heads.proofs.Answered.{of_short}
 use Rattle.check_faults.specs.Verdicts.{Is, NotJudged, Wrong, shortened}
 use Rattle.check_tables.specs.Globals.{are_enough, enough_for}
 use Rattle.source_typing.specs.Faults as rules

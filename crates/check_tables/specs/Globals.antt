@@ -9,7 +9,7 @@ use Rattle.source_typing.specs.Scope.{Env}
 use Rattle.source_meaning.specs.Sizes.{rounded_up}
 use Rattle.source_typing.specs.Extents.{fits_bytes, variable_size}
 use Rattle.source_typing.specs.Tables.{Entry, OfValue, Tables}
-use Rattle.source_typing.specs.Shapes.{count_of as elements_of}
+use Rattle.source_meaning.specs.Shapes.{count_of as elements_of}
 use Rattle.source_typing.specs.Types.{StaticType, Thin}
 use Rattle.source_typing.specs.Verdicts.{Of, Verdict, faults_of}
 use Rattle.source_typing.specs.Written.{Spot, find_region, spot}

@@ -11,7 +11,6 @@ mod global_types;
 mod names;
 mod structs;
 
-pub use check_declarations::{Names, is_main};
 pub use global::{JudgedGlobal, judged_global};
 pub use names::{item_name, next_index, program_names};
 pub use structs::Structs;

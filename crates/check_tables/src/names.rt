@@ -13,7 +13,7 @@ ghost use Rattle.check_tables.specs.Structs.{KnowsStructs, MeansTag, tag_meaning
 
 use crate::global::{JudgedGlobal, judged_global};
 use crate::structs::Structs;
-use check_declarations::{head_meaning, read_head};
+use check_heads::{head_meaning, read_head};
 use check_scopes::{Globals, Meaning};
 use check_types::TagName;
 use cyc_tree::{Function, Item, Name};

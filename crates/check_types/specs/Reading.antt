@@ -6,7 +6,7 @@ use Rattle.cyc_tree.specs.declared.name.Sign.{Sign}
 use Rattle.source_typing.specs.Faults as rules
 use Rattle.source_typing.specs.Functions.{fits_parameter}
 use Rattle.source_typing.specs.Regions.{Region}
-use Rattle.source_typing.specs.Shapes.{MayBeNull, NeverNull}
+use Rattle.source_meaning.specs.Shapes.{MayBeNull, NeverNull}
 use Rattle.source_typing.specs.Types.{Char, Fat, Int, PartialType, StaticType, Thin, TypeIn, Unique, Unsigned, Void, is_void}
 use Rattle.source_typing.specs.Verdicts.{Verdict, if_fits}
 use Rattle.source_typing.specs.Written.{Found, Is, IsUnique, Missing, Spot, as_region, spot, thin_to}

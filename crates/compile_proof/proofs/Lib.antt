@@ -5,4 +5,4 @@ pub mod LowerableDo
 pub mod NamedApart
 pub mod DataWithin
 pub mod AcceptedDo
-pub use Rattle.accepted_proof.proofs.Joined
+

@@ -12,9 +12,6 @@ mod plain;
 mod store;
 mod tables;
 
-pub use arena_laws::{Owner, Standing, StoreRefusal, live_blocks, refused_by_count};
 pub use paged::PagedStore;
 pub use plain::PlainStore;
-pub use raw_pages::PagesFault;
 pub use store::BlockStore;
-pub use unique_blocks::UniqueBlocks;

@@ -18,9 +18,9 @@ ghost use Rattle.unique_blocks.specs.Calls.{slot_least};
 
 use crate::store::BlockStore;
 use arena_laws::StoreRefusal;
-use dynamic_region::{Blocks, Handle, Key, KeyRefusal, Keys, Refusal};
+use dynamic_region::{Blocks, Key, KeyRefusal, Keys};
+use region_runtime::{Handle, Refusal, Pool};
 use raw_pages::PagesFault;
-use region_runtime::Pool;
 use std::alloc::Global;
 use unique_blocks::{UniqueBlocks, UniqueRefusal};
 

@@ -3,7 +3,7 @@ use Rattle.std.proofs.Common.{ℕ, List, ⊎_elim}
 use Rattle.cyc_words.specs.Events.{AreBytes}
 use Rattle.cyc_tree.specs.Tree.{Program}
 use Rattle.core_meaning.specs.Meaning.{core}
-use Rattle.lower_checks.proofs.Joined.{lowerable, never_stuck}
+use Rattle.accepted_proof.proofs.Joined.{lowerable, never_stuck}
 use Rattle.source_lowering.proofs.Programs.{programs_same}
 use Rattle.source_lowering.specs.Agreeing.{SameOutcome}
 use Rattle.source_lowering.specs.Lowerable.{HaveFewMembers}

@@ -9,12 +9,12 @@ use Rattle.cyc_tree.specs.Tree.{Constant, Initial, Item, Program, Statement}
 use Rattle.core_eval.specs.declared.ending.EvalEnding.TheVariants as ending
 use Rattle.source_meaning.specs.Shapes.{Part, Shape, settled, written}
 use Rattle.source_meaning.specs.Memory.{Memory, Scalar, Spot}
-use Rattle.source_meaning.specs.Steps.{Flow, Routine, Says, Step, World}
+use Rattle.source_meaning.specs.Steps.{Flow, Routine, Step, World}
+use Rattle.step_trees.specs.Trees.{Says}
 use Rattle.source_meaning.specs.Calls.{function_of}
 use Rattle.source_meaning.specs.Regions.{in_block}
 use Rattle.source_meaning.specs.Statements.{block_items}
-use Rattle.source_meaning.specs.Programs.{constant_shape, constant_value, entered, first_memory, global_stored, globals_stored, heap_spot, source, start}
-use Rattle.source_meaning.specs.Programs.{result_of, status_of, with_arguments, world_of}
+use Rattle.source_meaning.specs.Programs.{constant_shape, constant_value, entered, first_memory, global_stored, globals_stored, heap_spot, source, start, result_of, status_of, with_arguments, world_of}
 use Rattle.source_meaning.proofs.Quiet.{IsQuiet, Quiet, converted_quiet, give_quiet, integer_quiet, need_quiet, one_quiet, write_cells_quiet}
 use Rattle.source_meaning.proofs.QuietForms.{AreSilent, result_quiet, silent_run, statement_quiet}
 use Rattle.cyc_meaning.specs.Evaluated.{IsEvaluated}

@@ -9,7 +9,5 @@
 mod laws;
 mod running;
 
-pub use core_eval::EvalEnding;
 pub use laws::never_stuck;
-pub use lower_checks::lower;
 pub use running::eval;

@@ -3,7 +3,7 @@ use Rattle.std.proofs.Common.{◌≡◌, ℕ, ◌≤◌, Bool, true, false, List
 use Rattle.std.proofs.lemmas.List.{append-nil}
 use Rattle.std.proofs.lemmas.Slice.Eq.{bytes_eq-Decides}
 use Rattle.std.specs.Prelude.{None, Option, Some, bytes_eq, if◌then◌else◌, is_some, ◌||◌}
-use Rattle.source_typing.specs.Shapes.{Layout}
+use Rattle.source_meaning.specs.Shapes.{Layout}
 use Rattle.source_typing.specs.Extents.{is_named_before, layouts_onto, meant_first}
 use Rattle.source_typing.specs.Tables.{Entry, Named, OfBuiltin, OfFunction, OfOther, OfTag, OfValue, Tables, Tag, as_tag, find, tag_in}
 use Rattle.cyc_types.specs.FirstTags.{AlikeTags, if_tag, tags_alone, tags_first}

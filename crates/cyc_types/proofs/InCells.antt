@@ -4,9 +4,9 @@ use Rattle.std.proofs.lemmas.Bool.{and_parts}
 use Rattle.std.proofs.lemmas.List.{append_assoc, append-nil}
 use Rattle.std.proofs.lemmas.Slice.Eq.{bytes_eq-Decides}
 use Rattle.std.specs.Prelude.{None, Option, Some, bytes_eq, if◌then◌else◌, is_none, is_some, map}
-use Rattle.source_typing.specs.Placing.{Placed, all_placed, placed_by, struct_placed}
-use Rattle.source_typing.specs.Shapes.{Layout, Shape}
-use Rattle.source_typing.specs.Sizes.{Extent, extent_by, laid_out, largest, no_extent, struct_extent, union_extent}
+use Rattle.source_meaning.specs.Placing.{Placed, all_placed, placed_by, struct_placed}
+use Rattle.source_meaning.specs.Shapes.{Layout, Shape}
+use Rattle.source_meaning.specs.Sizes.{Extent, extent_by, laid_out, largest, no_extent, struct_extent, union_extent}
 use Rattle.source_typing.specs.Extents.{fits_bytes, known_shape, layouts_of, layouts_onto, part_shapes}
 use Rattle.source_typing.specs.Tables.{Part, each_part, if_known}
 use Rattle.source_typing.specs.Types.{Char, Fat, Handle, Int, Key, Null, StaticType, Struct, Thin, Union, Unique, Unsigned, Void, same_bool, shape_of}
@@ -16,8 +16,7 @@ use Rattle.cyc_types.specs.Known.{Entry, entries_of, found, is_declared, named_b
 use Rattle.cyc_types.specs.Measures.{bytes_with, extent_in, limited, quick_measure, quick_tag, stored, struct_measure, union_bytes}
 use Rattle.cyc_types.specs.Tags.{members_of}
 use Rattle.cyc_types.specs.declared.tag.Known.{Known}
-use Rattle.cyc_types.proofs.InLayouts.{AllUnions, DeclaredUnions, HasStructs, all_unions, declared_unions, has_unions, largest_small, layout_of, layouts_known}
-use Rattle.cyc_types.proofs.InLayouts.{members, next_struct, one_more, part_measure, same_as, struct_bytes, union_fits, union_parts}
+use Rattle.cyc_types.proofs.InLayouts.{AllUnions, DeclaredUnions, HasStructs, all_unions, declared_unions, has_unions, largest_small, layout_of, layouts_known, members, next_struct, one_more, part_measure, same_as, struct_bytes, union_fits, union_parts}
 use Rattle.cyc_types.proofs.InOrder.{facts, is_nothing, same_bytes}
 use Rattle.cyc_types.proofs.Measured.{if_fits, if_over}
 use Rattle.cyc_types.proofs.PlacedCells.{EachPlaced, fitting, placed_as}

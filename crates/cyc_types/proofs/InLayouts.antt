@@ -4,20 +4,19 @@ use Rattle.std.proofs.lemmas.Bool.{and_parts}
 use Rattle.std.proofs.lemmas.List.{append_assoc, append-nil}
 use Rattle.std.proofs.lemmas.Slice.Eq.{bytes_eq-Decides}
 use Rattle.std.specs.Prelude.{None, Option, Some, bytes_eq, if◌then◌else◌, is_none, is_some, nat_eq, ◌||◌}
-use Rattle.source_typing.specs.Shapes.{Layout, parts_of}
-use Rattle.source_typing.specs.Sizes.{Extent, extent_by, laid_out, largest, no_extent, struct_extent, union_extent}
+use Rattle.source_meaning.specs.Shapes.{Layout, parts_of}
+use Rattle.source_meaning.specs.Sizes.{Extent, extent_by, laid_out, largest, no_extent, struct_extent, union_extent}
 use Rattle.source_typing.specs.Extents.{fits_bytes, is_named_before, known_shape, layouts_of, layouts_onto, meant_first, part_shapes}
 use Rattle.source_typing.specs.Tables.{OfTag, Part, each_part, if_known}
 use Rattle.source_typing.specs.Types.{Char, Fat, Handle, Int, Key, Null, StaticType, Struct, Thin, Union, Unique, Unsigned, Void, same_bool, shape_of}
 use Rattle.cyc_types.specs.InOrder.{are_known, is_known}
 use Rattle.cyc_types.specs.Known.{Entry, entries_of, found, is_declared, named_by}
-use Rattle.cyc_types.specs.Measures.{bytes_and, bytes_with, extent_in, limited, part_extent, quick_measure, quick_tag, same_measure, scalar_bytes}
-use Rattle.cyc_types.specs.Measures.{stored, struct_if, struct_measure, union_bytes, union_if}
+use Rattle.cyc_types.specs.Measures.{bytes_and, bytes_with, extent_in, limited, part_extent, quick_measure, quick_tag, same_measure, scalar_bytes, stored, struct_if, struct_measure, union_bytes, union_if}
 use Rattle.cyc_types.specs.Tags.{members_of, tag_of}
 use Rattle.cyc_types.specs.declared.tag.Known.{Known}
 use Rattle.cyc_types.proofs.InOrder.{facts, found_here, known_at, same_bytes, split}
 use Rattle.cyc_types.proofs.Measured.{EachExtent, if_fits, laid_as}
-use Rattle.source_typing.specs.Shapes as shapes
+use Rattle.source_meaning.specs.Shapes as shapes
 use Rattle.source_typing.specs.Tables as rules
 
 -- ---- one more tag

@@ -5,7 +5,7 @@ use Rattle.std.proofs.lemmas.List.{append_assoc, append-nil, length-map, map_pus
 use Rattle.std.proofs.lemmas.Slice.Eq.{bytes_eq-Decides}
 use Rattle.std.specs.List.{list_all}
 use Rattle.std.specs.Prelude.{Err, None, Ok, OnErr, OnOk, Option, Result, Some, bytes_eq, is_none, is_some, nat_eq, option_map, unwrap_or, ◌&&◌}
-use Rattle.source_typing.specs.Sizes.{Extent}
+use Rattle.source_meaning.specs.Sizes.{Extent}
 use Rattle.source_typing.proofs.Converting.{bool_is}
 use Rattle.source_typing.proofs.Parts.{each_as}
 use Rattle.source_typing.specs.Regions.{Region}

@@ -2,7 +2,7 @@
 use Rattle.std.proofs.Common.{◌≡◌, ℕ, ◌+◌, ◌-◌, ◌≤◌, true, false, List, [], ◌∷◌, ◌++◌, refl, sym, ap, subst, ◌∙◌, arith, cond, map}
 use Rattle.std.proofs.lemmas.List.{append_assoc, append-nil}
 use Rattle.std.specs.Prelude.{None, Option, Some}
-use Rattle.source_typing.specs.Sizes.{Extent, rounded_up}
+use Rattle.source_meaning.specs.Sizes.{Extent, rounded_up}
 use Rattle.source_typing.specs.Extents.{most_bytes}
 use Rattle.source_typing.specs.Tables.{Part}
 use Rattle.cyc_types.specs.Cells.{KindAt, cells_found, cells_of, found_cells, kept_with, moved_by, part_cells, placed_onto, struct_cells}

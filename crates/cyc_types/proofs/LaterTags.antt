@@ -3,16 +3,16 @@ use Rattle.std.proofs.Common.{◌≡◌, ℕ, Bool, true, false, List, [], ◌�
 use Rattle.std.proofs.lemmas.Slice.Eq.{bytes_eq-Decides}
 use Rattle.std.specs.Prelude.{bytes_eq, if◌then◌else◌, ◌*◌, ◌+◌}
 use Rattle.std.proofs.lemmas.Bool.{or_parts}
-use Rattle.source_typing.specs.Tree.{Structure}
-use Rattle.source_typing.proofs.Layouts.{no_parts}
-use Rattle.source_typing.specs.Shapes.{CharShape, FatShape, Layout, Shape, StructShape, UnionShape, VoidShape, has_tag, parts_of}
-use Rattle.source_typing.specs.Sizes.{Extent, extent_by, laid_out, largest, no_extent, rounded_up, struct_extent, union_extent}
+use Rattle.cyc_tree.specs.Tree.{Structure}
+use Rattle.source_meaning.proofs.Layouts.{no_parts}
+use Rattle.source_meaning.specs.Shapes.{CharShape, FatShape, Layout, Shape, StructShape, UnionShape, VoidShape, has_tag, parts_of}
+use Rattle.source_meaning.specs.Sizes.{Extent, extent_by, laid_out, largest, no_extent, rounded_up, struct_extent, union_extent}
 use Rattle.source_typing.specs.Extents.{is_named_before, layouts_of, layouts_onto, meant_first, part_shapes}
 use Rattle.source_typing.specs.Tables.{Entry, Named, OfBuiltin, OfFunction, OfOther, OfTag, OfValue, Part, Tables, Tag}
 use Rattle.source_typing.specs.Tags.{struct_bytes}
 use Rattle.source_typing.specs.Types.{same_bool}
 use Rattle.cyc_types.specs.FirstTags.{AreEmpty, AreOwn, IsEmpty, IsOwn}
-use Rattle.source_typing.specs.Shapes as shapes
+use Rattle.source_meaning.specs.Shapes as shapes
 
 -- ---- names that are passed
 

@@ -1,9 +1,9 @@
 -- Bytes are counted member by member, up to the most that a type may have.
 use Rattle.std.proofs.Common.{◌≡◌, ℕ, ◌≤◌, ◌+◌, Bool, true, false, List, [], ◌∷◌, refl, sym, ap, ◌∙◌, arith, max}
 use Rattle.std.specs.Prelude.{None, Option, Some, if◌then◌else◌}
-use Rattle.source_typing.proofs.Layouts.{laid_above}
-use Rattle.source_typing.specs.Shapes.{Shape}
-use Rattle.source_typing.specs.Sizes.{Extent, laid_out, rounded_up}
+use Rattle.source_meaning.proofs.Layouts.{laid_above}
+use Rattle.source_meaning.specs.Shapes.{Shape}
+use Rattle.source_meaning.specs.Sizes.{Extent, laid_out, rounded_up}
 use Rattle.source_typing.specs.Extents.{fits_bytes, known_shape, part_shapes}
 use Rattle.source_typing.specs.Tables.{Part}
 use Rattle.source_typing.specs.Types.{StaticType}

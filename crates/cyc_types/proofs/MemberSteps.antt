@@ -2,7 +2,7 @@
 use Rattle.std.proofs.Common.{◌≡◌, ℕ, ◌+◌, ◌<◌, List, ◌∷◌, sym, ap, ◌∙◌, drop, get_or, length, max}
 use Rattle.std.proofs.lemmas.List.{drop_more}
 use Rattle.std.specs.Prelude.{Option, Some}
-use Rattle.source_typing.specs.Sizes.{Extent, extent_by, largest, no_extent}
+use Rattle.source_meaning.specs.Sizes.{Extent, extent_by, largest, no_extent}
 use Rattle.source_typing.specs.Extents.{part_shapes}
 use Rattle.source_typing.specs.Types.{StaticType}
 use Rattle.cyc_types.specs.Measures.{part_extent, placed_after, quick_laid, scalar_bytes}

@@ -2,8 +2,8 @@
 use Rattle.std.proofs.Common.{◌≡◌, ℕ, ◌≤◌, ◌+◌, Bool, true, false, List, [], ◌∷◌, ◌++◌, refl, sym, ap, ◌∙◌, arith, map, max, true≢false}
 use Rattle.std.proofs.lemmas.List.{map-append}
 use Rattle.std.specs.Prelude.{None, Option, Some, if◌then◌else◌, is_none, unwrap_or}
-use Rattle.source_typing.proofs.Layouts.{rounded_above}
-use Rattle.source_typing.specs.Sizes.{Extent, rounded_up}
+use Rattle.source_meaning.proofs.Layouts.{rounded_above}
+use Rattle.source_meaning.specs.Sizes.{Extent, rounded_up}
 use Rattle.source_typing.specs.Extents.{fits_bytes}
 use Rattle.source_typing.specs.Tables.{Part}
 use Rattle.source_typing.specs.Types.{StaticType}

@@ -2,10 +2,10 @@
 use Rattle.std.proofs.Common.{◌≡◌, ℕ, ◌≤◌, ◌+◌, true, List, [], ◌∷◌, ◌++◌, refl, sym, ap, ◌∙◌, arith, map, max}
 use Rattle.std.proofs.lemmas.List.{map-append}
 use Rattle.std.specs.Prelude.{Option, Some, if◌then◌else◌}
-use Rattle.source_typing.proofs.Layouts.{laid_above}
-use Rattle.source_typing.specs.Placing.{Placed, all_placed, moved}
-use Rattle.source_typing.specs.Shapes.{Shape}
-use Rattle.source_typing.specs.Sizes.{Extent, laid_out, rounded_up}
+use Rattle.source_meaning.proofs.Layouts.{laid_above}
+use Rattle.source_meaning.specs.Placing.{Placed, all_placed, moved}
+use Rattle.source_meaning.specs.Shapes.{Shape}
+use Rattle.source_meaning.specs.Sizes.{Extent, laid_out, rounded_up}
 use Rattle.source_typing.specs.Extents.{fits_bytes, known_shape, part_shapes}
 use Rattle.source_typing.specs.Tables.{Part}
 use Rattle.source_typing.specs.Types.{StaticType}

@@ -2,7 +2,7 @@
 use Rattle.std.proofs.Common.{◌≡◌, Bool, true, false, List, [], ◌∷◌, length, refl, sym, ap, ◌∙◌, arith, suc, ◌+◌}
 use Rattle.std.specs.List.{fold, zip}
 use Rattle.source_typing.specs.Regions.{same_id}
-use Rattle.source_typing.specs.Shapes.{same_bound, single}
+use Rattle.source_meaning.specs.Shapes.{same_bound, single}
 use Rattle.source_typing.specs.Types.{ByRegions, Differs, Equals, Match, StaticType, compare, matched, only, same_bool}
 use Rattle.cyc_types.specs.Bases.{base_type}
 use Rattle.cyc_types.specs.Layers.{layers_match, next_alike, pointed, pointer_to}

@@ -2,7 +2,7 @@
 use Rattle.std.proofs.Common.{◌≡◌, ℕ, true, false, List, [], ◌∷◌, ◌++◌, refl, sym, ap, ◌∙◌, cond, true≢false}
 use Rattle.std.proofs.lemmas.Bool.{and_parts}
 use Rattle.std.specs.Prelude.{None, Option, Some, is_some}
-use Rattle.source_typing.specs.Sizes.{Extent}
+use Rattle.source_meaning.specs.Sizes.{Extent}
 use Rattle.source_typing.specs.Tables.{Part, each_part, if_known}
 use Rattle.source_typing.specs.Types.{StaticType, Struct, Union}
 use Rattle.cyc_types.specs.InOrder.{are_known}

@@ -2,8 +2,8 @@
 use Rattle.std.proofs.Common.{◌≡◌, Bool, true, false, List, [], ◌∷◌, refl, sym, ap, ◌∙◌}
 use Rattle.std.proofs.lemmas.Slice.Eq.{bytes_eq-Decides}
 use Rattle.std.specs.Prelude.{None, Option, Some, if◌then◌else◌, is_some}
-use Rattle.source_typing.specs.Tree.{Structure}
-use Rattle.source_typing.specs.Sizes.{Extent, extent_by, laid_out, no_extent, struct_extent, union_extent}
+use Rattle.cyc_tree.specs.Tree.{Structure}
+use Rattle.source_meaning.specs.Sizes.{Extent, extent_by, laid_out, no_extent, struct_extent, union_extent}
 use Rattle.source_typing.specs.Extents.{fits_bytes, known_shape, layouts_of, part_shapes}
 use Rattle.source_typing.specs.Tables.{Part}
 use Rattle.source_typing.specs.Tags.{struct_bytes}

@@ -2,7 +2,7 @@
 use Rattle.std.proofs.Common.{◌≡◌, ℕ, ◌+◌, ◌≤◌, true, List, [], ◌∷◌, ◌++◌, refl, sym, ap, ◌∙◌, arith, cond, true≢false}
 use Rattle.std.proofs.lemmas.Bool.{and_parts}
 use Rattle.std.specs.Prelude.{None, Option, Some, is_some}
-use Rattle.source_typing.specs.Sizes.{Extent}
+use Rattle.source_meaning.specs.Sizes.{Extent}
 use Rattle.source_typing.specs.Tables.{Part, each_part, if_known}
 use Rattle.source_typing.specs.Types.{StaticType, Struct}
 use Rattle.cyc_types.specs.Cells.{KindAt, cells_after, found_cells, kept_with, known_cells, no_cells_of, part_cells, placed_onto, quick_cells}

@@ -1,23 +1,22 @@
 -- The struct or union is declared that a type as written is.
 use Rattle.std.proofs.Common.{◌≡◌, ℕ, Bool, true, false, List, [], ◌∷◌, ◌++◌, map, refl, ap, ◌∙◌}
 use Rattle.std.specs.Prelude.{None, Option, Some, is_some, nat_eq, suc, zero, ◌&&◌, if◌then◌else◌}
-use Rattle.source_typing.specs.Tree.{TypeName}
-use Rattle.source_typing.specs.Sign.{Sign}
+use Rattle.cyc_tree.specs.Tree.{TypeName}
+use Rattle.cyc_tree.specs.declared.name.Sign.{Sign}
 use Rattle.source_typing.specs.Declarations.{stands_earlier, tag_earlier}
 use Rattle.source_typing.specs.Faults.{Fault}
 use Rattle.source_typing.specs.Missing.{alone_with, as_type, fat_with, filled_from, or_found, outer_region, pointee_of, settled, thin_with, unique_with}
 use Rattle.source_typing.specs.Regions.{Region}
 use Rattle.source_typing.specs.Scope.{Env}
-use Rattle.source_typing.specs.Shapes.{MayBeNull, NeverNull, Reach, may_be_null, number_of}
+use Rattle.source_meaning.specs.Shapes.{MayBeNull, NeverNull, Reach, may_be_null, number_of}
 use Rattle.source_typing.specs.Tables.{Entry, OfBuiltin, OfFunction, OfOther, OfTag, OfValue, Tables, as_tag, each_part, find, if_known, tag_in}
 use Rattle.source_typing.specs.Tags.{fits_member, member_fitting, member_type, parts_by, settled_alone}
 use Rattle.source_typing.specs.Types.{Char, Fat, Handle, Int, Key, Null, PartialType, StaticType, Struct, Thin, Union, Unique, Unsigned, Void}
 use Rattle.source_typing.specs.Verdicts.{Faulty, Of, Unjudged, Verdict, after, if_fits, known, unless_faulty}
-use Rattle.source_typing.specs.Written.{Found, RegionNamed, all_found, as_region, base_of, built, count_fits, counted_type, pointer_to, pointers_to, thin_to}
-use Rattle.source_typing.specs.Written.{Is, IsUnique, Missing, spots_of, tag_of, type_built, with_arguments, written, written_on, written_with}
+use Rattle.source_typing.specs.Written.{Found, RegionNamed, all_found, as_region, base_of, built, count_fits, counted_type, pointer_to, pointers_to, thin_to, Is, IsUnique, Missing, spots_of, tag_of, type_built, with_arguments, written, written_on, written_with}
 use Rattle.cyc_types.specs.Known.{has_declared}
-use Rattle.source_typing.specs.Tree as tree
-use Rattle.source_typing.specs.Sign.TheVariants as sign
+use Rattle.cyc_tree.specs.Tree as tree
+use Rattle.cyc_tree.specs.declared.name.Sign.TheVariants as sign
 
 -- of a type with regions that may be missing
 abbrev declares : Tables → PartialType → Bool

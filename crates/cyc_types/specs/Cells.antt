@@ -1,7 +1,7 @@
 -- Where the cells of types lie, by what is known of structs once they are declared.
 use Rattle.std.specs.Prelude.{List, None, Option, Some, bytes_eq, false, map, true, ℕ, ◌+◌, if◌then◌else◌, [], ◌∷◌, ◌++◌}
-use Rattle.source_typing.specs.Placing.{Placed, placed_by, struct_placed}
-use Rattle.source_typing.specs.Sizes.{Extent, rounded_up}
+use Rattle.source_meaning.specs.Placing.{Placed, placed_by, struct_placed}
+use Rattle.source_meaning.specs.Sizes.{Extent, rounded_up}
 use Rattle.source_typing.specs.Extents.{layouts_of}
 use Rattle.source_typing.specs.Tables.{Part}
 use Rattle.source_typing.specs.Types.{StaticType, Struct, shape_of}

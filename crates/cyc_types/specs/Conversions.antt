@@ -1,6 +1,6 @@
 -- Conversions, by the outermost pointers of two types.
 use Rattle.std.specs.Prelude.{Bool, None, Option, Some, option_map, ℕ}
-use Rattle.source_typing.specs.Shapes.{may_be_null}
+use Rattle.source_meaning.specs.Shapes.{may_be_null}
 use Rattle.source_typing.specs.Conversions.{if_enough, nullable, ordered, unless_differs}
 use Rattle.source_typing.specs.Faults.{outlives_rule, region_rule, type_rule}
 use Rattle.source_typing.specs.Regions.{Regions}

@@ -2,7 +2,7 @@
 use Rattle.std.specs.Borrow.{Bor}
 use Rattle.std.specs.Map.{lookup}
 use Rattle.std.specs.Prelude.{Bool, List, None, Option, Some, bytes_eq, false, is_some, map, option_map, true, ℕ}
-use Rattle.source_typing.specs.Shapes.{may_be_null}
+use Rattle.source_meaning.specs.Shapes.{may_be_null}
 use Rattle.source_typing.specs.Types.{Char, Fat, Int, Key, StaticType, Struct, Thin, Union, Unique, Unsigned}
 use Rattle.cyc_types.specs.Tags.{named_tag, tag_of}
 use Rattle.cyc_types.specs.declared.tag.Known.{Known}

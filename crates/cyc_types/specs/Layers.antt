@@ -1,6 +1,6 @@
 -- Pointers of a type in code, as the rules say them.
 use Rattle.std.specs.Prelude.{Bool, List, None, Option, Some, false, nat_le, true, [], ◌∷◌}
-use Rattle.source_typing.specs.Shapes.{count_of, may_be_null, same_bound, single}
+use Rattle.source_meaning.specs.Shapes.{count_of, may_be_null, same_bound, single}
 use Rattle.source_typing.specs.Regions.{same_id}
 use Rattle.source_typing.specs.Types.{Differs, Fat, Match, StaticType, Thin, Unique, by_regions, matched, only, same_bool}
 use Rattle.cyc_types.specs.Likeness.{likeness_of, match_of}

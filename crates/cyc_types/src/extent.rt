@@ -47,7 +47,7 @@ pub struct Extent {
 
 impl Extent {
     ghost use Rattle.std.specs.Prelude.{◌≡◌, Some};
-    ghost use Rattle.source_typing.specs.Sizes.{rounded_up};
+    ghost use Rattle.source_meaning.specs.Sizes.{rounded_up};
     ghost use Rattle.cyc_types.specs.Measures.{align_of, bytes_and, extent_of, limited, measured, padded, placed_after};
 
     /// How many bytes there are.

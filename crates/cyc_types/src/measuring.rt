@@ -1,8 +1,8 @@
 // How many bytes types have.
 
 ghost use Rattle.std.specs.Prelude.{◌≡◌, ◌≤◌, Some};
-ghost use Rattle.source_typing.specs.Sizes.{extent_by, largest, no_extent};
-ghost use Rattle.source_typing.specs.Tree.{Structure};
+ghost use Rattle.source_meaning.specs.Sizes.{extent_by, largest, no_extent};
+ghost use Rattle.cyc_tree.specs.Tree.{Structure};
 ghost use Rattle.source_typing.specs.Extents.{fits_bytes, part_shapes};
 ghost use Rattle.source_typing.specs.Tags.{struct_bytes};
 ghost use Rattle.cyc_types.specs.Bases.{base_type};

@@ -1,7 +1,7 @@
 // How far thin pointers lead.
 
 ghost use Rattle.std.specs.Prelude.{◌≡◌};
-ghost use Rattle.source_typing.specs.Shapes.{count_of, may_be_null, number_of, same_bound, single};
+ghost use Rattle.source_meaning.specs.Shapes.{count_of, may_be_null, number_of, same_bound, single};
 ghost use Rattle.cyc_types.specs.Reaches.{reach_of};
 
 /// To how many elements a thin pointer leads, from where it points on, and whether it may be `NULL`.

@@ -12,7 +12,8 @@ use crate::lines::Told;
 use crate::result::Answer;
 use crate::sources::{checked, compiled, interpreted, ran};
 use command_line::Command;
-use cycc_driver::{Input, Limits, Output};
+use cyc_words::{Input, Output};
+use cycc_driver::Limits;
 use std::alloc::{AllocError, Global};
 use std::io::Write;
 

@@ -11,9 +11,5 @@ mod result;
 mod sources;
 
 pub use answering::{answer, longest_file};
-pub use cycc_driver::{
-    BlockStore, CompileFault, Counted, Ending, Image, Input, Machine, Output, PagedStore,
-    PlainStore, compile, front, load, run,
-};
 pub use lines::{ended, printed, refused};
 pub use result::Answer;

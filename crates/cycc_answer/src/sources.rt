@@ -9,7 +9,8 @@ use crate::lines::{Told, ended, evaluated, printed, refused};
 use crate::result::Answer;
 use command_line::Pages;
 use command_line::status::SUCCESS;
-use cycc_driver::{Input, Limits, Output, check, compile, evaluate, execute};
+use cyc_words::{Input, Output};
+use cycc_driver::{Limits, check, compile, evaluate, execute};
 use std::alloc::{AllocError, Global};
 use std::io::Write;
 

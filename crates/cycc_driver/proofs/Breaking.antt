@@ -6,8 +6,8 @@ use Rattle.source_typing.specs.Answers.{first_fault}
 use Rattle.check_faults.specs.declared.fault.Fault.{Fault}
 use Rattle.check_faults.specs.declared.fault.FaultKind.{FaultKind}
 use Rattle.check_faults.specs.declared.fault.FaultKind.TheVariants as kind
-use Rattle.unique_flow.specs.CheckFault.{CheckFault}
-use Rattle.unique_flow.specs.CheckFault.TheVariants as check
+use Rattle.effect_check.specs.declared.fault.CheckFault.{CheckFault}
+use Rattle.effect_check.specs.declared.fault.CheckFault.TheVariants as check
 use Rattle.unique_flow.specs.Faults.{IsFirstFault}
 use Rattle.unique_flow.specs.declared.fault.FlowFault.{FlowFault}
 use Rattle.unique_flow.specs.declared.fault.FlowFault.TheVariants as flow

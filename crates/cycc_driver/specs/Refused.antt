@@ -4,8 +4,8 @@ use Rattle.cyc_lexer.specs.declared.fault.LexFault.{LexFault}
 use Rattle.cyc_lexer.specs.declared.fault.LexFault.TheVariants as lex
 use Rattle.cyc_parser.specs.declared.fault.ParseFault.{ParseFault}
 use Rattle.cyc_parser.specs.declared.fault.ParseFault.TheVariants as parse
-use Rattle.unique_flow.specs.CheckFault.{CheckFault}
-use Rattle.unique_flow.specs.CheckFault.TheVariants as check
+use Rattle.effect_check.specs.declared.fault.CheckFault.{CheckFault}
+use Rattle.effect_check.specs.declared.fault.CheckFault.TheVariants as check
 use Rattle.check_faults.specs.declared.fault.FaultKind.{FaultKind}
 use Rattle.unique_flow.specs.declared.fault.FlowFault.{FlowFault}
 use Rattle.unique_flow.specs.declared.fault.FlowFault.TheVariants as flow

@@ -20,12 +20,16 @@ use crate::fault::{CompileFault, Place, of_checking, of_flow, of_lexing, of_pars
 use cyc_core::Program as Core;
 use cyc_image::{Parts, write};
 use cyc_lexer::tokens;
-use cyc_meaning::lower;
+use lower_checks::lower;
 use cyc_parser::parse;
 use cyc_tree::Program;
-use rv32_layout::{LayoutFault, data, place, select};
+use rv32_layout::{LayoutFault, data, place};
+use rv32_select::select;
 use std::alloc::Global;
-use unique_flow::{CheckFault, Checked, effects, first_broken, flow, typed};
+use effect_check::{CheckFault, effects};
+use accepted_programs::Checked;
+use unique_flow::{first_broken, flow};
+use region_types::typed;
 
 /// The program that a text spells.
 fn parsed(alloc: Global, text: &[u8]) -> Result<Program, CompileFault>

@@ -8,7 +8,8 @@ ghost use Rattle.cycc_driver.specs.Evaluated.{IsTextEvaluated};
 
 use crate::compiling::front;
 use crate::fault::CompileFault;
-use cyc_meaning::{EvalEnding, eval};
+use core_eval::EvalEnding;
+use cyc_meaning::eval;
 use cyc_words::{Input, Output};
 use std::alloc::Global;
 

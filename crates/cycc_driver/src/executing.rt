@@ -7,7 +7,8 @@ ghost use Rattle.cycc_driver.specs.Outcome.{IsTextRun};
 
 use crate::compiling::compile;
 use crate::fault::CompileFault;
-use cyc_arena::{PagedStore, PagesFault};
+use cyc_arena::PagedStore;
+use raw_pages::PagesFault;
 use cyc_host::{Ending, run};
 use cyc_image::{ImageFault, load};
 use cyc_words::{Input, Output};

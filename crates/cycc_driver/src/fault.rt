@@ -12,7 +12,8 @@ use cyc_parser::ParseFault;
 use std::alloc::AllocError;
 use std::error::Error;
 use std::fmt;
-use unique_flow::{CheckFault, FlowFault};
+use effect_check::CheckFault;
+use unique_flow::FlowFault;
 
 /// A place in a text: the line and the column, from 1 on, of a byte.
 #[derive(Clone, Copy, Debug)]

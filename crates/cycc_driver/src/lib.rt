@@ -12,13 +12,6 @@ mod executing;
 mod fault;
 
 pub use compiling::{accepted_or_refused, check, compile, front, one_fault};
-pub use cyc_arena::{BlockStore, PagedStore, PlainStore};
-pub use cyc_host::{Ending, run};
-pub use cyc_image::{Image, ImageFault, load};
-pub use cyc_meaning::{EvalEnding, eval, never_stuck};
-pub use cyc_words::{Counted, Input, Kind, MachineFault, Output};
 pub use evaluating::evaluate;
 pub use executing::{Limits, execute};
 pub use fault::{CompileFault, Place};
-pub use rv32_isa::{Instr, decode};
-pub use rv32_machine::{Event, Machine};

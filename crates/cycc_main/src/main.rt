@@ -6,7 +6,8 @@
 
 use command_line::status::{FILE_FAULT, MEMORY, SUCCESS, usage_status};
 use command_line::{Command, command_of, is_same_file, shown, shown_error, words_of};
-use cycc_answer::{Counted, longest_file, printed};
+use cyc_words::Counted;
+use cycc_answer::{longest_file, printed};
 pub use cycc_answer::{Answer, answer};
 use std::alloc::AllocError;
 use std::fs::File;

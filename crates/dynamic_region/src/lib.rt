@@ -19,6 +19,4 @@ pub use blocks::Blocks;
 pub use key::Key;
 pub use keys::Keys;
 pub use refusal::KeyRefusal;
-pub use region_runtime::{Handle, Pool, Refusal};
 pub use regions::Regions;
-pub use unique_blocks::{UniqueBlocks, UniqueRefusal};

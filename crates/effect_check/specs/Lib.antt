@@ -1,1 +1,0 @@
-pub use Rattle.region_types.specs.Faults

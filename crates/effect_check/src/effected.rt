@@ -8,7 +8,8 @@ ghost use Rattle.source_typing.specs.Answers.{effect_fault};
 use crate::fault::CheckFault;
 use check_faults::Fault;
 use cyc_tree::Program;
-use region_types::{Typed, program_fault};
+use region_types::Typed;
+use check_programs::program_fault;
 use std::alloc::{AllocError, Global};
 use std::marker::Model;
 

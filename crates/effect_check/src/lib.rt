@@ -10,4 +10,3 @@ mod fault;
 
 pub use effected::{Effected, effect_fault, effects};
 pub use fault::CheckFault;
-pub use region_types::typed;

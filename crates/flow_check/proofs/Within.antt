@@ -13,7 +13,7 @@ use Rattle.check_scopes.specs.Locals.{find_what}
 use Rattle.check_scopes.specs.Matching.{AreLocals}
 use Rattle.check_scopes.specs.declared.locals.What.{What}
 use Rattle.check_scopes.specs.declared.scope.Scope.{Scope}
-use Rattle.check_expressions.specs.Enclosings.{enclosing_of}
+use Rattle.check_calls.specs.Enclosings.{enclosing_of}
 use Rattle.check_expressions.proofs.Within as judged
 use Rattle.check_expressions.specs.Within.{is_counter}
 use Rattle.check_expressions.specs.declared.around.Around.{Around}

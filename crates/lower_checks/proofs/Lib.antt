@@ -34,4 +34,4 @@ mod Wholes
 mod Within
 mod Near
 mod Writing
-pub use Rattle.accepted_proof.proofs.Joined
+

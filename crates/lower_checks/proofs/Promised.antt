@@ -8,7 +8,8 @@ use Rattle.core_meaning.specs.Core.{Function}
 use Rattle.core_meaning.specs.Core as core
 use Rattle.source_lowering.specs.Programs.{function_code, program_code}
 use Rattle.source_lowering.specs.Lowerable.{HaveFewMembers}
-use Rattle.source_lowering.specs.Bounds.{FramesFit, core_bound, frame_bound}
+use Rattle.source_lowering.specs.Bounds.{FramesFit, frame_bound}
+use Rattle.core_meaning.specs.Bounds.{core_bound}
 use Rattle.source_lowering.proofs.Programs.{programs_same}
 use Rattle.source_lowering.proofs.bounds.Bounded.{code_bounded, program_frames_bounded}
 use Rattle.token_proof.proofs.ProgramSizes.{tokens_pay}

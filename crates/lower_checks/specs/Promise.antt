@@ -10,7 +10,8 @@ use Rattle.core_meaning.specs.Core as core
 use Rattle.core_meaning.specs.Meaning as meaning
 use Rattle.core_meaning.specs.Selectable.{IsSelectable}
 use Rattle.source_lowering.specs.Agreeing.{SameOutcome}
-use Rattle.source_lowering.specs.Bounds.{core_bound, core_code, frame_bound, regions_left}
+use Rattle.core_meaning.specs.Bounds.{core_bound, core_code}
+use Rattle.source_lowering.specs.Bounds.{frame_bound, regions_left}
 
 -- no run of the source on an input is stuck
 abbrev pub IsNeverStuckOn : Program → List ℕ → Type 0

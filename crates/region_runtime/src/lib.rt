@@ -17,5 +17,4 @@ mod walk;
 
 pub use handle::Handle;
 pub use pool::Pool;
-pub use raw_pages::PagesFault;
 pub use refusal::Refusal;

@@ -7,14 +7,13 @@ use Rattle.source_typing.proofs.Inversion.{both_none, none_is, none_of_both}
 use Rattle.source_typing.proofs.SameTags.{SameTags}
 use Rattle.source_typing.specs.Answers.{effect_fault, type_fault}
 use Rattle.source_typing.specs.Faults.{earliest, type_rule}
-use Rattle.source_typing.specs.Programs.{all_tag_faults, builtins, entries, faults_with, item_faults, items_from, judged_tags, main_found}
-use Rattle.source_typing.specs.Programs.{second_names, size_faults, tables_of, typing_faults}
+use Rattle.source_typing.specs.Programs.{all_tag_faults, builtins, entries, faults_with, item_faults, items_from, judged_tags, main_found, second_names, size_faults, tables_of, typing_faults}
 use Rattle.source_typing.specs.Scope.{at_item}
 use Rattle.source_typing.specs.Tables.{Entry, OfBuiltin, OfFunction, OfOther, OfTag, OfValue, Tables, Tag, as_tag, find}
 use Rattle.source_typing.specs.Types.{same_bool}
 use Rattle.source_typing.specs.Verdicts.{Verdict, refuse}
 use Rattle.source_typing.specs.Written.{if_sound, of_kind, tag_of}
-use Rattle.check_programs.proofs.TagTables.{tables_alike}
+use Rattle.check_tables.proofs.TagTables.{tables_alike}
 use Rattle.region_types.proofs.EasedGlobals.{global_same, sizes_same}
 use Rattle.region_types.proofs.EasedHeads.{function_clean}
 use Rattle.region_types.proofs.EasedTables.{entries_eased}

@@ -9,7 +9,5 @@
 mod looking;
 mod program;
 
-pub use check_faults::{Fault, FaultKind};
-pub use check_programs::program_fault;
 pub use looking::{type_fault, typed};
 pub use program::Typed;

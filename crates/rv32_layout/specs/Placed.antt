@@ -5,7 +5,7 @@ use Rattle.rv32_isa.specs.Table.{decoded}
 use Rattle.rv32_isa.specs.declared.instruction.Instr.{Instr}
 use Rattle.core_lines.specs.declared.line.Line.{Line}
 use Rattle.core_lines.specs.Lines.{size_of, instructions_of}
-pub use Rattle.core_lines.specs.Relaxed.{place_of}
+use Rattle.core_lines.specs.Relaxed.{place_of}
 
 -- the instructions of all lines, the first of which is at an address
 abbrev pub instructions_from : (ℕ → ℕ) → ℕ → List Line → List Instr

@@ -19,4 +19,3 @@ mod words;
 pub use code::{Code, place};
 pub use fault::LayoutFault;
 pub use globals::data;
-pub use rv32_select::select;

@@ -13,6 +13,4 @@ pub mod Implements
 pub mod Quiet
 pub mod Quick
 pub mod Ops
-pub use Rattle.cyc_words.specs.Words
-pub use Rattle.cyc_words.specs.Events
-pub use Rattle.rv32_isa.specs.Table
+

@@ -26,8 +26,6 @@ mod requests;
 mod width;
 
 pub use areas::CODE_BASE;
-pub use cyc_arena::BlockStore;
-pub use cyc_words::{Kind, MachineFault};
 pub use event::Event;
 pub use machine::Machine;
 pub use numbers::{

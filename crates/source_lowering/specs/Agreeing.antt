@@ -10,7 +10,8 @@ use Rattle.core_meaning.specs.Steps as core_steps
 use Rattle.core_meaning.specs.Meaning.{core}
 use Rattle.source_lowering.specs.Programs.{program_code}
 use Rattle.source_lowering.specs.Lowerable.{IsLowerable}
-use Rattle.source_lowering.specs.Bounds.{FramesFit, core_code, code_bound}
+use Rattle.source_lowering.specs.Bounds.{FramesFit, code_bound}
+use Rattle.core_meaning.specs.Bounds.{core_code}
 
 -- an event of Core is the source's; functions by their numbers and their names
 pub data SameEvent (w : World) : events.SourceEvent → core_steps.Event → Type 0 where

@@ -37,10 +37,8 @@ use Rattle.source_meaning.specs.Expressions.{is_unique_region}
 use Rattle.source_lowering.specs.Layouts.{extent_of}
 use Rattle.source_lowering.specs.Members.{all_words, member_shape}
 use Rattle.source_lowering.specs.Pieces.{Named, number_named, call_shape, prefix_shape, owner_in, new_shape, static_shape, union_parts}
-use Rattle.source_lowering.specs.Programs.{RegionsAround, no_regions, in_loop, in_switch, regions_with, local_shape, named_here, names_behind}
-use Rattle.source_lowering.specs.Programs.{function_code, outward, parameter_names}
-pub use Rattle.core_meaning.specs.Bounds.{words_of, local_words, statement_words, block_words, core_bound}
-pub use Rattle.core_meaning.specs.Bounds.{operation_count, branch_count, statement_operations, operations_of, all_operations, core_code}
+use Rattle.source_lowering.specs.Programs.{RegionsAround, no_regions, in_loop, in_switch, regions_with, local_shape, named_here, names_behind, function_code, outward, parameter_names}
+use Rattle.core_meaning.specs.Bounds.{words_of, core_bound}
 
 -- ---- the source: nodes of expressions
 

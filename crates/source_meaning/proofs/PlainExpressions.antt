@@ -5,7 +5,8 @@ use Rattle.cyc_tree.specs.declared.expression.Operator.TheVariants.{Equal, NotEq
 use Rattle.cyc_tree.specs.Tree.{Expression, Links, NoLinks, MoreLinks}
 use Rattle.cyc_words.specs.Events.{SourceEnding}
 use Rattle.source_meaning.specs.Memory.{Memory, Scalar, IntegerType, AsInt, AsUnsigned, AsChar, Integer}
-use Rattle.source_meaning.specs.Steps.{Scope, Step, run}
+use Rattle.source_meaning.specs.Steps.{Scope, Step}
+use Rattle.step_trees.specs.Trees.{run}
 use Rattle.source_meaning.specs.Operators.{integers, truth_value}
 use Rattle.source_meaning.specs.Places.{Sense}
 use Rattle.source_meaning.specs.Calls.{constant, number_type, applied}

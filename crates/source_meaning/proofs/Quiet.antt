@@ -7,23 +7,16 @@ use Rattle.cyc_tree.specs.declared.expression.Prefix.{Prefix}
 use Rattle.cyc_tree.specs.declared.expression.Prefix.TheVariants.{Negate, Not, Complement, Dereference, AddressOf}
 use Rattle.cyc_words.specs.declared.faults.Kind.{Kind}
 use Rattle.cyc_words.specs.Events.{ByteRead, ByteWritten, SourceEvent, Visible}
-use Rattle.step_trees.specs.Trees.{Calls, Turns}
-use Rattle.source_meaning.specs.Shapes.{parts_of, Reach, MayBeNull, NeverNull, bound_in, Owner, Shared, Alone, Shape, IntShape, UnsignedShape, CharShape, ThinShape, FatShape, ArrayShape, part_shape}
-use Rattle.source_meaning.specs.Shapes.{part_shapes, pointee, has_tag, same_shape}
-use Rattle.source_meaning.specs.Memory.{Region, Born, Spot, Span, Scalar, IntegerType, AsInt, AsUnsigned, AsChar, Integer, Thin, Wide, HandleOf, Content, Holds}
-use Rattle.source_meaning.specs.Memory.{Blank, Gone, Lent, Object, Live, Memory, beyond, any_moved, cell_at, is_live, is_of, with_state}
-use Rattle.source_meaning.specs.Steps.{Entity, Variable, Fixed, Routine, World, Step, Stops, Says, Reads, Pays, Act, give, ◌>>=◌, ◌>>◌, stuck, raise, need}
-use Rattle.source_meaning.specs.Steps.{check, choose}
+use Rattle.step_trees.specs.Trees.{Calls, Turns, Stops, Says, Reads, Pays}
+use Rattle.source_meaning.specs.Shapes.{parts_of, Reach, MayBeNull, NeverNull, bound_in, Owner, Shared, Alone, Shape, IntShape, UnsignedShape, CharShape, ThinShape, FatShape, ArrayShape, part_shape, part_shapes, pointee, has_tag, same_shape}
+use Rattle.source_meaning.specs.Memory.{Region, Born, Spot, Span, Scalar, IntegerType, AsInt, AsUnsigned, AsChar, Integer, Thin, Wide, HandleOf, Content, Holds, Blank, Gone, Lent, Object, Live, Memory, beyond, any_moved, cell_at, is_live, is_of, with_state}
+use Rattle.source_meaning.specs.Steps.{Entity, Variable, Fixed, Routine, World, Step, Act, give, ◌>>=◌, ◌>>◌, stuck, raise, need, check, choose}
 use Rattle.source_meaning.specs.Operators.{operated, is_true}
-use Rattle.source_meaning.specs.Conversions.{cells_of, element, elements_from, thin_to_thin, fat_to_thin, thin_leads, fat_leads, converted_scalar, converted, one, integer}
-use Rattle.source_meaning.specs.Conversions.{accessed}
+use Rattle.source_meaning.specs.Conversions.{cells_of, element, elements_from, thin_to_thin, fat_to_thin, thin_leads, fat_leads, converted_scalar, converted, one, integer, accessed}
 use Rattle.source_meaning.specs.Values.{value_held, read_cell, read_cells, put_content, write_cell, write_cells, put_contents, take_cells, is_lent}
 use Rattle.source_meaning.specs.Making.{Maker, AsUnique, InRegion, maker_of, ask, make_object}
-use Rattle.source_meaning.specs.Places.{Sense, value_sense, place_sense, no_sense, entity_sense, contents, indexed_span, indexed, member, address_of, given_by}
-use Rattle.source_meaning.specs.Places.{assigned}
-use Rattle.source_meaning.specs.Calls.{constant, applied, truth, all_true, any_true, tested, inverted, prefixed, elements_left, counted, converted_all, flat}
-use Rattle.source_meaning.specs.Calls.{function_of, called, read_byte, write_byte, struct_made, call_sense, union_made, made, elements, array_made}
-use Rattle.source_meaning.specs.Calls.{handle_maker, made_in}
+use Rattle.source_meaning.specs.Places.{Sense, value_sense, place_sense, no_sense, entity_sense, contents, indexed_span, indexed, member, address_of, given_by, assigned}
+use Rattle.source_meaning.specs.Calls.{constant, applied, truth, all_true, any_true, tested, inverted, prefixed, elements_left, counted, converted_all, flat, function_of, called, read_byte, write_byte, struct_made, call_sense, union_made, made, elements, array_made, handle_maker, made_in}
 
 -- an event that is no byte
 abbrev pub IsSilent : SourceEvent → Type 0

@@ -4,33 +4,22 @@ use Rattle.std.specs.List.{Contains}
 use Rattle.std.proofs.lemmas.List.Elements.{Contains-append_cases}
 use Rattle.std.specs.Prelude.{if◌then◌else◌}
 use Rattle.cyc_tree.specs.Tree as tree
-use Rattle.cyc_tree.specs.Tree.{Expression, Expressions, NoExpressions, MoreExpressions, Links, NoLinks, MoreLinks, Suffixes, NoSuffixes, Index, Dot, Arrow}
-use Rattle.cyc_tree.specs.Tree.{Made, One, Array, Initializer, Declaration, Statement, BlockItems, NoItems, Clauses, NoClauses, MoreClauses, Case, Default}
+use Rattle.cyc_tree.specs.Tree.{Expression, Expressions, NoExpressions, MoreExpressions, Links, NoLinks, MoreLinks, Suffixes, NoSuffixes, Index, Dot, Arrow, Made, One, Array, Initializer, Declaration, Statement, BlockItems, NoItems, Clauses, NoClauses, MoreClauses, Case, Default}
 use Rattle.cyc_words.specs.Events.{Event, ByteRead, ByteWritten, SourceEvent, Visible, Called, Returned, visible, output, bytes_read}
-use Rattle.step_trees.specs.Trees.{Calls, Turns}
-use Rattle.source_meaning.specs.Shapes.{Shared, Shape, UnsignedShape, VoidShape, UnionShape, HandleShape, KeyShape, part_position, part_shape, written}
-use Rattle.source_meaning.specs.Shapes.{settled_by, same_shape}
-use Rattle.source_meaning.specs.Memory.{Region, Frame, Born, Spot, Scalar, AsInt, AsUnsigned, AsChar, Integer, Thin, HandleOf, KeyOf, Tagged, Holds, Gone, Lent}
-use Rattle.source_meaning.specs.Memory.{Object, State, Closed, Dead, is_live, is_closed, with_state, blank_object, is_moved}
-use Rattle.source_meaning.specs.Steps.{Entity, Variable, Fixed, Routine, World, Scope, Flow, Falls, Breaks, Continues, Returns, Step, Stops, Says, Reads, Pays}
-use Rattle.source_meaning.specs.Steps.{Act, give, ◌>>=◌, stuck, take_turn, need, finally, run}
+use Rattle.step_trees.specs.Trees.{Calls, Turns, Stops, Says, Reads, Pays, run}
+use Rattle.source_meaning.specs.Shapes.{Shared, Shape, UnsignedShape, VoidShape, UnionShape, HandleShape, KeyShape, part_position, part_shape, written, settled_by, same_shape}
+use Rattle.source_meaning.specs.Memory.{Region, Frame, Born, Spot, Scalar, AsInt, AsUnsigned, AsChar, Integer, Thin, HandleOf, KeyOf, Tagged, Holds, Gone, Lent, Object, State, Closed, Dead, is_live, is_closed, with_state, blank_object, is_moved}
+use Rattle.source_meaning.specs.Steps.{Entity, Variable, Fixed, Routine, World, Scope, Flow, Falls, Breaks, Continues, Returns, Step, Act, give, ◌>>=◌, stuck, take_turn, need, finally}
 use Rattle.source_meaning.specs.Conversions.{cells_of, element}
 use Rattle.source_meaning.specs.Values.{put_content}
 use Rattle.source_meaning.specs.Making.{set_state, heap_maker}
 use Rattle.source_meaning.specs.Places.{Sense, entity_of, with_binding, string_at, contents, indexed, member, or_else}
 use Rattle.source_meaning.specs.Calls.{number_type, applied, handle_maker}
 use Rattle.source_meaning.specs.Expressions.{is_unique_region, sense, senses, linked, suffixed, new_sense, new_in_sense}
-use Rattle.source_meaning.specs.Regions.{in_region, enter_block, in_block, declared, local_with, initialised, operand_of, operand, lending, region_born}
-use Rattle.source_meaning.specs.Regions.{region_freed, lexical_region, key_of, new_key, key_opened, key_closed, open_key, key_freed, unique_freed}
-use Rattle.source_meaning.specs.Regions.{pointer_freed, local_freed, aliased}
-use Rattle.source_meaning.specs.Statements.{falls_to, after_turn, loop, exchanged, after_switch, local, declaration, Held, held_by, is_position, statement}
-use Rattle.source_meaning.specs.Statements.{block_items, case_for, default_for}
+use Rattle.source_meaning.specs.Regions.{in_region, enter_block, in_block, declared, local_with, initialised, operand_of, operand, lending, region_born, region_freed, lexical_region, key_of, new_key, key_opened, key_closed, open_key, key_freed, unique_freed, pointer_freed, local_freed, aliased}
+use Rattle.source_meaning.specs.Statements.{falls_to, after_turn, loop, exchanged, after_switch, local, declaration, Held, held_by, is_position, statement, block_items, case_for, default_for}
 use Rattle.source_meaning.specs.Programs.{source_bodies, is_main, result_at_end, result_of}
-use Rattle.source_meaning.proofs.Quiet.{AreQuietSenses, IsQuiet, IsQuietSense, IsSilent, Quiet, all_true_quiet, any_true_quiet, applied_quiet, array_quiet}
-use Rattle.source_meaning.proofs.Quiet.{assigned_quiet, call_quiet, check_quiet, choose_quiet, constant_quiet, contents_quiet, converted_quiet, counted_quiet}
-use Rattle.source_meaning.proofs.Quiet.{entity_quiet, give_quiet, handle_quiet, if_quiet, indexed_quiet, looked, made_in_quiet, made_quiet, member_quiet}
-use Rattle.source_meaning.proofs.Quiet.{need_quiet, no_sense_quiet, object_quiet, prefixed_quiet, put_quiet, read_cell_quiet, read_cells_quiet, scalar_quiet}
-use Rattle.source_meaning.proofs.Quiet.{stuck_quiet, tested_quiet, truth_quiet, union_quiet, value_is_quiet, write_cells_quiet}
+use Rattle.source_meaning.proofs.Quiet.{AreQuietSenses, IsQuiet, IsQuietSense, IsSilent, Quiet, all_true_quiet, any_true_quiet, applied_quiet, array_quiet, assigned_quiet, call_quiet, check_quiet, choose_quiet, constant_quiet, contents_quiet, converted_quiet, counted_quiet, entity_quiet, give_quiet, handle_quiet, if_quiet, indexed_quiet, looked, made_in_quiet, made_quiet, member_quiet, need_quiet, no_sense_quiet, object_quiet, prefixed_quiet, put_quiet, read_cell_quiet, read_cells_quiet, scalar_quiet, stuck_quiet, tested_quiet, truth_quiet, union_quiet, value_is_quiet, write_cells_quiet}
 
 -- ---- expressions
 

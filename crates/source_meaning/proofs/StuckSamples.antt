@@ -8,7 +8,8 @@ use Rattle.cyc_tree.specs.Tree as tree
 use Rattle.cyc_tree.specs.Tree.{Expression, NoExpressions, MoreExpressions, NoLinks, MoreLinks, NoSuffixes, Dot, One, Initializer, Statement, NoItems, Program}
 use Rattle.cyc_words.specs.Events.{RegionNew, RegionAlloc, RegionFree, UniqueAlloc, UniqueFree, KeyNew, KeyOpen, KeyClose, KeyFree, Visible, Called, SourceEnding}
 use Rattle.source_meaning.specs.Memory.{Memory, Born, is_live}
-use Rattle.source_meaning.specs.Steps.{Step, Stops}
+use Rattle.source_meaning.specs.Steps.{Step}
+use Rattle.step_trees.specs.Trees.{Stops}
 use Rattle.source_meaning.specs.Regions.{region_freed, key_closed}
 use Rattle.source_meaning.specs.Programs.{source}
 use Rattle.source_meaning.proofs.Trees.{named, variable, number, pointer, typed, ◌▸◌, ◌▹◌, function, gives}

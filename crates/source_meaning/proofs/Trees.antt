@@ -5,7 +5,7 @@ use Prim.Native.String.{String}
 use Rattle.cyc_tree.specs.declared.name.Sign.{Sign}
 use Rattle.cyc_tree.specs.Tree.{Name, RegionName, Base, Pointer, TypeName, Expression, Declaration, Statement, BlockItems, Declare, Execute, Member, Function}
 use Rattle.cyc_words.specs.Events.{SourceEvent, SourceEnding}
-use Rattle.source_meaning.specs.Steps.{Outcome}
+use Rattle.step_trees.specs.Trees.{Outcome}
 
 abbrev pub named : String → Name
 named s = record { at = 0; text = codes s }

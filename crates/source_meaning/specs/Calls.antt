@@ -7,7 +7,8 @@ use Rattle.cyc_tree.specs.declared.expression.Prefix.TheVariants.{Negate, Not, C
 use Rattle.cyc_words.specs.Events.{ByteWritten}
 use Rattle.source_meaning.specs.Shapes.{Owner, Shared, Alone, Shape, IntShape, UnsignedShape, CharShape, NeverNull, ThinShape, FatShape, StructShape, UnionShape, parts_of, has_tag, part_position, part_shape, part_shapes}
 use Rattle.source_meaning.specs.Memory.{IntegerType, AsInt, AsUnsigned, AsChar, Spot, Scalar, Integer, Thin, Wide, Tagged, beyond, array_of, blank_cell, blank_object}
-use Rattle.source_meaning.specs.Steps.{Routine, World, Reads, Act, give, ◌>>=◌, ◌>>◌, stuck, show, pay, invoke, memory, need, choose}
+use Rattle.source_meaning.specs.Steps.{Routine, World, Act, give, ◌>>=◌, ◌>>◌, stuck, show, pay, invoke, memory, need, choose}
+use Rattle.step_trees.specs.Trees.{Reads}
 use Rattle.source_meaning.specs.Operators.{truth_value, operated, is_true, operator_shape}
 use Rattle.source_meaning.specs.Conversions.{cells_of, size_of, converted, one, integer}
 use Rattle.source_meaning.specs.Values.{write_cells}

@@ -6,7 +6,8 @@ use Rattle.cyc_words.specs.Words.{difference_of}
 use Rattle.cyc_words.specs.Events.{ByteRead, SourceEvent, Visible, Called, Returned, SourceEnding}
 use Rattle.source_meaning.specs.Shapes.{Shared, Shape, IntShape, UnsignedShape, VoidShape, CharShape, MayBeNull, ThinShape, FatShape, ArrayShape, Layout, Part, part_of, written, settled}
 use Rattle.source_meaning.specs.Memory.{IntegerType, AsInt, AsUnsigned, AsChar, Born, Spot, Scalar, Integer, Thin, Holds, Cell, Object, object_of, Live, Dead, Memory, same_region, blank_object}
-use Rattle.source_meaning.specs.Steps.{Variable, Binding, Routine, World, Scope, Flow, Falls, Breaks, Continues, Returns, Step, Stops, SourceBodies, Act, give, ◌>>=◌, ◌>>◌, stuck, need, say, Outcome, run}
+use Rattle.source_meaning.specs.Steps.{Variable, Binding, Routine, World, Scope, Flow, Falls, Breaks, Continues, Returns, Step, SourceBodies, Act, give, ◌>>=◌, ◌>>◌, stuck, need, say}
+use Rattle.step_trees.specs.Trees.{Stops, Outcome, run}
 use Rattle.source_meaning.specs.Conversions.{cells_of, converted, one, integer}
 use Rattle.source_meaning.specs.Values.{write_cells}
 use Rattle.source_meaning.specs.Places.{literal_string, span_at}

@@ -10,4 +10,4 @@ pub mod RegionNames
 pub mod NamedBelow
 pub mod SameTags
 mod samples
-pub use Rattle.source_meaning.proofs.Layouts
+

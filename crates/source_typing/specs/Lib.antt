@@ -29,8 +29,4 @@ pub mod Flow
 pub mod Left
 pub mod Answers
 pub mod Named
-pub use Rattle.cyc_tree.specs.declared.name.Sign
-pub use Rattle.cyc_tree.specs.Tree
-pub use Rattle.source_meaning.specs.Placing
-pub use Rattle.source_meaning.specs.Shapes
-pub use Rattle.source_meaning.specs.Sizes
+

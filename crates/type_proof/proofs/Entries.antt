@@ -22,7 +22,8 @@ use Rattle.type_proof.proofs.invariant.Growth.{grows_trans}
 use Rattle.type_proof.proofs.invariant.Runs.{Runs}
 use Rattle.type_proof.proofs.invariant.After.{After, flying, grows_base}
 use Rattle.type_proof.proofs.invariant.Arguments.{Flown}
-use Rattle.type_proof.proofs.invariant.Names.{NameOf, AllBelow, NamesOk, AllStand, AllOrdered}
+use Rattle.type_proof.proofs.invariant.Names.{NameOf, NamesOk, AllStand, AllOrdered}
+use Rattle.source_typing.specs.Named.{AllBelow}
 use Rattle.type_proof.proofs.invariant.Scenes.{Globals, Scene, scene_later, stands_kept}
 use Rattle.type_proof.proofs.invariant.Sound.{GivesBy}
 use Rattle.type_proof.proofs.expressions.Words.{object_twice, plain_twice}

@@ -8,13 +8,13 @@ use Rattle.cyc_tree.specs.Tree.{Initial, Item, Program}
 use Rattle.cyc_words.specs.Events.{SourceEnding}
 use Rattle.source_meaning.specs.Shapes.{Shape, ArrayShape, settled, written}
 use Rattle.source_meaning.specs.Memory.{Spot, Scalar, Object, Memory}
-use Rattle.source_meaning.specs.Steps.{Variable, Binding, World, Routine, Stops, ◌>>=◌, need}
+use Rattle.source_meaning.specs.Steps.{Variable, Binding, World, Routine, ◌>>=◌, need}
+use Rattle.step_trees.specs.Trees.{Stops}
 use Rattle.source_meaning.specs.Conversions.{one, integer}
 use Rattle.source_meaning.specs.Places.{bound_to}
 use Rattle.source_meaning.specs.Calls.{function_of}
 use Rattle.source_meaning.specs.Strings.{program_strings}
-use Rattle.source_meaning.specs.Programs.{heap_spot, heap_alone, globals_from, global_shape, global_object, global_objects, string_object, world_of, entered}
-use Rattle.source_meaning.specs.Programs.{start, source}
+use Rattle.source_meaning.specs.Programs.{heap_spot, heap_alone, globals_from, global_shape, global_object, global_objects, string_object, world_of, entered, start, source}
 use Rattle.source_typing.specs.Tables as typing
 use Rattle.source_typing.specs.Tables.{What, OfValue, Stored, Arrayed, Counter, Unknown, Signature, find}
 use Rattle.source_typing.specs.Types.{Int, Unsigned, Char, Void, Null, Thin, Fat, Unique, Handle, Key, Struct, Union, StaticType, shape_of}
@@ -24,7 +24,8 @@ use Rattle.type_proof.proofs.invariant.Invariant.{heap, Reached, Ghost, Laid, Al
 use Rattle.type_proof.proofs.invariant.Runs.{Safe, Runs, not_stuck}
 use Rattle.type_proof.proofs.invariant.After.{flying}
 use Rattle.type_proof.proofs.invariant.Layouts.{Structs}
-use Rattle.type_proof.proofs.invariant.Names.{NameOf, Below, AllStand, AllOrdered}
+use Rattle.type_proof.proofs.invariant.Names.{NameOf, AllStand, AllOrdered}
+use Rattle.source_typing.specs.Named.{Below}
 use Rattle.type_proof.proofs.invariant.Births.{known_live}
 use Rattle.type_proof.proofs.invariant.Scenes.{BoundAs, LaidAs, Globals}
 use Rattle.type_proof.proofs.expressions.Integers.{IsWord, word_of}

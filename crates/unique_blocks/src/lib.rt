@@ -14,6 +14,4 @@ mod refusal;
 mod slots;
 
 pub use blocks::UniqueBlocks;
-pub use raw_pages::PagesFault;
 pub use refusal::UniqueRefusal;
-pub use region_runtime::{Handle, Pool, Refusal};

@@ -1,2 +1,1 @@
-pub use Rattle.effect_check.specs.declared.fault.CheckFault
 pub mod Faults

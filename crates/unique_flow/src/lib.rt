@@ -8,8 +8,5 @@
 mod checked;
 mod fault;
 
-pub use accepted_programs::Checked;
 pub use checked::{first_broken, flow};
-pub use effect_check::{CheckFault, effects, typed};
 pub use fault::FlowFault;
-pub use flow_check::flow_fault;

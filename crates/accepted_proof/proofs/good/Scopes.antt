@@ -6,7 +6,7 @@ use Rattle.std.proofs.lemmas.Bool.{eqb-true}
 use Rattle.cyc_tree.specs.Tree as tree
 use Rattle.type_proof.specs.Entries.{IsObjectType}
 use Rattle.type_proof.specs.Judged.{arrayed, extended, named}
-use Rattle.source_typing.specs.Named.{Below, TypeBelow}
+use Rattle.source_typing.specs.Named.{Below, TypeBelow, NamesBelow}
 use Rattle.type_proof.proofs.statements.AliasScope.{aliasing, opening, with_named}
 use Rattle.type_proof.proofs.statements.Lexical.{lexical, names_with}
 use Rattle.source_typing.proofs.NamedBelow.{below_up, names_up}
@@ -15,14 +15,13 @@ use Rattle.source_typing.specs.Declarations.{name_added}
 use Rattle.source_typing.specs.Faults.{name_rule, test}
 use Rattle.source_typing.specs.Making.{Goal, enclosed, inside, with_counter}
 use Rattle.source_typing.specs.Regions.{Region}
-use Rattle.source_typing.specs.Scope.{Enclosing, Env, InRegion, InUnique, Local, NotKnown, block_entered, in_scope, is_second, next_region, second}
-use Rattle.source_typing.specs.Scope.{with_local}
+use Rattle.source_typing.specs.Scope.{Enclosing, Env, InRegion, InUnique, Local, NotKnown, block_entered, in_scope, is_second, next_region, second, with_local}
 use Rattle.source_typing.specs.Statements.{in_a_loop, in_a_switch}
 use Rattle.source_typing.specs.Tables.{Arrayed, Counter, Entry, OfBuiltin, OfFunction, OfOther, OfTag, OfValue, Stored, Tables, Unknown, What}
 use Rattle.source_typing.specs.Types.{StaticType}
 use Rattle.source_typing.specs.Verdicts.{Of}
 use Rattle.source_typing.specs.Written.{RegionNamed, find_region}
-use Rattle.accepted_proof.specs.Good.{AllGood, IsAround, IsGood, IsGoodEntry, AreWithin, IsStructTag, NamesBelow, NamesStructs}
+use Rattle.accepted_proof.specs.Good.{AllGood, IsAround, IsGood, IsGoodEntry, AreWithin, IsStructTag, NamesStructs}
 use Rattle.accepted_proof.proofs.kinds.Expressions.{counter_known, inside_known}
 
 -- ---- one more region name

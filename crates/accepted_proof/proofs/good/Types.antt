@@ -9,8 +9,7 @@ use Rattle.source_meaning.specs.Shapes as shapes
 use Rattle.source_meaning.specs.Shapes.{pointed}
 use Rattle.source_typing.specs.Declarations.{as_tagged, faulty_tag, tagged}
 use Rattle.source_typing.specs.Faults.{Fault}
-use Rattle.source_typing.specs.Tables.{Arrayed, Counter, Entry, OfBuiltin, OfFunction, OfOther, OfTag, OfValue, Stored, Tables, Unknown, as_tag, find}
-use Rattle.source_typing.specs.Tables.{tag_in}
+use Rattle.source_typing.specs.Tables.{Arrayed, Counter, Entry, OfBuiltin, OfFunction, OfOther, OfTag, OfValue, Stored, Tables, Unknown, as_tag, find, tag_in}
 use Rattle.source_typing.specs.Types.{Char, Int, PartialType, Struct, Union, Unsigned, Void, same_bool}
 use Rattle.source_typing.specs.Verdicts.{Faulty, Of, Unjudged, Verdict, unless_faulty}
 use Rattle.source_typing.specs.Written.{
@@ -37,13 +36,13 @@ use Rattle.source_typing.specs.Written.{
   written_with,
 }
 use Rattle.source_typing.proofs.Entries.{find_tagged}
-use Rattle.accepted_proof.specs.Good.{AllGood, IsGoodEntry, NamesBelow, Surely}
+use Rattle.accepted_proof.specs.Good.{AllGood, IsGoodEntry, Surely}
+use Rattle.source_typing.specs.Named.{NamesBelow}
 use Rattle.accepted_proof.proofs.FoundRegions.{AreAllFound, AreFound, base_arguments, spots_found}
 use Rattle.accepted_proof.proofs.good.Names.{MeansGood, found_good}
 use Rattle.accepted_proof.proofs.Owners.{WritesChar, WritesInt, WritesUnsigned}
 use Rattle.accepted_proof.proofs.Sure.{surely_unless}
-use Rattle.accepted_proof.proofs.good.Pointers.{IsWritten, WritesKey, WritesObject, WritesNothing, IsPointed, HasRefused, PointedIfSome, no_pointer}
-use Rattle.accepted_proof.proofs.good.Pointers.{all_pointed, found_region, struct_pointed, union_pointed, handle_pointed}
+use Rattle.accepted_proof.proofs.good.Pointers.{IsWritten, WritesKey, WritesObject, WritesNothing, IsPointed, HasRefused, PointedIfSome, no_pointer, all_pointed, found_region, struct_pointed, union_pointed, handle_pointed}
 
 -- ---- tags
 

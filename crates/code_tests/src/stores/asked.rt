@@ -1,9 +1,11 @@
 // What the calls of tables are made on: stores, and the unique blocks over a pool below them.
 
 use crate::stores::calls::Call;
-use cyc_arena::{BlockStore, PagedStore, PlainStore, StoreRefusal};
-use dynamic_region::{Handle, Refusal, Regions, UniqueBlocks};
-use unique_blocks::UniqueRefusal;
+use cyc_arena::{BlockStore, PagedStore, PlainStore};
+use arena_laws::StoreRefusal;
+use region_runtime::{Handle, Refusal};
+use dynamic_region::Regions;
+use unique_blocks::{UniqueBlocks, UniqueRefusal};
 
 /// What is said to a call: a number, where none is granted 0, and 1 for what holds; or the name of a refusal.
 pub type Said = Result<u32, &'static str>;

@@ -2,7 +2,9 @@
 
 use crate::stores::BASE;
 use crate::texts::refuse;
-use dynamic_region::{Key, KeyRefusal, Keys, Pool, UniqueBlocks};
+use dynamic_region::{Key, KeyRefusal, Keys};
+use region_runtime::Pool;
+use unique_blocks::UniqueBlocks;
 use raw_pages::RawPages;
 use std::alloc::Global;
 use std::test::Fail;

@@ -5,8 +5,10 @@ use crate::stores::asked::{Asked, Said};
 use crate::stores::calls::{Call, call_of};
 use crate::stores::tables::TABLES;
 use crate::texts::{number_of, parted, refuse};
-use cyc_arena::{PagedStore, PagesFault, PlainStore};
-use dynamic_region::{Pool, UniqueBlocks};
+use cyc_arena::{PagedStore, PlainStore};
+use raw_pages::PagesFault;
+use region_runtime::Pool;
+use unique_blocks::UniqueBlocks;
 use std::alloc::Global;
 use std::test::Fail;
 

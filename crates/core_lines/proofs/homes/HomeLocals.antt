@@ -11,7 +11,7 @@ use Rattle.core_lines.specs.Lies.{Maps, Shows, Activation, Name, Slot, Cell, Par
 use Rattle.core_lines.proofs.memory.Relations.{World, IsInOrder, Stands}
 use Rattle.core_lines.proofs.Steps.{state_at}
 use Rattle.core_lines.proofs.memory.Slots.{Kept}
-use Rattle.core_lines.proofs.memory.Fitting.{spot_same}
+use Rattle.core_meaning.proofs.Spots.{spot_same}
 use Rattle.core_lines.proofs.homes.Homes.{other_home}
 use Rattle.core_lines.proofs.memory.Storing.{known_part}
 

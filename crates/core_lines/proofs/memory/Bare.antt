@@ -8,7 +8,7 @@ use Rattle.core_meaning.specs.Operations.{too_far}
 use Rattle.core_lines.specs.Machines.{Store}
 use Rattle.rv32_machine.specs.State.{Areas}
 use Rattle.core_lines.specs.Lies.{Maps, Activation, Name, Slot, Cell, PartLies, Lies, Fits, Known}
-use Rattle.core_lines.proofs.memory.Fitting.{region_same}
+use Rattle.core_meaning.proofs.Spots.{region_same}
 
 -- ---- a region of a frame gets an object that has no address: a local that is in a register
 

@@ -8,7 +8,7 @@ use Rattle.core_meaning.specs.Memory.{Region, Frame, Own, Born, Standing, Live, 
 use Rattle.core_meaning.specs.Operations.{too_far, lies_at, reaches}
 use Rattle.core_lines.specs.Machines.{Store}
 use Rattle.core_lines.specs.Lies.{Maps, Known, TagOf}
-use Rattle.core_lines.proofs.memory.Fitting.{region_same}
+use Rattle.core_meaning.proofs.Spots.{region_same}
 
 -- a region of a frame, and not one that was born
 abbrev pub IsOfFrame : Region → Type 0

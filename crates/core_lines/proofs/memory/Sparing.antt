@@ -5,7 +5,8 @@ use Rattle.std.proofs.lemmas.Bool.{ne_eqb, and_parts, and_left, and_right}
 use Rattle.std.proofs.lemmas.Option.{none-some}
 use Rattle.core_meaning.specs.Memory.{Region, Frame, Spot, Content, Part, Memory, same_region, same_spot, with_part, with_object}
 use Rattle.core_lines.specs.Lies.{Maps, Extends, local_at}
-use Rattle.core_lines.proofs.memory.Fitting.{region_same, spot_same, extends_self}
+use Rattle.core_meaning.proofs.Spots.{region_same, spot_same}
+use Rattle.core_lines.proofs.memory.Fitting.{extends_self}
 use Rattle.core_lines.proofs.memory.Growing.{placed}
 use Rattle.core_lines.proofs.homes.Homes.{Spares}
 

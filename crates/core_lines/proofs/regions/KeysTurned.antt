@@ -13,7 +13,8 @@ use Rattle.core_meaning.specs.Memory.{Region, Frame, Own, Born, Standing, Dead, 
 use Rattle.core_lines.specs.Machines.{Store}
 use Rattle.core_lines.specs.Lies.{Maps, Activation, Name, Slot, Cell, PartLies, Lies, CellGround, Ground, Fits, TagOf, Held, IsNumber, Known, IsNamed, HoldsBlocks}
 use Rattle.core_lines.proofs.homes.Homes.{spares_standing, Changed}
-use Rattle.core_lines.proofs.memory.Fitting.{if_split, region_same}
+use Rattle.core_lines.proofs.memory.Fitting.{if_split}
+use Rattle.core_meaning.proofs.Spots.{region_same}
 use Rattle.core_lines.proofs.memory.Knowing.{not_single, not_dead}
 
 module _ (n : Areas) (m : Maps) (fs : List Activation) (mem : Memory) (b : ℕ → ℕ) (st : Store) (f : Fits n m fs mem b st) (k : Known m mem st)

@@ -7,26 +7,12 @@ use Rattle.source_meaning.specs.Programs.{world_of}
 use Rattle.core_meaning.specs.Core as core
 use Rattle.core_meaning.specs.Core.{Do, Block, Return, Constant}
 use Rattle.source_lowering.specs.Lowered.{all_of, stored_code}
-use Rattle.source_lowering.specs.Programs.{block_shapes, locals_of, routine_values, no_regions, items_code, parameter_names}
-use Rattle.source_lowering.specs.Programs.{parameters_code, end_code, body_code, function_code, program_code}
+use Rattle.source_lowering.specs.Programs.{block_shapes, locals_of, routine_values, no_regions, items_code, parameter_names, parameters_code, end_code, body_code, function_code, program_code}
 use Rattle.source_lowering.specs.Temporaries.{temporaries_of, passed_by}
 use Rattle.source_lowering.specs.Members.{words_in, all_words}
 use Rattle.source_lowering.specs.Lowerable.{IsLowerable}
-use Rattle.source_lowering.specs.Bounds.{
-  block_words,
-  operations_of,
-  FramesFit,
-  item_locals,
-  item_size,
-  items_left,
-  regions_left,
-  core_bound,
-  frame_bound,
-  all_operations,
-  core_code,
-  routines_size,
-  code_bound,
-}
+use Rattle.core_meaning.specs.Bounds.{block_words, operations_of, core_bound, all_operations, core_code}
+use Rattle.source_lowering.specs.Bounds.{FramesFit, item_locals, item_size, items_left, regions_left, frame_bound, routines_size, code_bound}
 use Rattle.source_lowering.proofs.bounds.Nodes.{item_count, item_regions}
 use Rattle.source_lowering.proofs.expressions.Names.{AreParameters, IsRoutine, AreRoutines}
 use Rattle.source_lowering.proofs.bounds.LocalWords.{shapes_words, many_words, words_same}

@@ -7,7 +7,7 @@ use Rattle.source_meaning.specs.Steps.{World}
 use Rattle.source_lowering.specs.Lowered.{all_of}
 use Rattle.source_lowering.specs.Programs.{locals_of}
 use Rattle.source_lowering.specs.Temporaries.{operation_temporaries, statement_temporaries, temporaries_of, statement_passes, passed_by}
-use Rattle.source_lowering.specs.Bounds.{statement_words, block_words, operation_count, branch_count, statement_operations, operations_of}
+use Rattle.core_meaning.specs.Bounds.{statement_words, block_words, operation_count, branch_count, statement_operations, operations_of}
 use Rattle.source_lowering.proofs.bounds.LocalWords.{many_words, shapes_words}
 
 pub record Costs (t p l o : ℕ) (code : List Statement) : Type 0 where

@@ -19,7 +19,8 @@ use Rattle.source_lowering.specs.Layouts.{extent_of, local_of}
 use Rattle.source_lowering.specs.Members.{words_in}
 use Rattle.source_lowering.specs.Lowerable.{IsWordShape, IsValueShape}
 use Rattle.source_lowering.specs.Programs.{locals_of}
-use Rattle.source_lowering.specs.Bounds.{words_of, shape_words, local_words}
+use Rattle.core_meaning.specs.Bounds.{words_of, local_words}
+use Rattle.source_lowering.specs.Bounds.{shape_words}
 
 -- the words of objects of these shapes
 abbrev pub shapes_words : World → List Shape → ℕ

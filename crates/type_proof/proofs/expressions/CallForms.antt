@@ -20,7 +20,8 @@ use Rattle.source_typing.proofs.CallsFit.{Arguments, arguments_are, Entered, ent
 use Rattle.source_typing.specs.Moves.{Use, value_use}
 use Rattle.type_proof.specs.Flat.{Tables}
 use Rattle.type_proof.proofs.invariant.Layouts.{Structs, agrees}
-use Rattle.type_proof.proofs.invariant.Names.{NameOf, AllBelow}
+use Rattle.type_proof.proofs.invariant.Names.{NameOf}
+use Rattle.source_typing.specs.Named.{AllBelow}
 use Rattle.type_proof.proofs.invariant.Sound.{shape_renamed, GivesBy}
 use Rattle.type_proof.proofs.expressions.Calling.{AllPass, all_values, gives_byte, gives_written}
 use Rattle.type_proof.proofs.expressions.Words.{plain_simple, plain_renamed}

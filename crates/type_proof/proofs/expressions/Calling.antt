@@ -3,7 +3,8 @@ use Rattle.std.proofs.Common.{◌≡◌, ℕ, zero, suc, Option, List, [], ◌�
 use Rattle.std.specs.Prelude.{map, ◌%◌}
 use Rattle.source_meaning.specs.Shapes.{Shape, IntShape}
 use Rattle.source_meaning.specs.Memory.{Region, Scalar, Integer, AsInt, Memory}
-use Rattle.source_meaning.specs.Steps.{Scope, Step, Reads, Pays, Act, give, ◌>>=◌, ◌>>◌}
+use Rattle.source_meaning.specs.Steps.{Scope, Step, Act, give, ◌>>=◌, ◌>>◌}
+use Rattle.step_trees.specs.Trees.{Reads, Pays}
 use Rattle.source_meaning.specs.Conversions.{converted}
 use Rattle.source_meaning.specs.Places.{Sense}
 use Rattle.source_meaning.specs.Calls.{converted_all, read_byte, write_byte, byte_value}

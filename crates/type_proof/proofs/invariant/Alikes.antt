@@ -4,9 +4,9 @@ use Rattle.std.specs.Prelude.{map}
 use Rattle.source_meaning.specs.Memory.{Region}
 use Rattle.source_typing.specs.Types.{Int, Unsigned, Char, Void, Null, Thin, Fat, Unique, Handle, Key, Struct, Union, StaticType, renamed}
 use Rattle.type_proof.specs.Flat.{Tables, flat}
-pub use Rattle.source_typing.specs.Named.{AllBelow, TypeBelow}
+use Rattle.source_typing.specs.Named.{AllBelow, TypeBelow, Below}
 use Rattle.type_proof.proofs.invariant.Invariant.{RunType, heap}
-use Rattle.type_proof.proofs.invariant.Names.{NameOf, Below}
+use Rattle.type_proof.proofs.invariant.Names.{NameOf}
 
 -- what an expression's type is in a run
 abbrev pub cells_type : Tables → (NameOf → Region) → StaticType → List RunType

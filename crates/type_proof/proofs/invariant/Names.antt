@@ -5,10 +5,10 @@ use Rattle.std.proofs.lemmas.Bool.{cases_Bool, false≢true, eqb-true, eq-eqb, a
 use Rattle.source_meaning.specs.Memory.{Region, Live, Memory, same_region}
 use Rattle.source_typing.specs.Regions as names
 use Rattle.source_typing.specs.Regions.{TheHeap, Level, same_id, is_heap, is_among, any_of, by_bounds, reaches, Regions, with_scope, entry_regions}
-pub use Rattle.source_typing.proofs.NamedBelow.{below_up, all_up, names_up}
+use Rattle.source_typing.proofs.NamedBelow.{below_up}
 use Rattle.source_meaning.proofs.Cases.{region_is, region_itself}
 use Rattle.type_proof.specs.Flat.{Tables}
-pub use Rattle.source_typing.specs.Named.{Below, AllBelow, BoundsBelow}
+use Rattle.source_typing.specs.Named.{Below, AllBelow, BoundsBelow}
 use Rattle.type_proof.proofs.invariant.Facts.{if_cases, at_region, not_region}
 use Rattle.type_proof.proofs.invariant.Invariant.{heap, Owner, Nobody, Pinned, Ghost, Steady, ByScope, ByLoan, StateOk, Counted, Known, Inv, Grows}
 use Rattle.type_proof.proofs.invariant.Births.{bearing, with_birth, Births}

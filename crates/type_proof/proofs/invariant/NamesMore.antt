@@ -7,7 +7,9 @@ use Rattle.source_typing.specs.Regions.{TheHeap, Level, same_id, Regions, opened
 use Rattle.type_proof.specs.Flat.{Tables}
 use Rattle.type_proof.proofs.invariant.Facts.{if_cases}
 use Rattle.type_proof.proofs.invariant.Invariant.{heap, Ghost, Known, Inv}
-use Rattle.type_proof.proofs.invariant.Names.{NameOf, NamesOk, Below, Stands, Outlasts, naming, below_up, below_more, new_below, named_cases, same_only}
+use Rattle.type_proof.proofs.invariant.Names.{NameOf, NamesOk, Stands, Outlasts, naming, below_more, new_below, named_cases, same_only}
+use Rattle.source_typing.specs.Named.{Below}
+use Rattle.source_typing.proofs.NamedBelow.{below_up}
 
 -- a name for a region that is there: only the heap outlives it
 pub names_named : (d : Tables) (g : Regions) (f : NameOf → Region) (k : ℕ) (w : Ghost) (m : Memory) (q : Region) (live : Bool) → Inv d w m → Known m q

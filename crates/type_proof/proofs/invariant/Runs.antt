@@ -4,8 +4,8 @@ use Rattle.cyc_tree.specs.Tree.{Program}
 use Rattle.cyc_words.specs.Events.{SourceEvent, SourceEnding}
 use Rattle.cyc_words.specs.declared.faults.Kind.{Kind}
 use Rattle.source_meaning.specs.Memory.{Memory}
-use Rattle.step_trees.specs.Trees.{Calls, Turns, walk, spend}
-use Rattle.source_meaning.specs.Steps.{Step, Stops, Says, Reads, Pays, Outcome, Act, ◌>>=◌, ◌>>◌, check}
+use Rattle.step_trees.specs.Trees.{Calls, Turns, walk, spend, Stops, Says, Reads, Pays, Outcome}
+use Rattle.source_meaning.specs.Steps.{Step, Act, ◌>>=◌, ◌>>◌, check}
 use Rattle.source_meaning.specs.Programs.{source, source_bodies, start}
 
 -- the steps up to the first unit don't get stuck, and what follows it is as P says

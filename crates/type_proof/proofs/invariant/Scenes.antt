@@ -10,13 +10,14 @@ use Rattle.source_typing.specs.Tables as typing
 use Rattle.source_typing.specs.Tables.{What, OfValue, Stored, Arrayed, Counter, Unknown, find}
 use Rattle.source_typing.specs.Types.{StaticType, renamed, shape_of}
 use Rattle.type_proof.specs.Flat.{Tables, flat}
-pub use Rattle.type_proof.proofs.invariant.Alikes.{AllBelow, TypeBelow, Alike, renamed_alike}
-use Rattle.type_proof.proofs.invariant.Standing.{Alongside, Rooms, AllWithin, AllCounted, counted_more, LocalsBelow, Standing, SameAll, is_own, all_more}
-use Rattle.type_proof.proofs.invariant.Standing.{all_kept, all_same}
+pub use Rattle.source_typing.specs.Named.{AllBelow, TypeBelow}
+pub use Rattle.type_proof.proofs.invariant.Alikes.{Alike, renamed_alike}
+use Rattle.type_proof.proofs.invariant.Standing.{Alongside, Rooms, AllWithin, AllCounted, counted_more, LocalsBelow, Standing, SameAll, is_own, all_more, all_kept, all_same}
 use Rattle.type_proof.proofs.invariant.Invariant.{RunType, heap, Kept, Reached, Private, Ghost, Laid, AllLaid, Inv, Grows}
 use Rattle.type_proof.proofs.invariant.Values.{laid_kept, all_laid_kept}
 use Rattle.type_proof.proofs.Strings.{StringsLaid, strings_kept}
-use Rattle.type_proof.proofs.invariant.Names.{NameOf, Below, NamesOk, names_later, names_more}
+use Rattle.type_proof.proofs.invariant.Names.{NameOf, NamesOk, names_later, names_more}
+use Rattle.source_typing.specs.Named.{Below}
 use Rattle.type_proof.proofs.invariant.After.{base_later}
 
 -- ---- variables and arrays

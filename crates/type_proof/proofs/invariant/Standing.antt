@@ -13,7 +13,8 @@ use Rattle.flow_summaries.specs.Effects.{Effect, Effects, Keeps, Holds, Loses, M
 use Rattle.type_proof.specs.Flat.{Tables, flat}
 use Rattle.type_proof.proofs.invariant.Invariant.{RunType, Kept, Private, Ghost, Grows}
 use Rattle.type_proof.proofs.invariant.Names.{NameOf}
-use Rattle.type_proof.proofs.invariant.Alikes.{TypeBelow, Alike, renamed_alike, cells_type}
+use Rattle.source_typing.specs.Named.{TypeBelow}
+use Rattle.type_proof.proofs.invariant.Alikes.{Alike, renamed_alike, cells_type}
 use Rattle.type_proof.proofs.invariant.Rights.{Apart}
 use Rattle.type_proof.proofs.invariant.LocalCells.{CellsStand, met_first, met_second, Same, cells_same}
 

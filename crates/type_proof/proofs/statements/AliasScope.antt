@@ -17,7 +17,9 @@ use Rattle.source_typing.specs.States.{States}
 use Rattle.type_proof.specs.Flat.{Tables}
 use Rattle.type_proof.proofs.invariant.Facts.{if_cases}
 use Rattle.type_proof.proofs.invariant.Invariant.{RunType, Ghost}
-use Rattle.type_proof.proofs.invariant.Names.{NameOf, NamesOk, Below, below_up, naming}
+use Rattle.type_proof.proofs.invariant.Names.{NameOf, NamesOk, naming}
+use Rattle.source_typing.specs.Named.{Below}
+use Rattle.source_typing.proofs.NamedBelow.{below_up}
 use Rattle.type_proof.proofs.invariant.Scenes.{renamed_alike, BoundAs, LivesAs, bound_as_alike, lives_more, laid_as_later, globals_kept, Scene}
 use Rattle.type_proof.proofs.statements.Lexical.{names_with}
 use Rattle.type_proof.proofs.statements.Surroundings.{ResultIs, Surrounds, type_up, locals_up, stands_in, naming_alike}

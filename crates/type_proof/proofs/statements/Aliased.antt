@@ -2,8 +2,7 @@
 use Rattle.std.proofs.Common.{◌≡◌, ℕ, suc, Bool, true, false, inl, inr, Option, Some, None, List, [], ◌∷◌, refl, sym, ◌∙◌, ap, subst, arith}
 use Rattle.cyc_tree.specs.Tree as tree
 use Rattle.cyc_tree.specs.Tree.{TypeName}
-use Rattle.source_meaning.specs.Shapes.{count_of, single}
-use Rattle.source_meaning.specs.Shapes.{Shape, ThinShape, Shared, Alone, written, settled_by}
+use Rattle.source_meaning.specs.Shapes.{count_of, single, Shape, ThinShape, Shared, Alone, written, settled_by}
 use Rattle.source_meaning.specs.Memory as memory
 use Rattle.source_meaning.specs.Memory.{Region, Frame, Born, Spot, Scalar, Holds, Memory, blank_object}
 use Rattle.source_meaning.specs.Steps.{Step, Entity, Variable, World, Scope, Flow, Falls, Breaks, Continues, Returns, Act, ◌>>=◌, ◌>>◌, check}
@@ -23,7 +22,8 @@ use Rattle.type_proof.specs.Entries.{IsObjectType}
 use Rattle.type_proof.specs.Flat.{Tables}
 use Rattle.type_proof.specs.Judged.{extended, AliasOpened}
 use Rattle.type_proof.proofs.Entries.{Invokes}
-use Rattle.type_proof.proofs.invariant.Alikes.{TypeBelow, cells_type, renamed_alike}
+use Rattle.source_typing.specs.Named.{TypeBelow}
+use Rattle.type_proof.proofs.invariant.Alikes.{cells_type, renamed_alike}
 use Rattle.type_proof.proofs.invariant.Invariant.{RunType, Owner, InCell, Flying, Nobody, Private, Ghost, HasType, CellOk, Inv}
 use Rattle.type_proof.proofs.invariant.Runs.{Safe, Runs}
 use Rattle.type_proof.proofs.invariant.After.{After}

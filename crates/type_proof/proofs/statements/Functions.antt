@@ -21,7 +21,8 @@ pub use Rattle.type_proof.specs.Programs.{FunctionJudged}
 use Rattle.type_proof.proofs.invariant.Invariant.{heap, Ghost, Inv}
 use Rattle.type_proof.proofs.invariant.Scopes.{block_ghost, block_memory, frame_births}
 use Rattle.type_proof.proofs.invariant.Layouts.{Structs}
-use Rattle.type_proof.proofs.invariant.Names.{NameOf, Below, NamesOk, naming, names_scope, names_entered}
+use Rattle.type_proof.proofs.invariant.Names.{NameOf, NamesOk, naming, names_scope, names_entered}
+use Rattle.source_typing.specs.Named.{Below}
 use Rattle.type_proof.proofs.Strings.{AreFound}
 use Rattle.type_proof.proofs.invariant.Scenes.{TypeBelow, Alike, renamed_alike, BoundAs, LivesAs, bound_as_alike, laid_as_later, Globals, globals_kept, Scene}
 use Rattle.type_proof.proofs.Entries.{Function, Enters, declared_means}

@@ -20,7 +20,8 @@ use Rattle.type_proof.proofs.invariant.Runs.{Runs}
 use Rattle.type_proof.proofs.invariant.After.{After}
 use Rattle.type_proof.proofs.invariant.Births.{known_live}
 use Rattle.type_proof.proofs.invariant.Cells.{cell}
-use Rattle.type_proof.proofs.invariant.Names.{NameOf, NamesOk, Below, Stands, naming, names_later, names_more}
+use Rattle.type_proof.proofs.invariant.Names.{NameOf, NamesOk, Stands, naming, names_later, names_more}
+use Rattle.source_typing.specs.Named.{Below}
 use Rattle.type_proof.proofs.invariant.Sound.{cells_type}
 use Rattle.type_proof.proofs.invariant.Facts.{at_spot}
 use Rattle.type_proof.proofs.invariant.NamesMore.{names_named, names_opened}

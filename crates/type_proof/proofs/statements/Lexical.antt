@@ -15,7 +15,8 @@ use Rattle.type_proof.specs.Flat.{Tables}
 use Rattle.type_proof.proofs.invariant.Facts.{if_cases}
 use Rattle.type_proof.proofs.invariant.Invariant.{RunType, Ghost, Inv}
 use Rattle.type_proof.proofs.invariant.Scopes.{region_ghost, region_memory, born_births}
-use Rattle.type_proof.proofs.invariant.Names.{NameOf, below_up, naming, names_scope}
+use Rattle.type_proof.proofs.invariant.Names.{NameOf, naming, names_scope}
+use Rattle.source_typing.proofs.NamedBelow.{below_up}
 use Rattle.type_proof.proofs.invariant.Scenes.{renamed_alike, bound_as_alike, lives_more, laid_as_later, globals_kept, Scene}
 use Rattle.type_proof.proofs.statements.Surroundings.{ResultIs, Surrounds, type_up, locals_up, stands_in, naming_alike, lives_in_scope}
 

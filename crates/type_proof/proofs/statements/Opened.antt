@@ -19,7 +19,8 @@ use Rattle.type_proof.proofs.invariant.Invariant.{RunType, Nobody, Ghost, Inv}
 use Rattle.type_proof.proofs.invariant.Keys.{with_key}
 use Rattle.type_proof.proofs.invariant.Runs.{Runs}
 use Rattle.type_proof.proofs.invariant.After.{After}
-use Rattle.type_proof.proofs.invariant.Names.{NameOf, Below}
+use Rattle.type_proof.proofs.invariant.Names.{NameOf}
+use Rattle.source_typing.specs.Named.{Below}
 use Rattle.type_proof.proofs.invariant.Objects.{runs_made}
 use Rattle.type_proof.proofs.invariant.Received.{kept_as, kept_type}
 use Rattle.type_proof.proofs.invariant.Scenes.{Scene, scene_later, scene_more, stands_typed}

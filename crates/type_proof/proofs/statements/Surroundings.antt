@@ -22,7 +22,9 @@ use Rattle.type_proof.proofs.invariant.Invariant.{RunType, heap, Kept, Known, Gh
 use Rattle.type_proof.proofs.invariant.Arguments.{Agrees}
 use Rattle.type_proof.proofs.invariant.Layouts.{Structs, agrees}
 use Rattle.type_proof.proofs.invariant.Scopes.{block_ghost, block_memory, frame_births}
-use Rattle.type_proof.proofs.invariant.Names.{NameOf, Below, all_up, below_up, naming, names_scope}
+use Rattle.type_proof.proofs.invariant.Names.{NameOf, naming, names_scope}
+use Rattle.source_typing.specs.Named.{Below}
+use Rattle.source_typing.proofs.NamedBelow.{all_up, below_up}
 use Rattle.type_proof.proofs.invariant.Scenes.{
   AllBelow,
   TypeBelow,
@@ -41,8 +43,7 @@ use Rattle.type_proof.proofs.invariant.Scenes.{
 }
 use Rattle.type_proof.proofs.invariant.Objects.{FullAt}
 use Rattle.type_proof.proofs.invariant.Received.{kept_as, laid_new, stands_new}
-use Rattle.type_proof.proofs.invariant.Standing.{owns, is_own, InRoom, Room, ApartFrom, EntityWithin, EntityCounted, WhatBelow, LocalsBelow, LocalStands}
-use Rattle.type_proof.proofs.invariant.Standing.{SameAll, Standing, all_same, all_more}
+use Rattle.type_proof.proofs.invariant.Standing.{owns, is_own, InRoom, Room, ApartFrom, EntityWithin, EntityCounted, WhatBelow, LocalsBelow, LocalStands, SameAll, Standing, all_same, all_more}
 use Rattle.type_proof.proofs.invariant.Standing as standing
 use Rattle.type_proof.proofs.Entries.{IsObjectType, MeansEntry, MeansPlain}
 

@@ -2,7 +2,7 @@ use Rattle.std.specs.Prelude.{map}
 use Rattle.std.proofs.Common.{◌≡◌, drop, true}
 use Rattle.cyc_types.specs.Regions.{region_of, regions_of}
 use Rattle.check_scopes.specs.Knows.{Sees}
-use Rattle.check_scopes.specs.Fields.{pair_of}
+use Rattle.check_regions.specs.Fields.{pair_of}
 use Rattle.source_typing.specs.Calls.{all_ordered}
 use Rattle.source_typing.specs.Scope.{Env, outlives}
 use Rattle.check_calls.proofs.call.are_ordered.Given as goal

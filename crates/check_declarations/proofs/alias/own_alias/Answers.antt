@@ -2,7 +2,7 @@ use Rattle.std.proofs.Common.{refl, subst, sym, ap, ◌++◌, ◌∙◌}
 use Rattle.std.specs.Prelude.{None, true}
 use Rattle.cyc_tree.specs.View.{name_tree, region_tree, type_tree}
 use Rattle.cyc_types.specs.Types.{static_type}
-use Rattle.check_expressions.specs.Values.{value_of}
+use Rattle.check_operators.specs.Values.{value_of}
 use Rattle.source_typing.specs.Declarations.{alias_type, operand, region_declared, tagged, tags_in_scope, type_in_scope, type_of_alias, what_of}
 use Rattle.source_typing.specs.Regions.{with_name}
 use Rattle.source_typing.specs.Scope.{next_region}

@@ -6,8 +6,8 @@ use Rattle.source_typing.proofs.Entries.{find_tagged}
 use Rattle.source_typing.specs.Declarations.{tags_in_scope}
 use Rattle.source_typing.specs.Scope.{in_scope, meant}
 use Rattle.source_typing.specs.Tables.{Entry}
-use Rattle.check_heads.proofs.Naming.{tag_means, tag_of_none}
-use Rattle.check_heads.specs.Tagged.{tag_name_of}
+use Rattle.check_types.proofs.Naming.{tag_means, tag_of_none}
+use Rattle.check_types.specs.Tagged.{tag_name_of}
 use Rattle.check_declarations.proofs.LocalTypes.{tag_meant}
 use Rattle.check_declarations.proofs.fitting.local_tag.Goals as goal
 

@@ -1,7 +1,7 @@
 use Rattle.std.proofs.Common.{◌≡◌, ap, subst, sym, ◌∙◌}
 use Rattle.std.specs.Prelude.{IfOk}
 use Rattle.cyc_types.specs.Types.{static_type}
-use Rattle.check_expressions.specs.Values.{value_of}
+use Rattle.check_operators.specs.Values.{value_of}
 use Rattle.source_typing.specs.Declarations.{converted_to}
 use Rattle.source_typing.specs.Faults.{earliest}
 use Rattle.source_typing.specs.Verdicts.{Of}

@@ -1,6 +1,6 @@
 use Rattle.std.proofs.Common.{ap, ◌∙◌}
 use Rattle.cyc_types.specs.Types.{static_type}
-use Rattle.check_expressions.specs.Values.{value_of}
+use Rattle.check_operators.specs.Values.{value_of}
 use Rattle.check_faults.specs.Faults.{faults_of, sooner_found}
 use Rattle.check_faults.specs.Verdicts.{fault_in}
 use Rattle.check_faults.proofs.Shortened.{fault_same}

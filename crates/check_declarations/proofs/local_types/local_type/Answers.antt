@@ -4,7 +4,7 @@ use Rattle.cyc_types.specs.Types.{static_type}
 use Rattle.source_typing.specs.Declarations.{local_type}
 use Rattle.source_typing.specs.Missing.{settled}
 use Rattle.check_faults.proofs.Shortened.{after_of}
-use Rattle.check_heads.specs.Written.{partial_type}
+use Rattle.check_types.specs.Written.{partial_type}
 use Rattle.check_declarations.proofs.local_types.local_type.Goals as goal
 
 pub returns-in_ok-settled-in-Of : goal.returns-in_ok-settled-in-Of

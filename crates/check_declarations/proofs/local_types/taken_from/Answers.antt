@@ -1,7 +1,7 @@
 use Rattle.std.proofs.Common.{◌≡◌, ap, subst, sym, ◌∙◌}
 use Rattle.std.specs.Prelude.{IfOk}
 use Rattle.cyc_types.specs.Types.{static_type}
-use Rattle.check_expressions.specs.Values.{value_of}
+use Rattle.check_operators.specs.Values.{value_of}
 use Rattle.check_faults.specs.Verdicts.{short_of, shortened}
 use Rattle.check_declarations.proofs.LocalTypes.{from_faulty, from_value}
 use Rattle.check_declarations.proofs.local_types.taken_from.Goals as goal

@@ -1,5 +1,5 @@
 use Rattle.std.proofs.Common.{ap, sym, ◌++◌, ◌∙◌}
-use Rattle.check_expressions.specs.Values.{value_of}
+use Rattle.check_operators.specs.Values.{value_of}
 use Rattle.source_typing.specs.Verdicts as verdict
 use Rattle.check_faults.proofs.Shortened.{shortened_faulty}
 use Rattle.check_faults.specs.Faults.{fault_of, faults_of}

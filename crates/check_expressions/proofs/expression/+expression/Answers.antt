@@ -23,8 +23,8 @@ use Rattle.source_typing.specs.Making.{enclosed, inside, with_counter}
 use Rattle.source_typing.specs.Operators.{applied}
 use Rattle.source_typing.specs.Scope.{meant}
 use Rattle.check_faults.specs.Verdicts.{Is, short_both, short_of, shortened}
-use Rattle.check_calls.specs.Goals.{goal_in}
-use Rattle.check_calls.specs.Values.{value_of}
+use Rattle.check_operators.specs.Goals.{goal_in}
+use Rattle.check_operators.specs.Values.{value_of}
 use Rattle.check_scopes.specs.Means.{Means, meaning_of}
 use Rattle.check_calls.specs.Enclosings.{enclosing_of}
 use Rattle.check_calls.specs.Targets.{target_of}

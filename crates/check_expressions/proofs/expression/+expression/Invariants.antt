@@ -1,7 +1,7 @@
 use Rattle.std.proofs.Common.{◌≡◌, [], drop}
 use Rattle.source_typing.specs.Scope.{Env}
 use Rattle.check_faults.specs.Verdicts.{Is, short_of}
-use Rattle.check_calls.specs.Values.{value_of}
+use Rattle.check_operators.specs.Values.{value_of}
 use Rattle.check_expressions.specs.Joined.{values_of}
 use Rattle.check_expressions.specs.Within.{IsIn}
 use Rattle.check_expressions.proofs.Forms.{given_from, links_from, tests_from}

@@ -1,6 +1,6 @@
 use Rattle.std.proofs.Common.{◌≡◌, IfOk, subst, sym, ◌∙◌}
-use Rattle.check_calls.specs.Goals.{goal_in}
-use Rattle.check_calls.specs.Values.{value_of}
+use Rattle.check_operators.specs.Goals.{goal_in}
+use Rattle.check_operators.specs.Values.{value_of}
 use Rattle.check_faults.specs.Verdicts.{short_of}
 use Rattle.check_expressions.proofs.Makings.{array_judged}
 use Rattle.check_expressions.proofs.making.array_parts.Goals as goal

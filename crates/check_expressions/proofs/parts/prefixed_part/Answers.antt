@@ -1,6 +1,6 @@
 use Rattle.source_typing.specs.Operators.{prefixed}
 use Rattle.check_faults.specs.Verdicts.{shortened}
-use Rattle.check_calls.specs.Values.{value_of}
+use Rattle.check_operators.specs.Values.{value_of}
 use Rattle.check_expressions.proofs.Joining.{one_answers}
 use Rattle.check_expressions.proofs.parts.prefixed_part.Goals as goal
 

@@ -6,9 +6,9 @@ use Rattle.source_typing.specs.Faults.{earliest}
 use Rattle.source_typing.specs.Functions.{function_scope, with_parameters}
 use Rattle.source_typing.specs.Statements.{items_faults}
 use Rattle.check_faults.specs.Faults.{faults_of}
-use Rattle.check_statements.specs.Context.{Context}
-use Rattle.check_statements.specs.Bodies.{code_names, types_of}
-use Rattle.check_statements.proofs.Bodies.{stands}
+use Rattle.check_declarations.specs.declared.context.Context.{Context}
+use Rattle.check_heads.specs.Bodies.{code_names, types_of}
+use Rattle.check_declarations.proofs.Bodies.{stands}
 use Rattle.check_functions.proofs.body.body_fault.Goals as goal
 
 pub returns : goal.returns

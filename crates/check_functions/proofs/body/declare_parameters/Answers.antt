@@ -1,8 +1,8 @@
 use Rattle.std.proofs.Common.{take, subst, sym}
 use Rattle.source_typing.specs.Functions.{with_parameters}
-use Rattle.check_statements.specs.Contexts.{StandsIn}
-use Rattle.check_statements.specs.Bodies.{types_of}
-use Rattle.check_statements.proofs.Parameters.{all_parameters, next_parameter}
+use Rattle.check_declarations.specs.Contexts.{StandsIn}
+use Rattle.check_heads.specs.Bodies.{types_of}
+use Rattle.check_declarations.proofs.Parameters.{all_parameters, next_parameter}
 use Rattle.check_functions.proofs.body.declare_parameters.Goals as goal
 
 pub each-preserved : goal.each-preserved

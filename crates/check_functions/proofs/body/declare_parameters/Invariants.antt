@@ -3,8 +3,8 @@ use Rattle.cyc_tree.specs.Tree.{Member}
 use Rattle.source_typing.specs.Functions.{with_parameters}
 use Rattle.source_typing.specs.Scope.{Env}
 use Rattle.source_typing.specs.Written.{RegionNamed}
-use Rattle.check_statements.specs.Contexts.{StandsIn}
-use Rattle.check_statements.specs.Bodies.{code_names, names_of, types_of}
+use Rattle.check_declarations.specs.Contexts.{StandsIn}
+use Rattle.check_heads.specs.Bodies.{code_names, names_of, types_of}
 use Rattle.check_functions.proofs.body.declare_parameters.Given as goal
 
 -- those so far are declared

@@ -1,5 +1,5 @@
 use Rattle.source_typing.specs.Functions.{with_parameters}
-use Rattle.check_statements.specs.Bodies.{types_of}
+use Rattle.check_heads.specs.Bodies.{types_of}
 use Rattle.check_functions.proofs.body.inside_fault.Goals as goal
 
 pub returns : goal.returns

@@ -1,6 +1,6 @@
 use Rattle.std.proofs.Common.{◌≡◌, drop}
 use Rattle.cyc_tree.specs.View.{program_tree}
-use Rattle.check_tables.specs.Bodies.{KnowsNames}
+use Rattle.check_heads.specs.Bodies.{KnowsNames}
 use Rattle.source_typing.specs.Faults.{earliest}
 use Rattle.source_typing.specs.Programs.{items_from}
 use Rattle.source_typing.specs.Tables.{Tables}

@@ -7,7 +7,7 @@ use Rattle.source_typing.specs.Scope.{at_item}
 use Rattle.check_faults.specs.Faults.{faults_of, first_of}
 use Rattle.cyc_types.specs.Types.{static_type}
 use Rattle.check_faults.proofs.Earliest.{earliest_of_both, found_sooner}
-use Rattle.check_declarations.proofs.Answered.{fault_is}
+use Rattle.check_heads.proofs.Answered.{fault_is}
 use Rattle.check_tables.proofs.Globals.{array_faults, unset_faults}
 use Rattle.check_tables.specs.Globals.{faults_by}
 use Rattle.source_typing.specs.Verdicts as rules

@@ -1,4 +1,4 @@
-use Rattle.lower_checks.proofs.Joined.{never_stuck}
+use Rattle.accepted_proof.proofs.Joined.{never_stuck}
 use Rattle.cyc_meaning.proofs.laws.never_stuck.Goals as goal
 
 pub returns : goal.returns

@@ -1,6 +1,6 @@
 use Rattle.cyc_core.specs.Trees.{program_tree}
 use Rattle.cyc_tree.specs.Tree.{Program}
-use Rattle.lower_checks.proofs.Joined.{never_stuck}
+use Rattle.accepted_proof.proofs.Joined.{never_stuck}
 use Rattle.cyc_meaning.proofs.Agreeing.{does_the_same}
 use Rattle.cyc_meaning.proofs.Beginning.{nothing_done}
 use Rattle.cyc_meaning.proofs.Carried.{carried, not_stuck, of_code}

@@ -1,5 +1,5 @@
 use Rattle.std.proofs.Common.{◌≡◌, ◌≤◌, drop}
-use Rattle.source_typing.specs.Sizes.{extent_by, largest, no_extent}
+use Rattle.source_meaning.specs.Sizes.{extent_by, largest, no_extent}
 use Rattle.source_typing.specs.Extents.{part_shapes}
 use Rattle.cyc_types.specs.Tags.{members_of}
 use Rattle.cyc_types.proofs.measuring.largest_member.Given as goal

@@ -3,7 +3,7 @@ use Rattle.std.specs.Prelude.{Err}
 use Rattle.cyc_tree.specs.Tree.{Program}
 use Rattle.check_faults.specs.Faults.{fault_of}
 use Rattle.source_typing.specs.Answers.{effect_fault}
-use Rattle.unique_flow.specs.CheckFault.{CheckFault}
+use Rattle.effect_check.specs.declared.fault.CheckFault.{CheckFault}
 use Rattle.unique_flow.specs.Faults.{IsFirstFault}
 use Rattle.cycc_driver.proofs.Breaking.{flow_text}
 use Rattle.cycc_driver.proofs.compiling.checked.Goals as goal

@@ -2,9 +2,7 @@ mod Suffixes
 use Rattle.std.proofs.Common.{IfOk, List, [], ap, ap₂, arith, drop, length, map, not, refl, subst, sym, ◌≤◌, ◌∙◌, ◌≡◌}
 use Rattle.std.specs.Prelude.{◌&&◌, ◌||◌}
 use Rattle.std.proofs.lemmas.List.{drop_all}
-use Rattle.cyc_tree.proofs.Forms.{all_of_tree, any_of_tree, assign_tree, call_tree, chain_tree, character_tree, grouped_tree, heap_region_tree}
-use Rattle.cyc_tree.proofs.Forms.{make_union_tree, new_in_tree, new_tree, null_tree, num_elts_tree, number_tree, prefixed_tree, suffixed_tree}
-use Rattle.cyc_tree.proofs.Forms.{text_tree, unique_region_tree, variable_tree}
+use Rattle.cyc_tree.proofs.Forms.{all_of_tree, any_of_tree, assign_tree, call_tree, chain_tree, character_tree, grouped_tree, heap_region_tree, make_union_tree, new_in_tree, new_tree, null_tree, num_elts_tree, number_tree, prefixed_tree, suffixed_tree, text_tree, unique_region_tree, variable_tree}
 use Rattle.cyc_tree.specs.Tree.{Expression}
 use Rattle.cyc_tree.specs.View.{expression_tree, expressions_of, link_tree, links_of, made_tree, name_tree, suffix_tree, suffixes_of}
 use Rattle.cyc_tree.specs.declared.expression.Expression as code
@@ -20,7 +18,7 @@ use Rattle.check_faults.proofs.Shortened.{shortened_after}
 use Rattle.check_faults.specs.Verdicts.{short_of, shortened}
 use Rattle.check_operators.specs.Goals.{goal_in}
 use Rattle.check_operators.specs.Values.{value_of}
-use Rattle.check_expressions.specs.Enclosings.{enclosing_of}
+use Rattle.check_calls.specs.Enclosings.{enclosing_of}
 use Rattle.check_expressions.proofs.Forms.{judged}
 use Rattle.check_expressions.proofs.Makings.{enclosed_is, goal_is, handle_goal}
 use Rattle.check_expressions.specs.Goals.{enclosed_short}
@@ -28,8 +26,7 @@ use Rattle.check_expressions.specs.Suffixes.{short_suffixes}
 use Rattle.flow_effects.specs.Passed.{passage_of}
 use Rattle.flow_effects.specs.Used.{IsUsed}
 use Rattle.flow_effects.specs.declared.used.Usage.TheVariants as usage
-use Rattle.flow_check.proofs.Forms.{call_uses, chain_alone, chain_uses, does, some_suffixes, suffixed_alone, tested_alone}
-use Rattle.flow_check.proofs.Forms.{tested_length, tests_joined, told}
+use Rattle.flow_check.proofs.Forms.{call_uses, chain_alone, chain_uses, does, some_suffixes, suffixed_alone, tested_alone, tested_length, tests_joined, told}
 use Rattle.flow_check.proofs.PrefixUses.{look_alone}
 use Rattle.flow_check.proofs.Seeing.{SeenAs, alone_seen, seen_told, suffixed_same}
 use Rattle.flow_check.proofs.Steps.{all_step, links_step, tests_step}

@@ -49,6 +49,7 @@ use Rattle.source_lowering.proofs.regions.HeapValues.{heap_data}
 use Rattle.source_lowering.proofs.Texts.{string_found}
 use Rattle.selectable_proof.proofs.Layouts.{object_layout, variable_layout}
 use Rattle.selectable_proof.proofs.Texts.{IsTextIn, TextsLie, program_texts}
+use Rattle.core_lines.proofs.homes.Locals.{end_above}
 
 constant_plain : (os : List ℕ) (w : World) (c : tree.Constant) (s : Shape) → IsIntegerShape s → TakesConstant s c
     → word_in s (constant_word c) ≡ constant_word c → IsPlain os 4 (constant_content w c s)
@@ -252,14 +253,10 @@ module _ (os : List ℕ) (near : AreNear os) (w : World) (lie : TextsLie (length
 
 -- ---- a program's data
 
-low_end : (low : ℕ) (ls : List Local) → low ≤ end_from low ls
-low_end low [] = omega arith
-low_end low (l ∷ ls) = let h = low_end (rounded low + bytes_of l) ls in omega (arith, h)
-
 -- no object begins behind the end
 offset_within : (low : ℕ) (ls : List Local) (k : ℕ) → nth (offsets_from low ls) k ≤ end_from low ls
 offset_within low [] k = omega arith
-offset_within low (l ∷ ls) zero = let h = low_end (rounded low + bytes_of l) ls in omega (arith, h)
+offset_within low (l ∷ ls) zero = let h = end_above (rounded low + bytes_of l) ls in omega (arith, h)
 offset_within low (l ∷ ls) (suc k) = offset_within (rounded low + bytes_of l) ls k
 
 pub offsets_many : (low : ℕ) (ds : List Datum) → length (offsets_from low (datum_locals ds)) ≡ length ds

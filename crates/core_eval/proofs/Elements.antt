@@ -48,6 +48,7 @@ use Rattle.cyc_core.specs.Trees.{made_parts, part_layout, cell_parts, layout_tre
 use Rattle.core_eval.specs.Values.{part_in, first_held, blanked}
 use Rattle.core_eval.specs.Elements.{each_element, slot_from, block_cells, scalar, blank_object}
 use Rattle.core_eval.proofs.Parts.{shape_part, cell_part, one_part}
+use Rattle.cyc_words.proofs.Lists.{got_before}
 
 -- ---- something of each cell of so many elements
 
@@ -62,11 +63,6 @@ element_pushed f cells e count xs xs' whole less pushed so_far =
     ∙ append_assoc xs (map (f e) cells) (each_element f cells (e + 1) (count - (e + 1)))
     ∙ ap (λ (n : ℕ). xs ++ (map (f e) cells ++ each_element f cells n (count - (e + 1)))) next
     ∙ sym (ap (λ (n : ℕ). xs ++ each_element f cells e n) left) ∙ so_far
-
-get_left : {A : Type 0} (xs ys : List A) (k : ℕ) → k < length xs → slice_get (xs ++ ys) k ≡ slice_get xs k
-get_left [] ys k h = absurd (omega (arith, h))
-get_left (x ∷ xs) ys zero h = refl
-get_left (x ∷ xs) ys (suc k) h = get_left xs ys k (omega (arith, h))
 
 get_right : {A : Type 0} (xs ys : List A) (k : ℕ) → length xs ≤ k → slice_get (xs ++ ys) k ≡ slice_get ys (k - length xs)
 get_right [] ys k h = ap (slice_get ys) (let z : k ≡ k - 0 = omega arith in z)
@@ -116,7 +112,7 @@ module _ {A : Type 0} (f : ℕ → CellLayout → A) (cs : List CellLayout) wher
       by later true t =
           let less : y < size = grind (arith, nat_tests, t) in
           let long = length-map cs (f e) in
-          get_left (map (f e) cs) (each_element f cs (suc e) count) y (omega (arith, less, long)) ∙ in_first e count y less
+          got_before (map (f e) cs) (each_element f cs (suc e) count) y (omega (arith, less, long)) ∙ in_first e count y less
       by later false t =
           let more : size ≤ y = grind (arith, nat_tests, t) in
           let long = length-map cs (f e) in

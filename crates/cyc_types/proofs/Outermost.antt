@@ -10,11 +10,11 @@ use Rattle.cyc_types.specs.Known.{Entry, is_declared, quick_begins, quick_copies
 use Rattle.cyc_types.specs.Measures.{layer_extent, quick_measure, scalar_bytes}
 use Rattle.cyc_types.specs.Layers.{last_or, layer_begins, layer_copies, outermost, pointed, pointer_to}
 use Rattle.cyc_types.specs.Scalars.{UniqueKind, layer_kind, only_kind}
-use Rattle.cyc_types.proofs.Reaches.{single_null}
 use Rattle.cyc_types.specs.declared.base.BaseType.{BaseType}
 use Rattle.cyc_types.specs.declared.base.BaseType.TheVariants as base
 use Rattle.cyc_types.specs.declared.layer.Layer.{Layer}
 use Rattle.cyc_types.specs.declared.layer.Layer.TheVariants as code
+use Rattle.source_meaning.proofs.Reaches.{single_null}
 
 -- ---- a type without pointers
 

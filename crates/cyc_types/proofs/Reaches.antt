@@ -4,7 +4,3 @@ use Rattle.source_meaning.specs.Shapes.{may_be_null, single}
 
 pub word_is : (n : ℕ) → n < 2 ^ 32 → n ≡ n % 2 ^ 32
 word_is n h = omega (arith, h)
-
-pub single_null : (n : Bool) → may_be_null (single n) ≡ n
-single_null true = refl
-single_null false = refl

@@ -12,14 +12,9 @@ use Rattle.rv32_machine.proofs.LongerRuns.{run_more, over_steps}
 use Rattle.exhaustion_proof.specs.Room.{asked, refused_if, counts_after, is_refused_after, WantsPages, HasRoom}
 use Rattle.exhaustion_proof.specs.Laws.{AreExact, IsGrowing, ExhaustionIsExact}
 use Rattle.exhaustion_proof.proofs.Running.{AreGranted, Kept, granted_there, starts_kept, steps_kept}
+use Rattle.cyc_words.proofs.Events.{visible_append}
 
 -- ---- lists
-
-visible_and : (es fs : List SourceEvent) → visible (es ++ fs) ≡ visible es ++ visible fs
-visible_and [] fs = refl
-visible_and (Visible e ∷ es) fs = ap (λ l. e ∷ l) (visible_and es fs)
-visible_and (Called f ∷ es) fs = visible_and es fs
-visible_and (Returned f ∷ es) fs = visible_and es fs
 
 -- Of two places in one list: they are the same, or one stands before the other.
 data Places (before : List SourceEvent) (e : SourceEvent) (others : List SourceEvent) (next : SourceEvent) : Type 0 where
@@ -161,7 +156,7 @@ module _ (bound : List ℕ → ℕ) (n : Areas) (s : State) (input : List ℕ) (
             either has (inl x) = has.0 x
             either has (inr x) = has.1 x
         by cut (Later between a) =
-            absurd (not_shown count exact (visible between) (cut.same ∙ ap visible a ∙ visible_and before (Visible e ∷ between)))
+            absurd (not_shown count exact (visible between) (cut.same ∙ ap visible a ∙ visible_append before (Visible e ∷ between)))
 
     stopped : (enough count : ℕ) → enough ≤ count → AreExact n count at_start → Reaches (run_steps n enough at_start) m fuel
         → let r = run_steps n count at_start in (r.state.mode ≡ Over Stop.Lacking) ⊎ ((r.state.mode ≡ Over Stop.Exhausted) × (r.events ≡ visible before))
@@ -184,7 +179,7 @@ module _ (bound : List ℕ → ℕ) (n : Areas) (s : State) (input : List ℕ) (
     stopped enough count less exact (inr (begins, ends)) =
         let exact_first : AreExact n enough at_start = λ k under. exact k (omega (arith, under, less)) in
         absurd (not_shown enough exact_first (visible rest ++ begins.0)
-        (begins.1 ∙ ap (λ l. visible l ++ begins.0) split ∙ ap (λ l. l ++ begins.0) (visible_and before (Visible e ∷ rest))
+        (begins.1 ∙ ap (λ l. visible l ++ begins.0) split ∙ ap (λ l. l ++ begins.0) (visible_append before (Visible e ∷ rest))
         ∙ append_assoc (visible before) (e ∷ visible rest) begins.0))
 
 pub exhaustion_is_exact : ExhaustionIsExact

@@ -49,6 +49,7 @@ use Rattle.selectable_proof.proofs.StaticShapes.{union_values, member_value}
 use Rattle.selectable_proof.proofs.Pointers.{held_names, exchange_names}
 use Rattle.selectable_proof.proofs.Expressions.{place_names, expression_names}
 use Rattle.selectable_proof.proofs.WholeNames.{source_names, run_names}
+use Rattle.source_lowering.proofs.statements.Freeing.{thin_operand}
 
 -- ---- layouts
 
@@ -134,11 +135,6 @@ value_names k blocks own n w names s e d index next plain a object takes h f = b
     by of o takes f = word of o takes f
 
 -- a name for a unique pointer begins with its value
-aliased_operand : (s : Shape) → IsThinShape s → IsOperandShape s
-aliased_operand (StructShape tag) h = h
-aliased_operand (UnionShape tag) h = h
-aliased_operand _ h = tt
-
 aliased_value : (w : World) (names : List Named) (e : Expression) (s : Shape) → IsWordShape s → Takes w names e → TakesValue w names s e
 aliased_value w names e (StructShape tag) h takes = absurd h
 aliased_value w names e (UnionShape tag) h takes = absurd h
@@ -167,7 +163,7 @@ declaration_names k blocks own n w names plain a (tree.Alias at region of alias 
     let s = static_shape w names e in
     let none = aliased_none w names pointer (settled_by (written of) s) takes.1.1 in
     value_names k blocks own n w names (settled_by (written of) s) e d index next plain a (object_by w.unions w.structs of takes.0 s)
-    (aliased_value w names e (settled_by (written of) s) takes.1.1 (aliased_operand s takes.1.0)) h (omega (arith, f, none))
+    (aliased_value w names e (settled_by (written of) s) takes.1.1 (thin_operand s takes.1.0)) h (omega (arith, f, none))
 declaration_names k blocks own n w names plain a (tree.Open at region handle key) d index next takes h f =
     both_name (k ∷ blocks) own n _ _
     (get_names (k ∷ blocks) own n d (local_named names key.text) (bound_to w.globals key.text) (local_lies (k ∷ blocks) names key.text a.locals)

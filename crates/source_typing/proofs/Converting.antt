@@ -10,6 +10,7 @@ use Rattle.source_typing.specs.Types.{StaticType, Int, Unsigned, Char, Void, Nul
 use Rattle.source_typing.specs.Types.{Match, Equals, ByRegions, Differs, only, by_regions, matched, same_bool, same_ids, compare}
 use Rattle.source_typing.specs.Conversions.{if_enough, conversion, ordered, if_integer, unless_differs, equal_types, broken}
 use Rattle.source_typing.specs.Converts.{Converts, Integers, NullToThin, NullToFat, NullToUnique, Thins, Fats, ThinToFat, FatToThin, Uniques, Same}
+use Rattle.source_meaning.proofs.Reaches.{bound_is}
 
 -- ---- equal types
 
@@ -31,12 +32,6 @@ bool_is true true e = refl
 bool_is true false e = absurd cc
 bool_is false true e = absurd cc
 bool_is false false e = refl
-
-pub bound_is : (a b : Reach) → same_bound a b ≡ true → a ≡ b
-bound_is (MayBeNull j) (MayBeNull k) e = ap (λ (n : ℕ). MayBeNull n) (eqb-true j k e)
-bound_is (MayBeNull j) (NeverNull k) e = absurd cc
-bound_is (NeverNull j) (MayBeNull k) e = absurd cc
-bound_is (NeverNull j) (NeverNull k) e = ap (λ (n : ℕ). NeverNull n) (eqb-true j k e)
 
 pub id_is : (r q : Region) → same_id r q ≡ true → r ≡ q
 id_is TheHeap TheHeap e = refl

@@ -14,8 +14,8 @@ use Rattle.source_typing.specs.Tables.{parts_in, begins}
 use Rattle.source_typing.specs.Types.{StaticType, Int, Unsigned, Char, Void, Null, Thin, Fat, Unique, Handle, Key, Struct, Union, shape_of}
 use Rattle.type_proof.specs.Entries.{IsObjectType, PlainTables}
 use Rattle.type_proof.specs.Programs.{IsNullConstant, IsNumber, IsPointerConstant, IsFirst, InitialJudged, GlobalJudged, GlobalsJudged}
-use Rattle.type_proof.proofs.invariant.Facts.{single_null}
 use Rattle.type_proof.proofs.invariant.Layouts.{same_text}
+use Rattle.source_meaning.proofs.Reaches.{single_null}
 
 -- ---- whether two types have one shape
 

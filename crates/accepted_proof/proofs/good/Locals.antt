@@ -10,7 +10,7 @@ use Rattle.cyc_tree.specs.Tree.{TypeName}
 use Rattle.source_meaning.specs.Shapes as shapes
 use Rattle.type_proof.specs.Entries.{IsObjectType}
 use Rattle.source_typing.specs.Named.{AllBelow, Below, TypeBelow}
-use Rattle.type_proof.proofs.expressions.Fixed.{PartBelow, same_below}
+use Rattle.type_proof.proofs.expressions.Fixed.{PartBelow, same_below, union_below}
 use Rattle.source_typing.specs.Declarations.{can_be, fitting, fitting_local, if_sized, local_type, misses_region, set_type, taken_from, type_in_scope}
 use Rattle.source_typing.specs.Declarations.{tags_in_scope, unset_type}
 use Rattle.source_typing.specs.Extents.{fits_bytes, variable_size}
@@ -103,15 +103,6 @@ heap_below n (Some r) h = h
 part_below : (n : ℕ) (s : Option StaticType) → SourceBelow n s → PartBelow n s
 part_below n None h = tt
 part_below n (Some t) h = h.1
-
--- the arguments of a union among them
-union_below : (n : ℕ) (tag : List ℕ) (u : Option StaticType) → PartBelow n u → AllBelow n (arguments_of true tag u)
-union_below n tag (Some (Union other rs)) h = by (bytes_eq tag other)
-  where
-    by : (c : Bool) → AllBelow n (if c then rs else [])
-    by true = h
-    by false = tt
-union_below n tag _ h = tt
 
 filled_object : (n : ℕ) (p : PartialType) (s : Option StaticType) → IsPartialObject n p → SourceBelow n s → FilledIfSome n (filled_from p s)
 filled_object n Int s h k = record { object = tt; below = tt }

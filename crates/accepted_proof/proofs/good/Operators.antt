@@ -53,7 +53,7 @@ use Rattle.source_typing.specs.Types.{
 }
 use Rattle.source_typing.specs.Verdicts.{after, if_fits}
 use Rattle.type_proof.proofs.Entries.{object_plain}
-use Rattle.type_proof.proofs.expressions.Integers.{integer_is, on_integers_is}
+use Rattle.type_proof.proofs.expressions.Integers.{integer_is, on_integers_is, joined_integer}
 use Rattle.type_proof.proofs.expressions.Words.{integer_below, integer_object}
 use Rattle.accepted_proof.specs.Good.{IsValueType, Surely}
 use Rattle.accepted_proof.proofs.good.Names.{IsGoodResult, plain_value}
@@ -71,13 +71,6 @@ integer_judged count at t h = record { type = object_value t (integer_object t h
 fitting_judged : (count : ℕ) (b : Bool) (at place : ℕ) (t : StaticType) → (b ≡ true → IsInteger t)
     → Surely (λ v. IsGoodResult count v) (after (if_fits b at t) (value place))
 fitting_judged count b at place t h = surely_fits (λ v. IsGoodResult count v) b at t (value place) (λ e. integer_judged count place t (h e))
-
-joined_integer : (o : Operator) (t u : StaticType) → IsInteger t → IsInteger u → IsInteger (on_integers o t u)
-joined_integer o t u h k =
-    let s : (s : IntegerType) × (t ≡ integer_type s) = integer_is t h in
-    let r : (s : IntegerType) × (u ≡ integer_type s) = integer_is u k in
-    subst (λ (x : StaticType). IsInteger (on_integers o x u)) (sym s.1)
-    (subst (λ (x : StaticType). IsInteger (on_integers o (integer_type s.0) x)) (sym r.1) (on_integers_is o s.0 r.0))
 
 promoted_integer : (t : StaticType) → IsInteger t → IsInteger (promoted t)
 promoted_integer t h = joined_integer ShiftLeft t Int h refl

@@ -23,6 +23,7 @@ use Rattle.accepted_proof.proofs.lowered.Calls.{word_member}
 use Rattle.accepted_proof.proofs.lowered.Forms.{IsTaken, TakenAs, TakenStruct, TakenUnion, TakenWord, taken_word, word_is}
 use Rattle.accepted_proof.proofs.lowered.Operators.{no_place}
 use Rattle.accepted_proof.proofs.lowered.Stands.{FatAs, StandsAs, ThinAs, known_stands, operand_stands, stands_from, stands_same, stands_to}
+use Rattle.type_proof.proofs.expressions.Single.{made_alone}
 
 module _ (w : World) (names : List Named) where
   -- ---- what is made
@@ -105,11 +106,6 @@ module _ (w : World) (names : List Named) where
   making_taken x at r e a v h q takes shape run =
       let d : (is_makeable a.type ≡ true) × Valued v (Thin (NeverNull 1) r a.type) = made_there (is_makeable a.type) at r a.type v q in
       thin_taken x e a v shapes.Shared (Thin (NeverNull 1) r a.type) h d.0 d.1 tt refl (λ k. k) takes shape run
-
-  made_alone : (c : Bool) (at : ℕ) (t : StaticType) (v : Value) → after (if_fits c at t) (made_to at ToUnique) ≡ Of v
-      → (c ≡ true) × Valued v (Unique false t)
-  made_alone true at t v e = (refl, value_of at (Unique false t) v e)
-  made_alone false at t v e = absurd cc
 
   -- and in the unique region
   pub unique_making_taken : (x : Expression) (at : ℕ) (e : Expression) (a v : Value) → IsTaken w names e a → made at ToUnique a ≡ Of v

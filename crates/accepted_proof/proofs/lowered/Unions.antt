@@ -22,43 +22,7 @@ use Rattle.type_proof.proofs.invariant.Unions.{Placed, part_placed}
 use Rattle.accepted_proof.proofs.Known.{IsKnownValue, IsWord, converts_word}
 use Rattle.accepted_proof.proofs.lowered.Calls.{word_renamed}
 use Rattle.accepted_proof.proofs.lowered.Forms.{AreWords, IsTaken, KnownEntry, KnownKind, KnownUnion, TakenAs, word_is}
-
--- ---- the union that a name means, and the member of a name
-
-pub record OfUnion (o : Option Entry) (f : List ℕ) (p : Tag × Part) : Type 0 where
-  pub tag : Tag
-  pub is : o ≡ Some (OfTag tag)
-  pub union : tag.is_union ≡ true
-  pub part : Part
-  pub found : part_in tag.parts f ≡ Some part
-  pub same : (tag, part) ≡ p
-
-union_is : (at f : tree.Name) (o : Option Entry) (p : Tag × Part) → union_tag at f o ≡ Of p → OfUnion o f.text p
-union_is at f None p e = absurd cc
-union_is at f (Some (OfTag t)) p e = by_sound t.sound e
-  where
-    by_part : (q : Option Part) → part_in t.parts f.text ≡ q → t.is_union ≡ true → union_member f t q ≡ Of p → OfUnion (Some (OfTag t)) f.text p
-    by_part None z u h = absurd cc
-    by_part (Some q) z u h = record { tag = t; is = refl; union = u; part = q; found = z; same = of_is (t, q) p h }
-
-    by_kind : (c : Bool) → t.is_union ≡ c → if_union c at f t ≡ Of p → OfUnion (Some (OfTag t)) f.text p
-    by_kind true z h = by_part (part_in t.parts f.text) refl z h
-    by_kind false z h = absurd cc
-
-    by_sound : (c : Bool) → if_sound c (if_union t.is_union at f t) ≡ Of p → OfUnion (Some (OfTag t)) f.text p
-    by_sound true h = by_kind t.is_union refl h
-    by_sound false h = absurd cc
-union_is at f (Some (OfValue (Stored t r))) p e = absurd cc
-union_is at f (Some (OfValue (Arrayed t r))) p e = absurd cc
-union_is at f (Some (OfValue Counter)) p e = absurd cc
-union_is at f (Some (OfValue Unknown)) p e = absurd cc
-union_is at f (Some (OfFunction s)) p e = absurd (never s.sound e)
-  where
-    never : (c : Bool) → other_kind c at.at ≡ Of p → ⊥
-    never true h = cc
-    never false h = cc
-union_is at f (Some (OfBuiltin c)) p e = absurd cc
-union_is at f (Some OfOther) p e = absurd cc
+use Rattle.type_proof.proofs.expressions.UnionForms.{OfUnion, union_is}
 
 -- the type at a position is a word's
 word_at : (ts : List StaticType) (k : ℕ) (t : StaticType) → AreWords ts → slice_get ts k ≡ Some t → IsWord t

@@ -44,22 +44,17 @@ use Rattle.core_meaning.specs.Steps.{Step, Event}
 use Rattle.core_lines.specs.Machines.{Machine, state_of, run_from}
 use Rattle.core_lines.specs.Running.{named, core_run}
 use Rattle.core_lines.proofs.memory.Relations.{IsAt, Led, Cut, Cause, Refused, NoStack, Lacked, stop_of, refused_of, IsNext, World, Leads, Goes}
+use Rattle.cyc_words.proofs.Events.{visible_append}
 
 begins_on : (a b c : List events.Event) → IsBeginning a b → IsBeginning b c → IsBeginning a c
 begins_on a b c x y = (x.0 ++ y.0, y.1 ∙ ap (λ es. es ++ y.0) x.1 ∙ append_assoc a x.0 y.0)
-
-pub visible_of_both : (a b : List SourceEvent) → visible (a ++ b) ≡ visible a ++ visible b
-visible_of_both [] b = refl
-visible_of_both (Visible e ∷ a) b = ap (λ es. e ∷ es) (visible_of_both a b)
-visible_of_both (Called f ∷ a) b = visible_of_both a b
-visible_of_both (Returned f ∷ a) b = visible_of_both a b
 
 -- ---- agreeing
 
 pub cut_begins : (shown : List events.Event) (meant : List SourceEvent) (reason : List SourceEvent → SourceEvent → Type 0) → IsCut shown meant reason
     → IsBeginning shown (visible meant)
 cut_begins shown meant reason c =
-    (visible (c.next ∷ c.rest), ap visible c.split ∙ visible_of_both c.before (c.next ∷ c.rest) ∙ ap (λ es. es ++ visible (c.next ∷ c.rest)) (sym c.same))
+    (visible (c.next ∷ c.rest), ap visible c.split ∙ visible_append c.before (c.next ∷ c.rest) ∙ ap (λ es. es ++ visible (c.next ∷ c.rest)) (sym c.same))
 
 module _ (bound : List ℕ → ℕ) (n : Areas) where
   begins : (shown : List events.Event) (meant : List SourceEvent) (e : SourceEnding) (how : MachineEnding) → AgreesIn bound n how shown meant e

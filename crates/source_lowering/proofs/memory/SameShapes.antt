@@ -27,12 +27,7 @@ use Rattle.source_meaning.specs.Shapes.{
   same_owner,
   same_shape,
 }
-
-bounds_same : (a b : Reach) → same_bound a b ≡ true → a ≡ b
-bounds_same (MayBeNull j) (MayBeNull k) e = ap MayBeNull (eqb-true j k e)
-bounds_same (MayBeNull j) (NeverNull k) e = absurd (cc e)
-bounds_same (NeverNull j) (MayBeNull k) e = absurd (cc e)
-bounds_same (NeverNull j) (NeverNull k) e = ap NeverNull (eqb-true j k e)
+use Rattle.source_meaning.proofs.Reaches.{bound_is}
 
 owners_same : (a b : Owner) → same_owner a b ≡ true → a ≡ b
 owners_same Shared Shared e = refl
@@ -51,7 +46,7 @@ shapes_same VoidShape VoidShape e = refl
 shapes_same (ThinShape m o s) (ThinShape n q t) e =
     let p = and_parts (same_bound m n) (same_owner o q && same_shape s t) e in
     let q' = and_parts (same_owner o q) (same_shape s t) p.1 in
-    let a = bounds_same m n p.0 in
+    let a = bound_is m n p.0 in
     let b = owners_same o q q'.0 in
     let c = shapes_same s t q'.1 in
     λ i. ThinShape (a i) (b i) (c i)

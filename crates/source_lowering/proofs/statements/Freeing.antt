@@ -209,7 +209,7 @@ shared_freed p n result e s code h agrees = record {
     taken_from next x = (read_cell x.at >>= λ v. put_content x.at Gone >> pointer_freed v) (λ u. next steps.Falls)
 
 -- a name by its shape
-thin_operand : (s : Shape) → IsThinShape s → IsOperandShape s
+pub thin_operand : (s : Shape) → IsThinShape s → IsOperandShape s
 thin_operand (StructShape tag) h = h
 thin_operand (UnionShape tag) h = h
 thin_operand _ h = tt

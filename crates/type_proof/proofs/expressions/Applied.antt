@@ -55,7 +55,7 @@ use Rattle.type_proof.proofs.invariant.Standing.{Standing}
 use Rattle.type_proof.proofs.invariant.Layouts.{agrees}
 use Rattle.type_proof.proofs.expressions.WordRules.{testable_word, Valued, value_of, applied_seat, fitted, given_type, assigned_object, given_simple}
 use Rattle.type_proof.proofs.expressions.WordRules.{given_below, given_shaped}
-use Rattle.type_proof.proofs.expressions.Integers.{integer_is, on_integers_is, operator_shaped}
+use Rattle.type_proof.proofs.expressions.Integers.{integer_is, on_integers_is, operator_shaped, joined_integer}
 use Rattle.type_proof.proofs.expressions.Words.{IsObjectType, IsSimple, object_simple, object_some, integer_object, integer_below, object_renamed}
 use Rattle.type_proof.proofs.expressions.Converting.{converts_some}
 use Rattle.type_proof.proofs.expressions.Pointers.{
@@ -159,17 +159,10 @@ module _ (n : ℕ) (d : Tables) (g : Env) (scope : Scope) (f : NameOf → Region
       joins_compared o before behind x y (Thin n1 r1 u) (Thin n2 r2 u) e p q
       (compares_thins n d g scope f b low n1 n2 r1 r2 u (strictly g r1 strict lr) (strictly g r2 strict lq)) hx hy
 
-  integers_given : (o : Operator) (a c : StaticType) → IsInteger a → IsInteger c → IsInteger (on_integers o a c)
-  integers_given o a c ia ic =
-      let s : (s : IntegerType) × (a ≡ integer_type s) = integer_is a ia in
-      let t : (s : IntegerType) × (c ≡ integer_type s) = integer_is c ic in
-      subst (λ (u : StaticType). IsInteger (on_integers o u c)) (sym s.1)
-      (subst (λ (u : StaticType). IsInteger (on_integers o (integer_type s.0) u)) (sym t.1) (on_integers_is o s.0 t.0))
-
   joined_type : (i : Enclosing) (o : Operator) (a c t : StaticType) → IsSimple a → TypeBelow g.regions.count a → Operates (within i g) o a c t
       → IsSimple t × TypeBelow g.regions.count t
   joined_type i o a c t p l (OnIntegers ia ic) =
-      let result : IsInteger (on_integers o a c) = integers_given o a c ia ic in
+      let result : IsInteger (on_integers o a c) = joined_integer o a c ia ic in
       (object_simple (on_integers o a c) (integer_object (on_integers o a c) result), integer_below g.regions.count (on_integers o a c) result)
   joined_type i o a c t p l (OnFat {r = r} {t = to} {b = u} move iu) = (p, l)
   joined_type i o a c t p l (WithNull e k) = (tt, tt)

@@ -136,7 +136,7 @@ same_below n tag (Some (Struct other rs)) h = by (bytes_eq tag other)
 same_below n tag (Some (Union other rs)) h = tt
 
 -- and so of a union
-union_below : (n : ℕ) (tag : List ℕ) (u : Option StaticType) → PartBelow n u → AllBelow n (arguments_of true tag u)
+pub union_below : (n : ℕ) (tag : List ℕ) (u : Option StaticType) → PartBelow n u → AllBelow n (arguments_of true tag u)
 union_below n tag None h = tt
 union_below n tag (Some Int) h = tt
 union_below n tag (Some Unsigned) h = tt

@@ -155,6 +155,14 @@ type_integer AsChar = refl
 pub on_integers_is : (o : Operator) (s t : IntegerType) → IsInteger (on_integers o (integer_type s) (integer_type t))
 on_integers_is o s t = let j = joined o s 0 t 0 in subst (λ (u : StaticType). IsInteger u) (sym j.type) (type_integer j.of)
 
+-- an operator on two integers gives an integer
+pub joined_integer : (o : Operator) (t u : StaticType) → IsInteger t → IsInteger u → IsInteger (on_integers o t u)
+joined_integer o t u h k =
+    let s : (s : IntegerType) × (t ≡ integer_type s) = integer_is t h in
+    let r : (s : IntegerType) × (u ≡ integer_type s) = integer_is u k in
+    subst (λ (x : StaticType). IsInteger (on_integers o x u)) (sym s.1)
+    (subst (λ (x : StaticType). IsInteger (on_integers o (integer_type s.0) x)) (sym r.1) (on_integers_is o s.0 r.0))
+
 -- what two integers are joined to has the type that the rules say
 pub joined_typed : (d : Tables) (f : NameOf → Region) (w : Ghost) (by : ℕ → Owner) (o : Operator) (s : IntegerType) (x : ℕ) (t : IntegerType) (y : ℕ)
     → HaveTypes d w by (integers o s x t y ∷ []) (cells_type d f (on_integers o (integer_type s) (integer_type t)))

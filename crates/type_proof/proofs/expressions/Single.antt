@@ -192,7 +192,7 @@ unique_made d n k b w m t bytes vs i typed = record {
 
 -- ---- `rnew(unique_region) e`
 
-made_alone : (c : Bool) (at : ℕ) (t : StaticType) (v : Value) → after (if_fits c at t) (made_to at ToUnique) ≡ Of v → (c ≡ true) × Valued v (Unique false t)
+pub made_alone : (c : Bool) (at : ℕ) (t : StaticType) (v : Value) → after (if_fits c at t) (made_to at ToUnique) ≡ Of v → (c ≡ true) × Valued v (Unique false t)
 made_alone true at t v e = (refl, value_of at (Unique false t) v e)
 made_alone false at t v e = absurd cc
 

@@ -49,15 +49,15 @@ use Rattle.type_proof.proofs.Entries.{MeansPlain}
 -- ---- the union and its member
 
 -- the union that a name means, and the member of a name
-record OfUnion (o : Option Entry) (f : List ℕ) (p : Tag × Part) : Type 0 where
-  tag : Tag
-  is : o ≡ Some (OfTag tag)
-  union : tag.is_union ≡ true
-  part : Part
-  found : part_in tag.parts f ≡ Some part
-  same : (tag, part) ≡ p
+pub record OfUnion (o : Option Entry) (f : List ℕ) (p : Tag × Part) : Type 0 where
+  pub tag : Tag
+  pub is : o ≡ Some (OfTag tag)
+  pub union : tag.is_union ≡ true
+  pub part : Part
+  pub found : part_in tag.parts f ≡ Some part
+  pub same : (tag, part) ≡ p
 
-union_is : (at f : tree.Name) (o : Option Entry) (p : Tag × Part) → union_tag at f o ≡ Of p → OfUnion o f.text p
+pub union_is : (at f : tree.Name) (o : Option Entry) (p : Tag × Part) → union_tag at f o ≡ Of p → OfUnion o f.text p
 union_is at f None p e = absurd cc
 union_is at f (Some (OfTag t)) p e = by_sound t.sound e
   where

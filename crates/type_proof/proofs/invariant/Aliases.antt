@@ -9,7 +9,7 @@ use Rattle.source_meaning.specs.Regions.{lending}
 use Rattle.source_typing.specs.Types as types
 use Rattle.source_typing.specs.Types.{Unique, shape_of}
 use Rattle.type_proof.specs.Flat.{Tables}
-use Rattle.type_proof.proofs.invariant.Facts.{single_null, at_region, at_spot, same_at, same_here}
+use Rattle.type_proof.proofs.invariant.Facts.{at_region, at_spot, same_at, same_here}
 use Rattle.type_proof.proofs.invariant.Invariant.{IsNull, RunType, heap, Owner, Nobody, Flying, Returned, Pinned, InCell, Kept, Reached, Private, Ghost, HasType}
 use Rattle.type_proof.proofs.invariant.Invariant.{Reaches, CellOk, Steady, ByLoan, Resting, StateOk, Known, Inv, Grows}
 use Rattle.type_proof.proofs.invariant.Values.{laid_kept, single_one}
@@ -20,6 +20,7 @@ use Rattle.type_proof.proofs.invariant.Runs.{Safe, Runs}
 use Rattle.type_proof.proofs.invariant.Cells.{cell, seen, runs_put, stored, inv_stored, grows_stored}
 use Rattle.type_proof.proofs.invariant.After.{After}
 use Rattle.type_proof.proofs.invariant.Rights.{Ours, emptied, inv_emptied, grows_emptied, content_same}
+use Rattle.source_meaning.proofs.Reaches.{single_null}
 
 -- what the end of a loan leaves as it was
 pub record Ends (at : Spot) (w : Ghost) (m : Memory) (w' : Ghost) (m' : Memory) : Type 0 where

@@ -6,11 +6,6 @@ use Rattle.source_meaning.specs.Shapes.{may_be_null, single}
 use Rattle.source_meaning.specs.Memory.{Region, Spot, beyond, same_region, same_spot}
 use Rattle.source_meaning.proofs.Cases.{region_is, region_itself, spot_itself, spot_is}
 
--- a pointer without a bound of its own may be NULL where that is said
-pub single_null : (b : Bool) → may_be_null (single b) ≡ b
-single_null true = refl
-single_null false = refl
-
 pub if_cases : {A : Type 0} (b : Bool) (x y : A) (P : A → Type 0) → (b ≡ true → P x) → (b ≡ false → P y) → P (if b then x else y)
 if_cases true x y P h k = h refl
 if_cases false x y P h k = k refl

@@ -10,6 +10,7 @@ use Rattle.source_meaning.specs.Sizes.{repeated}
 use Rattle.source_typing.specs.Types.{shape_of}
 use Rattle.type_proof.proofs.invariant.Facts.{further, not_further, at_start}
 use Rattle.type_proof.proofs.invariant.Invariant.{RunType, Ghost, Laid, AllLaid}
+use Rattle.cyc_words.proofs.Lists.{got_before}
 
 -- ---- what lies first, and what lies behind it
 
@@ -42,11 +43,6 @@ laid_all w s (suc n) ts h = each (laid_all w (beyond s (length ts)) n ts (laid_r
 pub map_repeated : {A B : Type 0} (f : A → B) (n : ℕ) (xs : List A) → map f (repeated n xs) ≡ repeated n (map f xs)
 map_repeated f zero xs = refl
 map_repeated f (suc n) xs = map-append f xs (repeated n xs) ∙ ap (λ ys. map f xs ++ ys) (map_repeated f n xs)
-
-got_before : {A : Type 0} (xs ys : List A) (k : ℕ) → k < length xs → slice_get (xs ++ ys) k ≡ slice_get xs k
-got_before [] ys k l = absurd (omega (arith, l))
-got_before (x ∷ xs) ys zero l = refl
-got_before (x ∷ xs) ys (suc k) l = got_before xs ys k (omega (arith, l))
 
 pub got_behind : {A : Type 0} (xs ys : List A) (j : ℕ) → slice_get (xs ++ ys) (length xs + j) ≡ slice_get ys j
 got_behind [] ys j = ap (slice_get ys) (omega arith)

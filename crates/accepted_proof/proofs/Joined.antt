@@ -24,8 +24,8 @@ lowerable = lowered.programs_lowerable bodies
 pub sized : (p : Program) → IsAccepted p → AreSized (world_of p) (tables_of false p) 0 p
 sized = lowered.programs_sized bodies
 
-pub never_stuck : AcceptedAreNeverStuck
-never_stuck = programs.programs_never_stuck bodies
+pub accepted_are_never_stuck : AcceptedAreNeverStuck
+accepted_are_never_stuck = programs.programs_never_stuck bodies
 
 pub have_main : AcceptedHaveMain
 have_main = programs.programs_have_main bodies

@@ -6,10 +6,10 @@ use crate::plain::run_over_plain;
 use crate::rules;
 use command_line::status::{MEMORY, usage_status};
 use command_line::{Command, command_of};
-use cycc_driver::CompileFault;
-use cyc_words::Counted;
 use cyc_host::Ending;
+use cyc_words::Counted;
 use cycc_answer::{answer, ended, refused};
+use cycc_driver::CompileFault;
 use std::alloc::{AllocError, Global};
 use std::io;
 

@@ -3,8 +3,8 @@
 use crate::answers::Found;
 use command_line::status::{REFUSED, SUCCESS};
 use cyc_core::Program;
-use lower_checks::lower;
 use cycc_driver::front;
+use lower_checks::lower;
 use rv32_select::{Labelled, select};
 use std::alloc::{AllocError, Global};
 

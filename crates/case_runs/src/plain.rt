@@ -3,12 +3,12 @@
 use crate::answers::{Found, found_between};
 use crate::devices::Given;
 use command_line::Command;
-use cyc_image::{Image, load};
-use rv32_machine::Machine;
 use cyc_arena::PlainStore;
-use cycc_driver::compile;
-use cycc_answer::ended;
 use cyc_host::run;
+use cyc_image::{Image, load};
+use cycc_answer::ended;
+use cycc_driver::compile;
+use rv32_machine::Machine;
 use std::alloc::{AllocError, Global};
 
 /// How far an image is run, and what is told of it: its ending, and where it ended.

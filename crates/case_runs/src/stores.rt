@@ -1,9 +1,9 @@
 // Calls of a store, and runs over it, to be timed by `bench/run`.
 
 use cyc_arena::{BlockStore, PagedStore, PlainStore};
-use cyc_words::Counted;
 use cyc_host::{Ending, run};
 use cyc_image::{Image, load};
+use cyc_words::Counted;
 use rv32_machine::Machine;
 use std::alloc::Global;
 use std::io;

@@ -5,4 +5,3 @@ pub mod Fitted
 pub mod Held
 pub mod Targets
 pub mod Unions
-

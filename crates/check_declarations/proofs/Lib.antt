@@ -9,4 +9,3 @@ pub mod Parameters
 pub mod RegionScopes
 pub mod Sizes
 pub mod Unions
-

@@ -3,4 +3,3 @@ pub mod Contexts
 pub mod Declaring
 pub mod Operands
 pub mod Switching
-

@@ -16,8 +16,8 @@ ghost use Rattle.check_types.specs.Tagged.{TagIs};
 ghost use Rattle.check_declarations.specs.Declaring.{could_be, elements_fit, fitting_by, stands_before, tag_of_meaning};
 
 use check_faults::{Fault, FaultKind, Verdict};
-use check_types::{TagName, type_tag};
 use check_scopes::{Named, Scope};
+use check_types::{TagName, type_tag};
 use cyc_tree::TypeName;
 use cyc_types::{BaseType, CType, MOST_BYTES, Tables};
 

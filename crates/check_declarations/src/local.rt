@@ -25,9 +25,9 @@ ghost use Rattle.source_typing.specs.Verdicts as verdict;
 
 use crate::context::Context;
 use crate::local_types::{set_type, unset_type};
-use check_operators::{Value, converted};
 use check_expressions::judge;
 use check_faults::{Fault, Verdict, sooner};
+use check_operators::{Value, converted};
 use check_regions::RegionNames;
 use check_scopes::{Scope, What};
 use cyc_tree::{Expression, Initializer, TypeName};

@@ -16,11 +16,11 @@ ghost use Rattle.check_declarations.specs.Contexts.{Suits};
 
 use crate::context::Context;
 use crate::fitting::{fitted, local_tag};
-use check_operators::Value;
 use check_faults::Verdict;
-use check_types::{WrittenType, misses_region_in, settled, written_in};
+use check_operators::Value;
 use check_regions::RegionNames;
 use check_scopes::Scope;
+use check_types::{WrittenType, misses_region_in, settled, written_in};
 use cyc_tree::TypeName;
 use cyc_types::CType;
 use std::alloc::{AllocError, Global};

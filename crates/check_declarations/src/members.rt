@@ -24,8 +24,8 @@ ghost use Rattle.source_typing.specs.Scope as judged;
 ghost use Rattle.source_typing.specs.Statements as statements;
 ghost use Rattle.source_typing.specs.Verdicts as verdict;
 
-use check_operators::{Seat, Value, renamed_type};
 use check_faults::Verdict;
+use check_operators::{Seat, Value, renamed_type};
 use check_scopes::{Scope, What};
 use cyc_tree::{Name, Pattern};
 use cyc_types::{BaseType, CType, Member, RegionId, Tables};

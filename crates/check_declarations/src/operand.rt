@@ -15,8 +15,8 @@ ghost use Rattle.check_scopes.specs.Knows.{Knows};
 ghost use Rattle.check_operators.specs.Values.{value_of};
 ghost use Rattle.check_declarations.specs.Operands.{is_kind};
 
-use check_operators::{Value, variable};
 use check_faults::{Fault, FaultKind, Verdict};
+use check_operators::{Value, variable};
 use check_scopes::Scope;
 use cyc_tree::Name;
 use cyc_types::{CType, Layer};

@@ -2,4 +2,3 @@ pub mod Within
 pub mod Goals
 pub mod Joined
 pub mod Suffixes
-

@@ -12,8 +12,8 @@ ghost use Rattle.check_expressions.specs.Within.{IsIn, is_counter, means_inside}
 
 use crate::making::enclosing_by;
 use check_calls::Enclosing;
-use check_operators::Goal;
 use check_faults::Verdict;
+use check_operators::Goal;
 use check_scopes::{Named, Scope};
 use std::alloc::{AllocError, Global};
 

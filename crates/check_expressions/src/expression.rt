@@ -22,8 +22,8 @@ use crate::parts::{
 };
 use crate::suffixes::{arrow_part, indexed_parts, member_part};
 use check_calls::{Enclosing, called_target};
-use check_operators::{Goal, Value, character, heap_region, null, number, string, variable};
 use check_faults::Verdict;
+use check_operators::{Goal, Value, character, heap_region, null, number, string, variable};
 use check_scopes::Scope;
 use cyc_tree::{Expression, Link, Made, Name, Suffix};
 use cyc_types::RegionId;

@@ -14,8 +14,8 @@ ghost use Rattle.check_expressions.specs.Goals.{both_values, enclosed_short, is_
 
 use crate::parts::refused;
 use check_calls::Enclosing;
-use check_operators::{Goal, Value, array_made, handled, made};
 use check_faults::Verdict;
+use check_operators::{Goal, Value, array_made, handled, made};
 use check_scopes::Scope;
 use cyc_tree::Expression;
 use std::alloc::{AllocError, Global};

@@ -18,8 +18,8 @@ ghost use Rattle.check_expressions.specs.Joined.{one_more, values_of};
 
 use crate::around::{Around, meaning};
 use check_calls::{Enclosing, Target, UnionMember, called, union_made, union_tag};
-use check_operators::{Value, applied, assigned, counted, grouped, prefixed, tested_both};
 use check_faults::{Fault, FaultKind, Verdict};
+use check_operators::{Value, applied, assigned, counted, grouped, prefixed, tested_both};
 use check_scopes::Scope;
 use cyc_tree::{Name, Operator, Prefix};
 use std::alloc::{AllocError, Global};

@@ -9,8 +9,8 @@ ghost use Rattle.source_typing.specs.Places.{arrow, indexed, member};
 ghost use Rattle.source_typing.specs.Scope.{Env};
 ghost use Rattle.check_faults.specs.Verdicts.{short_after, short_both, short_of, shortened};
 
-use check_operators::{Value, arrow, indexed, member};
 use check_faults::Verdict;
+use check_operators::{Value, arrow, indexed, member};
 use check_scopes::Scope;
 use cyc_tree::Name;
 use cyc_types::Tables;

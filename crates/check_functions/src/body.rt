@@ -16,11 +16,11 @@ ghost use Rattle.check_heads.specs.Bodies.{KnowsNames, code_names, names_of, typ
 ghost use Rattle.check_functions.specs.Bodies.{own_found};
 ghost use Rattle.check_heads.specs.Heads.{IsHead, known_static};
 
+use check_declarations::{Context, declare_parameter};
 use check_faults::{Fault, FaultKind, Verdict, sooner};
+use check_heads::{Head, Names, Parameter, entered, is_main, known_type, read_head};
 use check_regions::RegionNames;
 use check_scopes::Scope;
-use check_declarations::{Context, declare_parameter};
-use check_heads::{Head, Names, Parameter, entered, is_main, known_type, read_head};
 use check_statements::{items_fall, items_fault};
 use cyc_tree::{BlockItem, Function};
 use cyc_types::{CType, RegionId};

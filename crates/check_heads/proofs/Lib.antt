@@ -8,4 +8,3 @@ pub mod KeyTypes
 pub mod ParameterTypes
 pub mod ReadParameters
 pub mod Signatures
-

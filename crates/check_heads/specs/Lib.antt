@@ -2,4 +2,3 @@ pub mod Bodies
 pub mod Heads
 pub mod Reading
 pub mod Used
-

@@ -1,4 +1,3 @@
 pub mod Items
 pub mod Seeing
 pub mod Statics
-

@@ -6,4 +6,3 @@ pub mod Begun
 pub mod Entered
 pub mod Scopes
 pub mod Walked
-

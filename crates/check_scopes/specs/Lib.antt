@@ -5,4 +5,3 @@ pub mod Linked
 pub mod Locals
 pub mod Means
 pub mod Matching
-

@@ -10,8 +10,8 @@ ghost use Rattle.check_scopes.specs.Means.{Means, meaning_of};
 use crate::globals::Globals;
 use crate::locals::{Locals, What};
 use crate::meaning::{Meaning, Signature};
-use cyc_types::{CType, RegionId, Tables};
 use check_regions::RegionScope;
+use cyc_types::{CType, RegionId, Tables};
 use std::alloc::AllocError;
 
 /// What a name means where it is used.

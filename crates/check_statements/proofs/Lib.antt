@@ -1,4 +1,3 @@
 pub mod Blocks
 pub mod Clauses
 pub mod Exchanging
-

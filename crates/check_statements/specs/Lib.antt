@@ -1,4 +1,3 @@
 pub mod Leaving
 pub mod Plain
 pub mod Switching
-

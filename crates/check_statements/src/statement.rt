@@ -19,7 +19,9 @@ use crate::exchange::exchange_fault;
 use crate::returning::{condition_fault, expression_fault, return_fault, unless};
 use crate::switch::{clause_found, switch_fault};
 use crate::ways::reached_after;
-use check_declarations::{Chosen, Context, Kind, bind, declare, next_region, operand_fault, union_of};
+use check_declarations::{
+    Chosen, Context, Kind, bind, declare, next_region, operand_fault, union_of,
+};
 use check_expressions::judge;
 use check_faults::{Fault, sooner};
 use check_regions::RegionNames;

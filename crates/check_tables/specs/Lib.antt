@@ -1,4 +1,3 @@
 pub mod Globals
 pub mod Names
 pub mod Structs
-

@@ -23,7 +23,7 @@ impl Script {
     }
 }
 
-// the byte that a byte of a text says: 255 for `?`
+/// The byte that a byte of a text says: 255 for `?`.
 fn said(byte: u8) -> u8 {
     if byte == b'?' { 0xff } else { byte }
 }

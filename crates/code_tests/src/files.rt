@@ -4,7 +4,7 @@ use crate::texts::{parted, refuse};
 use command_line::is_same_file;
 use std::test::Fail;
 
-// whether the paths of a row lead to one file, or not, as it says
+/// Whether the paths of a row lead to one file, or not, as it says.
 fn is_so(rt: &HostRuntime, row: &str) -> bool {
     let (path, rest) = parted(row);
     let (other, answer) = parted(rest);

@@ -10,13 +10,13 @@ use cyc_tree::{
 use std::alloc::{AllocError, Global};
 use std::test::Fail;
 
-// The program that the text spells.
+/// The program that the text spells.
 fn program_of(alloc: Global, text: &str) -> Result<Program, Fail> {
     let tokens = tokens(alloc, text.as_bytes())?;
     Ok(parse(alloc, &tokens)?)
 }
 
-// The first statement of a program's first item.
+/// The first statement of a program's first item.
 fn first_statement(program: &Program) -> Option<&Statement> {
     let Some(Item::Function(main)) = program.items().first() else {
         return None;
@@ -27,7 +27,7 @@ fn first_statement(program: &Program) -> Option<&Statement> {
     }
 }
 
-// Whether the first `if` has no `else`, and the one in it has.
+/// Whether the first `if` has no `else`, and the one in it has.
 fn inner_has_else(program: &Program) -> bool {
     match first_statement(program) {
         Some(Statement::If(13, _, body)) => matches!(&**body, Statement::IfElse(20, _, _, _)),
@@ -35,7 +35,7 @@ fn inner_has_else(program: &Program) -> bool {
     }
 }
 
-// The primary and the suffixes of a program's first statement.
+/// The primary and the suffixes of a program's first statement.
 fn suffixed(program: &Program) -> Option<(&Expression, &[Suffix])> {
     match first_statement(program) {
         Some(Statement::Run(Expression::Suffixed(first, suffixes))) => {
@@ -62,7 +62,7 @@ fn is_variable(program: &Program) -> bool {
     )
 }
 
-// Whether there are two clauses, of which the second is `default`.
+/// Whether there are two clauses, of which the second is `default`.
 fn has_two_clauses(program: &Program) -> bool {
     let Some(Statement::Switch(13, _, clauses)) = first_statement(program) else {
         return false;
@@ -77,7 +77,7 @@ fn has_two_clauses(program: &Program) -> bool {
     }
 }
 
-// Whether a program's first global begins as -5u.
+/// Whether a program's first global begins as -5u.
 fn is_minus_five(program: &Program) -> bool {
     match program.items().first() {
         Some(Item::Global(global)) => {
@@ -90,7 +90,7 @@ fn is_minus_five(program: &Program) -> bool {
     }
 }
 
-// Whether a program's first statement, or its first global, is what a name says.
+/// Whether a program's first statement, or its first global, is what a name says.
 fn is_named(program: &Program, part: &str) -> bool {
     match part {
         "nearest if" => inner_has_else(program),
@@ -101,7 +101,7 @@ fn is_named(program: &Program, part: &str) -> bool {
     }
 }
 
-// The pointers of a program's first global.
+/// The pointers of a program's first global.
 fn pointers_of(alloc: Global, program: &Program) -> Result<String, AllocError> {
     match program.items().first() {
         Some(Item::Global(global)) => format!(in alloc; "{:?}", global.of.pointers.as_slice()),
@@ -109,7 +109,7 @@ fn pointers_of(alloc: Global, program: &Program) -> Result<String, AllocError> {
     }
 }
 
-// How many parameters, regions in its effect and bounds a function has, and where its end is.
+/// How many parameters, regions in its effect and bounds a function has, and where its end is.
 fn signature_of(alloc: Global, function: &Function) -> Result<String, AllocError> {
     let parameters = function.parameters.len();
     let effect = match &function.effect {
@@ -120,7 +120,7 @@ fn signature_of(alloc: Global, function: &Function) -> Result<String, AllocError
     format!(in alloc; "{parameters} {effect:?} {bounds} {end}")
 }
 
-// The places of a program's first item, of a local that begins it, with its name, and of the statement behind that.
+/// The places of a program's first item, of a local that begins it, with its name, and of the statement behind that.
 fn places_of(alloc: Global, item: &Item, body: &[BlockItem]) -> Result<String, AllocError> {
     let mut found = format!(in alloc; "{}", item.place())?;
     for part in body {
@@ -132,7 +132,7 @@ fn places_of(alloc: Global, item: &Item, body: &[BlockItem]) -> Result<String, A
     Ok(found)
 }
 
-// Writes the place of a local, and its name.
+/// Writes the place of a local, and its name.
 fn write_local(local: &Declaration, out: &mut String) -> Result<(), AllocError> {
     write!(out, " {} ", local.place())?;
     for byte in local.local().text.iter() {
@@ -141,7 +141,7 @@ fn write_local(local: &Declaration, out: &mut String) -> Result<(), AllocError> 
     Ok(())
 }
 
-// The same of a program's first function.
+/// The same of a program's first function.
 fn function_shown(alloc: Global, program: &Program, part: &str) -> Result<String, AllocError> {
     match program.items().first() {
         Some(item) => match item {
@@ -158,7 +158,7 @@ fn function_shown(alloc: Global, program: &Program, part: &str) -> Result<String
     }
 }
 
-// What a part of a program is shown as.
+/// What a part of a program is shown as.
 fn shown(alloc: Global, program: &Program, part: &str) -> Result<String, AllocError> {
     match part {
         "pointers" => pointers_of(alloc, program),
@@ -168,7 +168,7 @@ fn shown(alloc: Global, program: &Program, part: &str) -> Result<String, AllocEr
     }
 }
 
-// Refuses what is found where it isn't what is wanted.
+/// Refuses what is found where it isn't what is wanted.
 fn expect(found: String, wanted: &str) -> Result<(), Fail> {
     if found.as_str() == wanted {
         Ok(())
@@ -177,13 +177,13 @@ fn expect(found: String, wanted: &str) -> Result<(), Fail> {
     }
 }
 
-// What a part of a text's program is shown as.
+/// What a part of a text's program is shown as.
 fn text_shown(alloc: Global, text: &str, part: &str) -> Result<String, Fail> {
     let program = program_of(alloc, text)?;
     Ok(shown(alloc, &program, part)?)
 }
 
-// Refuses a table with a row that isn't so: a part, a text, and what the part of its program is shown as, with a `$` between them.
+/// Refuses a table with a row that isn't so: a part, a text, and what the part of its program is shown as, with a `$` between them.
 fn expect_rows(alloc: Global, table: &str) -> Result<(), Fail> {
     for row in table.lines() {
         let (part, rest) = row.split_once('$').unwrap_or((row, ""));
@@ -227,7 +227,7 @@ fn parts_and_faults_are_shown(rt: HostRuntime) -> Result<(), Fail> {
     expect_rows(rt.alloc(), PARTS)
 }
 
-// One token more than a text may have, each the same.
+/// One token more than a text may have, each the same.
 fn too_many_tokens(alloc: Global) -> Result<Vec<Token<'static>>, AllocError> {
     let mut many = Vec::new(alloc);
     for at in 0..1_048_577u32 {
@@ -240,7 +240,7 @@ fn too_many_tokens(alloc: Global) -> Result<Vec<Token<'static>>, AllocError> {
     Ok(many)
 }
 
-// A list of them is refused at its last one, though no program begins with its first.
+/// A list of them is refused at its last one, though no program begins with its first.
 #[test]
 fn more_tokens_than_a_text_has(rt: HostRuntime) -> Result<(), Fail> {
     let many = too_many_tokens(rt.alloc())?;

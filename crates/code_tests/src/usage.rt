@@ -7,17 +7,17 @@ use std::alloc::{AllocError, Global};
 use std::env::{Env, FillError};
 use std::test::Fail;
 
-// a row's words, and what stands behind them
+/// A row's words, and what stands behind them.
 fn words_and_rest(row: &str) -> (&str, &str) {
     row.split_once(" -> ").unwrap_or((row, ""))
 }
 
-// whether a command is shown so
+/// Whether a command is shown so.
 fn is_shown(alloc: Global, command: &Command<'_>, wanted: &str) -> Result<bool, AllocError> {
     Ok(format!(in alloc; "{command:?}")?.as_str() == wanted)
 }
 
-// whether the words of a row are its command
+/// Whether the words of a row are its command.
 fn is_read(alloc: Global, row: &str) -> Result<bool, Fail> {
     let (words, wanted) = words_and_rest(row);
     let words: Vec<&str> = words.split(' ').collect(alloc)?;
@@ -25,18 +25,18 @@ fn is_read(alloc: Global, row: &str) -> Result<bool, Fail> {
     Ok(is_shown(alloc, &command, wanted)?)
 }
 
-// why words are no command
+/// Why words are no command.
 fn refusal(alloc: Global, words: &str) -> Result<Error, Fail> {
     let words: Vec<&str> = words.split(' ').collect(alloc)?;
     Ok(command_of(alloc, words.as_slice()).err().ok_or("taken")?)
 }
 
-// whether what is shown of words has this
+/// Whether what is shown of words has this.
 fn has_text(alloc: Global, error: &Error, wanted: &str) -> Result<bool, AllocError> {
     Ok(format!(in alloc; "{error}")?.as_str().contains(wanted))
 }
 
-// whether the words of a row ask for help, which has what stands behind them
+/// Whether the words of a row ask for help, which has what stands behind them.
 fn is_help(alloc: Global, row: &str) -> Result<bool, Fail> {
     let (words, wanted) = words_and_rest(row);
     let error = refusal(alloc, words)?;
@@ -49,7 +49,7 @@ struct Given<'a> {
     line: &'a str,
 }
 
-// writes a word's bytes into as much room
+/// Writes a word's bytes into as much room.
 fn fill(room: &mut [u8], word: &str) {
     for (place, byte) in room.iter_mut().zip(word.bytes()) {
         *place = if byte == b'?' { 0xff } else { byte };
@@ -79,26 +79,26 @@ impl Env for Given<'_> {
     }
 }
 
-// whether words that a system gives are a command with this input, which is shown so, and before the mark that stands behind it
+/// Whether words that a system gives are a command with this input, which is shown so, and before the mark that stands behind it.
 fn has_input(alloc: Global, line: &str, input: &str, mark: &str) -> Result<bool, Fail> {
     let words = words_of(&(Given { line }, alloc))?;
     let command = command_of(alloc, words.as_slice())?;
     Ok(command.input().strip_suffix(mark) == Some(input) && shown(command.input()) == input)
 }
 
-// whether the words of a row, which are no text, are a command whose input is marked
+/// Whether the words of a row, which are no text, are a command whose input is marked.
 fn is_shown_marked(alloc: Global, row: &str) -> Result<bool, Fail> {
     let (words, input) = words_and_rest(row);
     has_input(alloc, words, input, "\0")
 }
 
-// whether the text of words that are no command has the sign of bytes that are no text, and not the mark of these
+/// Whether the text of words that are no command has the sign of bytes that are no text, and not the mark of these.
 fn is_marked(alloc: Global, error: &Error) -> Result<bool, AllocError> {
     let text = shown_error(alloc, error)?;
     Ok(text.as_str().contains('\u{FFFD}') && !text.as_str().contains('\0'))
 }
 
-// whether the words of a row, which are no text, are no command
+/// Whether the words of a row, which are no text, are no command.
 fn is_no_text(alloc: Global, row: &str) -> Result<bool, Fail> {
     let words = words_of(&(Given { line: row }, alloc))?;
     match command_of(alloc, words.as_slice()) {
@@ -107,7 +107,7 @@ fn is_no_text(alloc: Global, row: &str) -> Result<bool, Fail> {
     }
 }
 
-// whether it is so what a row says: words are a command, their help has a text, or they are no text and a command, or none
+/// Whether it is so what a row says: words are a command, their help has a text, or they are no text and a command, or none.
 fn is_so(alloc: Global, row: &str) -> Result<bool, Fail> {
     let (sort, row) = parted(row);
     match sort {

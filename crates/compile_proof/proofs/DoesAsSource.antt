@@ -14,7 +14,7 @@ use Rattle.core_lines.specs.Running.{named, core_meaning, IsNeverStuck}
 use Rattle.source_lowering.specs.Programs.{program_code}
 use Rattle.source_lowering.specs.Lowerable.{IsLowerable}
 use Rattle.source_lowering.specs.Simulation.{SameEvent, BothVisible, BothCalled, BothReturned, SameEvents, SameOutcome}
-use Rattle.source_lowering.proofs.Programs.{programs_same}
+use Rattle.source_lowering.proofs.Programs.{programs_are_the_same}
 use Rattle.compile_proof.specs.Promise.{meaning_of, name_in, names_of, DoesAsSource, AreNamedApart, frame_bound_of}
 use Rattle.selectable_proof.proofs.Selectable.{selectable}
 use Rattle.compile_proof.proofs.Frames.{frames_bounded}
@@ -76,7 +76,7 @@ module _ (p : Program) (lowerable : IsLowerable p) (input : List ℕ) (bytes : A
       ⊎_elim
       (λ (stuck : (source p input fuel).ending ≡ SourceEnding.Stuck). absurd (sound fuel stuck))
       (λ (same : SameOutcome w (source p input fuel) (core_source (program_code p) input fuel)). same)
-      (programs_same p lowerable input bytes fuel)
+      (programs_are_the_same p lowerable input bytes fuel)
 
   core_is_source : SameMeaning (core_meaning (names_of w.functions) (program_code p) input) (meaning_of p input)
   core_is_source = record {

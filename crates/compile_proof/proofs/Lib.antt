@@ -5,4 +5,3 @@ pub mod LowerableDo
 pub mod NamedApart
 pub mod DataWithin
 pub mod AcceptedDo
-

@@ -77,5 +77,5 @@ module _ (p : Program) (selectable : IsSelectable p) (w : World) (order : IsInOr
       good.body)) (fine_homes f) top))
 
 -- A machine that begins with a program's lines does what the program does.
-pub does_as_core : (p : Program) (wide : ℕ → Bool) → IsSelectable p → DoesAsCore p (program_code wide p)
-does_as_core p wide selectable = program_does_as_core p wide selectable (λ w order of. functions_do p selectable w order of)
+pub lines_do_as_core : (p : Program) (wide : ℕ → Bool) → IsSelectable p → DoesAsCore p (program_code wide p)
+lines_do_as_core p wide selectable = program_does_as_core p wide selectable (λ w order of. functions_do p selectable w order of)

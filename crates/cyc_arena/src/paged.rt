@@ -19,12 +19,12 @@ ghost use Rattle.unique_blocks.specs.Calls.{slot_least};
 use crate::store::BlockStore;
 use arena_laws::StoreRefusal;
 use dynamic_region::{Blocks, Key, KeyRefusal, Keys};
-use region_runtime::{Handle, Refusal, Pool};
 use raw_pages::PagesFault;
+use region_runtime::{Handle, Pool, Refusal};
 use std::alloc::Global;
 use unique_blocks::{UniqueBlocks, UniqueRefusal};
 
-// a region's refusal, as a store's
+/// A region's refusal, as a store's.
 fn of_region(why: Refusal) -> StoreRefusal
     ensures { result ≡ region_calls.refusal_of why }
 {
@@ -34,7 +34,7 @@ fn of_region(why: Refusal) -> StoreRefusal
     }
 }
 
-// a key's refusal, as a store's
+/// A key's refusal, as a store's.
 fn of_key(why: KeyRefusal) -> StoreRefusal
     ensures { result ≡ key_calls.refusal_of why }
 {
@@ -46,7 +46,7 @@ fn of_key(why: KeyRefusal) -> StoreRefusal
     }
 }
 
-// a unique block's refusal, as a store's
+/// A unique block's refusal, as a store's.
 fn of_block(why: UniqueRefusal) -> StoreRefusal
     ensures { result ≡ block_calls.refusal_of why }
 {

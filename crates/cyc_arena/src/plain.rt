@@ -81,7 +81,7 @@ impl PlainStore {
         })
     }
 
-    // a region or a key, whose number is its first page and one
+    /// A region or a key, whose number is its first page and one.
     fn make(&mut self, standing: Standing) -> Result<u32, StoreRefusal>
         ensures does { Does result (holdings_of self.new) (made standing (answer_of result) (holdings_of self.old)) }
         ensures full { is_refused_full result ≡ is_full (holdings_of self.old).counts }
@@ -102,7 +102,7 @@ impl PlainStore {
         }
     }
 
-    // a live number, its blocks and its pages are given back
+    /// A live number, its blocks and its pages are given back.
     fn release(&mut self, number: u32)
         requires { is_some (standing_at self.old.standing number) ≡ true }
         ensures holds { holdings_of self.new ≡ without_number number (holdings_of self.old) }
@@ -113,7 +113,7 @@ impl PlainStore {
         self.standing[number as usize] = None;
     }
 
-    // makes the first page never used the heap's or a number's, with a block of so many bytes
+    /// Makes the first page never used the heap's or a number's, with a block of so many bytes.
     fn extend(&mut self, number: u32, room: u32)
         requires takes { takes_blocks number (standing_at self.old.standing number) ≡ true }
         requires page { self.old.ever_used < length self.old.owner }
@@ -129,7 +129,7 @@ impl PlainStore {
         self.ever_used += 1;
     }
 
-    // makes a run of pages never used the heap's or a number's, with a block of so many bytes
+    /// Makes a run of pages never used the heap's or a number's, with a block of so many bytes.
     fn run(&mut self, number: u32, room: u32)
         requires takes { takes_blocks number (standing_at self.old.standing number) ≡ true }
         requires eights { room % 8 ≡ 0 }
@@ -146,7 +146,7 @@ impl PlainStore {
         self.extend(number, left);
     }
 
-    // whose an address is
+    /// Whose an address is.
     fn owner_of(&self, at: u32) -> Option<Owner>
         ensures { result ≡ (holdings_of self.now).owner at }
     {

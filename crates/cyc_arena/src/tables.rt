@@ -9,7 +9,7 @@ use arena_laws::{PAGE, Standing};
 /// The most pages of a store.
 pub(crate) const PAGE_LIMIT: u32 = 4096;
 
-// the first place with this word
+/// The first place with this word.
 pub(crate) fn find(words: &[u32], word: u32) -> Option<usize>
     ensures found { Finds word words.now result }
     ensures lowest { IsLowest word words.now result }
@@ -24,7 +24,7 @@ pub(crate) fn find(words: &[u32], word: u32) -> Option<usize>
     None
 }
 
-// how many pages were ever used, where this one is
+/// How many pages were ever used, where this one is.
 pub(crate) fn used_with(page: usize, ever_used: usize) -> usize
     requires { ever_used < 4097 }
     ensures { result ≡ used_up page ever_used }
@@ -36,7 +36,7 @@ pub(crate) fn used_with(page: usize, ever_used: usize) -> usize
     }
 }
 
-// writes 0 wherever this word stands
+/// Writes 0 wherever this word stands.
 pub(crate) fn clear(words: &mut Vec<u32>, word: u32)
     ensures { IsCleared word words.old.items words.new.items }
 {
@@ -49,7 +49,7 @@ pub(crate) fn clear(words: &mut Vec<u32>, word: u32)
     }
 }
 
-// writes this word at so many places
+/// Writes this word at so many places.
 pub(crate) fn fill(words: &mut Vec<u32>, from: usize, count: usize, word: u32)
     requires { from + count ≤ length words.old.items }
     ensures { words.new.items ≡ filled count from word words.old.items }
@@ -61,7 +61,7 @@ pub(crate) fn fill(words: &mut Vec<u32>, from: usize, count: usize, word: u32)
     }
 }
 
-// what a number stands for
+/// What a number stands for.
 pub(crate) fn standing_of(standing: &Vec<Option<Standing>>, number: u32) -> Option<Standing>
     ensures { result ≡ standing_at standing.now.items number }
 {
@@ -73,7 +73,7 @@ pub(crate) fn standing_of(standing: &Vec<Option<Standing>>, number: u32) -> Opti
     }
 }
 
-// whether blocks are taken under a number that stands for this
+/// Whether blocks are taken under a number that stands for this.
 pub(crate) fn takes(handle: u32, standing: Option<Standing>) -> bool
     ensures { result ≡ takes_blocks handle standing }
 {
@@ -85,7 +85,7 @@ pub(crate) fn takes(handle: u32, standing: Option<Standing>) -> bool
     }
 }
 
-// what is left of a last page, which is named by its number and one
+/// What is left of a last page, which is named by its number and one.
 pub(crate) fn left_in(used: &Vec<u32>, last: u32) -> u32
     requires within { slice_index used.now.items (last - 1) ≤ 4096 }
     requires place { last ≤ length used.now.items }

@@ -9,8 +9,8 @@ ghost use Rattle.cyc_host.specs.Hosted.{IsHosted, Written};
 
 use crate::ending::Ending;
 use crate::transfer::{Gathered, read};
-use cyc_words::{Input, Output};
 use cyc_arena::BlockStore;
+use cyc_words::{Input, Output};
 use rv32_machine::{Event, Machine};
 
 /// Writes what is gathered, at an ending. A failed write takes the ending's place.

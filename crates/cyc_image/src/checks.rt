@@ -11,7 +11,7 @@ use crate::layout::{
 };
 use crate::version::{header_length_of, stack_pages_of};
 
-// no whole header, or fewer bytes than it speaks of
+/// No whole header, or fewer bytes than it speaks of.
 fn is_short(bytes: &[u8]) -> bool
     ensures { IsTrue result ↔ IsShort bytes.now }
 {
@@ -23,7 +23,7 @@ fn is_short(bytes: &[u8]) -> bool
     bytes.len() < header_length_of(bytes) + code_length + data_length
 }
 
-// the first bytes of an image
+/// The first bytes of an image.
 fn has_magic(bytes: &[u8]) -> bool
     requires { first_header_length ≤ length bytes.now }
     ensures { IsTrue result ↔ (take 4 bytes.now ≡ magic) }
@@ -31,7 +31,7 @@ fn has_magic(bytes: &[u8]) -> bool
     &bytes[..4] == MAGIC
 }
 
-// another version
+/// Another version.
 fn has_other_version(bytes: &[u8]) -> bool
     requires { first_header_length ≤ length bytes.now }
     ensures { IsTrue result ↔ HasOtherVersion bytes.now }
@@ -40,7 +40,7 @@ fn has_other_version(bytes: &[u8]) -> bool
     version != FIRST_VERSION && version != VERSION
 }
 
-// a length or a number of pages that no image has
+/// A length or a number of pages that no image has.
 fn is_past_limit(bytes: &[u8]) -> bool
     requires some { first_header_length ≤ length bytes.now }
     requires whole { header_of bytes.now ≤ length bytes.now }
@@ -60,7 +60,7 @@ fn is_past_limit(bytes: &[u8]) -> bool
         || STACK_PAGE_LIMIT < stack_pages
 }
 
-// an entry that is no word of the code
+/// An entry that is no word of the code.
 fn has_bad_entry(bytes: &[u8]) -> bool
     requires { first_header_length ≤ length bytes.now }
     ensures { IsTrue result ↔ HasBadEntry bytes.now }
@@ -69,7 +69,7 @@ fn has_bad_entry(bytes: &[u8]) -> bool
     entry % 4 != 0 || field_at(bytes, CODE_LENGTH_AT) <= entry
 }
 
-// bytes after the data
+/// Bytes after the data.
 fn has_trailing(bytes: &[u8]) -> bool
     requires { first_header_length ≤ length bytes.now }
     ensures { IsTrue result ↔ HasTrailing bytes.now }

@@ -38,7 +38,7 @@ impl fmt::Display for ImageFault {
     }
 }
 
-// The name of a fault.
+/// The name of a fault.
 fn name_of(fault: ImageFault) -> &'static str
     ensures { result.now ≡ image_fault_name fault }
 {

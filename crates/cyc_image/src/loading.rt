@@ -38,7 +38,7 @@ pub fn load(alloc: Global, bytes: &[u8]) -> Result<Image, ImageFault>
     }
 }
 
-// the parts of the bytes, copied
+/// The parts of the bytes, copied.
 fn image_of(alloc: Global, bytes: &[u8]) -> Result<Image, AllocError>
     requires { IsAccepted bytes.now }
     ensures { IfOk result (λ image. image ≡ parts_of bytes.now) }

@@ -8,7 +8,7 @@ use crate::layout::{
     STACK_PAGES_AT, VERSION, VERSION_AT, field_at,
 };
 
-// version 2
+/// Version 2.
 fn is_second(bytes: &[u8]) -> bool
     requires { first_header_length ≤ length bytes.now }
     ensures { result ≡ nat_eq (version_field bytes.now) 2 }

@@ -40,7 +40,7 @@ fn is_word_byte(byte: u8) -> bool
     is_letter(byte) || is_digit(byte)
 }
 
-// What a digit stands for.
+/// What a digit stands for.
 pub(crate) fn digit_value(byte: u8) -> u8
     ensures { result ≡ digit_value byte }
 {
@@ -53,7 +53,7 @@ pub(crate) fn digit_value(byte: u8) -> u8
     }
 }
 
-// How many bytes at the front may stand in a name.
+/// How many bytes at the front may stand in a name.
 pub(crate) fn word_run(bytes: &[u8]) -> usize
     ensures run { result ≡ run is_word_byte bytes.now }
     ensures within { result ≤ length bytes.now }

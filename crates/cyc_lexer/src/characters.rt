@@ -7,7 +7,7 @@ ghost use Rattle.cyc_lexer.specs.Reading.{text_from};
 
 use crate::bytes::{digit_value, is_hexadecimal_digit};
 
-// What stands after a backslash, other than `x`.
+/// What stands after a backslash, other than `x`.
 fn plain_escape(letter: u8) -> Option<(u8, usize)>
     ensures { result ≡ find_escape escapes letter }
 {
@@ -28,7 +28,7 @@ fn plain_escape(letter: u8) -> Option<(u8, usize)>
     Some((byte, 2))
 }
 
-// Whether the byte stands for itself between such quotes.
+/// Whether the byte stands for itself between such quotes.
 fn is_plain(quote: u8, byte: u8) -> bool
     ensures { result ≡ (is_between 32 126 byte && not (nat_eq byte 92) && not (nat_eq byte quote)) }
 {
@@ -41,7 +41,7 @@ fn are_hexadecimal(high: u8, low: u8) -> bool
     is_hexadecimal_digit(high) && is_hexadecimal_digit(low)
 }
 
-// The character at the front, between such quotes: the byte that it means, and its length.
+/// The character at the front, between such quotes: the byte that it means, and its length.
 pub(crate) fn character_at(quote: u8, bytes: &[u8]) -> Option<(u8, usize)>
     ensures { result ≡ character_at quote bytes.now }
 {
@@ -55,7 +55,7 @@ pub(crate) fn character_at(quote: u8, bytes: &[u8]) -> Option<(u8, usize)>
     }
 }
 
-// The length of a string after its opening quote, with the closing one.
+/// The length of a string after its opening quote, with the closing one.
 pub(crate) fn text_length(bytes: &[u8]) -> Option<usize>
     ensures length { result ≡ text_from 0 bytes.now }
     ensures within { IfSome result (λ n. n ≤ length bytes.now) }

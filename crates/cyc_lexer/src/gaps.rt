@@ -5,7 +5,7 @@ ghost use Rattle.cyc_lexer.specs.Reading.{run, is_no_line_end, comment_end, gap_
 
 use crate::bytes::is_space;
 
-// How many bytes stand before the end of the line.
+/// How many bytes stand before the end of the line.
 fn line_run(bytes: &[u8]) -> usize
     ensures run { result ≡ run is_no_line_end bytes.now }
     ensures within { result ≤ length bytes.now }
@@ -18,7 +18,7 @@ fn line_run(bytes: &[u8]) -> usize
     bytes.len()
 }
 
-// The length up to and with the next `*/`.
+/// The length up to and with the next `*/`.
 fn comment_end(bytes: &[u8]) -> Option<usize>
     ensures length { result ≡ comment_end bytes.now }
     ensures within { IfSome result (λ n. n ≤ length bytes.now) }
@@ -31,7 +31,7 @@ fn comment_end(bytes: &[u8]) -> Option<usize>
     None
 }
 
-// The length of the space or the comment at the front.
+/// The length of the space or the comment at the front.
 pub(crate) fn gap_length(bytes: &[u8]) -> Option<usize>
     ensures { result ≡ gap_at bytes.now }
 {

@@ -18,7 +18,7 @@ fn is_digit_to(base: u64, byte: u8) -> bool
     }
 }
 
-// What digits to a base stand for, if each is one and the number fits.
+/// What digits to a base stand for, if each is one and the number fits.
 fn digits_value(base: u64, digits: &[u8]) -> Option<u32>
     requires { base ≤ 16 }
     ensures { result ≡ digits_value base 0 digits.now }
@@ -48,7 +48,7 @@ fn digits_of(digits: &[u8]) -> Option<u32>
     }
 }
 
-// The number that a word spells.
+/// The number that a word spells.
 pub(crate) fn number_of(word: &[u8]) -> Option<TokenKind>
     ensures { result ≡ number_of word.now }
 {

@@ -10,7 +10,7 @@ use crate::signs::sign_at;
 use crate::token::TokenKind;
 use crate::words::keyword_of;
 
-// The keyword or the identifier at the front.
+/// The keyword or the identifier at the front.
 fn word_at(bytes: &[u8]) -> Option<(TokenKind, usize)>
     ensures { result ≡ word_at bytes.now }
 {
@@ -28,7 +28,7 @@ fn number_at(bytes: &[u8]) -> Option<(TokenKind, usize)>
     Some((number_of(&bytes[..length])?, length))
 }
 
-// What stands after a backquote.
+/// What stands after a backquote.
 fn region_at(bytes: &[u8]) -> Option<(TokenKind, usize)>
     ensures { result ≡ region_at bytes.now }
 {
@@ -38,7 +38,7 @@ fn region_at(bytes: &[u8]) -> Option<(TokenKind, usize)>
     }
 }
 
-// What stands after a quote.
+/// What stands after a quote.
 fn quoted_at(bytes: &[u8]) -> Option<(TokenKind, usize)>
     ensures { result ≡ quoted_at bytes.now }
 {
@@ -50,14 +50,14 @@ fn quoted_at(bytes: &[u8]) -> Option<(TokenKind, usize)>
     }
 }
 
-// What stands after a double quote.
+/// What stands after a double quote.
 fn text_at(bytes: &[u8]) -> Option<(TokenKind, usize)>
     ensures { result ≡ text_token (text_from 0 bytes.now) }
 {
     Some((TokenKind::Text, text_length(bytes)? + 1))
 }
 
-// The token at the front: its kind and its length.
+/// The token at the front: its kind and its length.
 pub(crate) fn next_token(bytes: &[u8]) -> Option<(TokenKind, usize)>
     ensures { result ≡ token_at bytes.now }
 {

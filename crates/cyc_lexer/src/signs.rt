@@ -54,7 +54,7 @@ fn begins_with(front: &[u8], bytes: &[u8]) -> bool
     bytes.starts_with(front)
 }
 
-// The first of the signs that stands at the front, and its length.
+/// The first of the signs that stands at the front, and its length.
 fn find_sign(signs: &[(Sign, &[u8])], bytes: &[u8]) -> Option<(TokenKind, usize)>
     ensures { result ≡ find_sign (map (λ e. (e.0, e.1.now)) signs.now) bytes.now }
 {
@@ -66,14 +66,14 @@ fn find_sign(signs: &[(Sign, &[u8])], bytes: &[u8]) -> Option<(TokenKind, usize)
     None
 }
 
-// Whether `//` or `/*` stands at the front.
+/// Whether `//` or `/*` stands at the front.
 fn begins_comment(bytes: &[u8]) -> bool
     ensures { result ≡ begins_comment bytes.now }
 {
     matches!(bytes, [b'/', b'/' | b'*', ..])
 }
 
-// The longest sign at the front, where no comment begins.
+/// The longest sign at the front, where no comment begins.
 pub(crate) fn sign_at(bytes: &[u8]) -> Option<(TokenKind, usize)>
     ensures { result ≡ sign_at bytes.now }
 {

@@ -41,14 +41,14 @@ pub(crate) static KEYWORDS: [(Keyword, &[u8]); 32] = [
     (Keyword::For, b"for"),
 ];
 
-// Whether the bytes are these.
+/// Whether the bytes are these.
 fn are(bytes: &[u8], spelled: &[u8]) -> bool
     ensures { result ≡ same bytes.now spelled.now }
 {
     bytes == spelled
 }
 
-// The first of the keywords of this spelling.
+/// The first of the keywords of this spelling.
 fn find_keyword(keywords: &[(Keyword, &[u8])], word: &[u8]) -> Option<Keyword>
     ensures { result ≡ find_keyword (map (λ e. (e.0, e.1.now)) keywords.now) word.now }
 {
@@ -60,7 +60,7 @@ fn find_keyword(keywords: &[(Keyword, &[u8])], word: &[u8]) -> Option<Keyword>
     None
 }
 
-// The keyword of this spelling.
+/// The keyword of this spelling.
 pub(crate) fn keyword_of(word: &[u8]) -> Option<Keyword>
     ensures { result ≡ find_keyword keywords word.now }
 {

@@ -78,7 +78,7 @@ impl<T> Counted<T> {
         self.inner
     }
 
-    // one more failed call
+    /// One more failed call.
     fn count_failure(&mut self)
         ensures inner { inner_of self.new ≡ inner_of self.old }
         ensures count { count_of self.new ≡ one_more (count_of self.old) }

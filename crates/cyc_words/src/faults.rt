@@ -23,7 +23,7 @@ impl fmt::Display for Kind {
     }
 }
 
-// The name of what is raised.
+/// The name of what is raised.
 fn name_of_kind(kind: Kind) -> &'static str
     ensures { result.now ≡ kind_name kind }
 {
@@ -57,7 +57,7 @@ impl fmt::Display for MachineFault {
     }
 }
 
-// The name of a fault.
+/// The name of a fault.
 fn name_of_fault(fault: MachineFault) -> &'static str
     ensures { result.now ≡ machine_fault_name fault }
 {

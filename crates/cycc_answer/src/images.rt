@@ -8,12 +8,12 @@ ghost use Rattle.cycc_answer.specs.Devices.{AreCounted};
 use crate::lines::{Told, ended, printed, unloaded};
 use byteorder::{ByteOrder, LittleEndian};
 use cyc_arena::PagedStore;
-use raw_pages::PagesFault;
 use cyc_host::{GATHERED_BYTES, run};
 use cyc_image::{BLOCK_LIMIT, Image, ImageFault, load};
 use cyc_words::{Input, Output};
-use rv32_machine::{Machine, CODE_BASE};
+use raw_pages::PagesFault;
 use rv32_isa::decode;
+use rv32_machine::{CODE_BASE, Machine};
 use std::alloc::{AllocError, Global};
 use std::io::Write;
 

@@ -6,10 +6,10 @@ ghost use Rattle.cycc_answer.specs.Statuses.{status_of, evaluated_status, refuse
 use command_line::status::{
     ENDED, EXHAUSTED, FILE_FAULT, MACHINE_FAULT, MEMORY, RAISED, REFUSED, STEP_LIMIT, SUCCESS,
 };
-use cycc_driver::CompileFault;
-use cyc_host::Ending;
 use core_eval::EvalEnding;
+use cyc_host::Ending;
 use cyc_image::ImageFault;
+use cycc_driver::CompileFault;
 use std::alloc::{AllocError, Global};
 use std::io::Write;
 

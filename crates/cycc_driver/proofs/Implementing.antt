@@ -16,7 +16,7 @@ use Rattle.cyc_image.specs.Format.{Contents, Fits, IsImage, First, Second, code_
 use Rattle.cyc_tree.specs.Tree.{Program}
 use Rattle.rv32_machine.specs.State.{stack_base}
 use Rattle.rv32_machine.specs.Arrays.{Arrays, IsStart, areas_of, state_of, first_register, stack_length, longest_stack}
-use Rattle.accepted_proof.proofs.Joined.{never_stuck}
+use Rattle.accepted_proof.proofs.Joined.{accepted_are_never_stuck}
 use Rattle.source_meaning.specs.Programs.{unions_of}
 use Rattle.source_lowering.specs.Programs.{program_code}
 use Rattle.source_lowering.specs.Lowerable.{HaveFewMembers}

@@ -17,19 +17,19 @@ ghost use Rattle.cycc_driver.specs.Refused.{HasNoCodeFor};
 ghost use Rattle.cycc_driver.specs.Outcome.{IsCode, IsImplementedBy, IsTextImage};
 
 use crate::fault::{CompileFault, Place, of_checking, of_flow, of_lexing, of_parsing};
+use accepted_programs::Checked;
 use cyc_core::Program as Core;
 use cyc_image::{Parts, write};
 use cyc_lexer::tokens;
-use lower_checks::lower;
 use cyc_parser::parse;
 use cyc_tree::Program;
+use effect_check::{CheckFault, effects};
+use lower_checks::lower;
+use region_types::typed;
 use rv32_layout::{LayoutFault, data, place};
 use rv32_select::select;
 use std::alloc::Global;
-use effect_check::{CheckFault, effects};
-use accepted_programs::Checked;
 use unique_flow::{first_broken, flow};
-use region_types::typed;
 
 /// The program that a text spells.
 fn parsed(alloc: Global, text: &[u8]) -> Result<Program, CompileFault>

@@ -8,10 +8,10 @@ ghost use Rattle.cycc_driver.specs.Outcome.{IsTextRun};
 use crate::compiling::compile;
 use crate::fault::CompileFault;
 use cyc_arena::PagedStore;
-use raw_pages::PagesFault;
 use cyc_host::{Ending, run};
 use cyc_image::{ImageFault, load};
 use cyc_words::{Input, Output};
+use raw_pages::PagesFault;
 use rv32_machine::Machine;
 use std::alloc::Global;
 

@@ -9,10 +9,10 @@ ghost use Rattle.cycc_driver.specs.Refused.{IsOfLexing, IsOfParsing, IsOfCheckin
 use check_faults::FaultKind;
 use cyc_lexer::{LexFault, place_of};
 use cyc_parser::ParseFault;
+use effect_check::CheckFault;
 use std::alloc::AllocError;
 use std::error::Error;
 use std::fmt;
-use effect_check::CheckFault;
 use unique_flow::FlowFault;
 
 /// A place in a text: the line and the column, from 1 on, of a byte.

@@ -28,7 +28,7 @@ const CLOSED: u32 = 1;
 /// The tag of a dynamic region whose key is open.
 const OPENED: u32 = 2;
 
-// whether a number that stands for this is a closed key's
+/// Whether a number that stands for this is a closed key's.
 fn is_closed(standing: Option<Standing>) -> bool
     ensures { result ≡ is_closed_key standing }
 {
@@ -62,7 +62,7 @@ impl<R: Regions> Keys<R> {
         }
     }
 
-    // what a number stands for
+    /// What a number stands for.
     fn standing(&mut self, number: u32) -> Option<Standing>
         ensures value { result ≡ standing_of (R.tag_of self.old.regions number) }
         ensures tags { R.tag_of self.new.regions ≡ R.tag_of self.old.regions }
@@ -83,7 +83,7 @@ impl<R: Regions> Keys<R> {
         }
     }
 
-    // a live region is marked by a tag
+    /// A live region is marked by a tag.
     fn mark(&mut self, number: u32, tag: u32)
         requires live { is_some (R.tag_of self.old.regions number) ≡ true }
         requires few { self.old.touched ≤ 2 }
@@ -97,7 +97,7 @@ impl<R: Regions> Keys<R> {
         self.touched += u64::from(self.regions.touched());
     }
 
-    // a live region is freed
+    /// A live region is freed.
     fn release(&mut self, number: u32)
         requires live { is_some (R.tag_of self.old.regions number) ≡ true }
         requires touches { self.old.touched ≤ 2 }

@@ -7,9 +7,9 @@ ghost use Rattle.source_typing.specs.Answers.{effect_fault};
 
 use crate::fault::CheckFault;
 use check_faults::Fault;
+use check_programs::program_fault;
 use cyc_tree::Program;
 use region_types::Typed;
-use check_programs::program_fault;
 use std::alloc::{AllocError, Global};
 use std::marker::Model;
 

@@ -11,8 +11,8 @@ ghost use Rattle.check_scopes.specs.Matching.{AreLocals};
 ghost use Rattle.flow_effects.specs.Passed.{passage_of};
 
 use crate::expression::uses;
-use check_expressions::Around;
 use check_calls::Enclosing;
+use check_expressions::Around;
 use check_scopes::Scope;
 use cyc_tree::{Expression, Name};
 use cyc_types::RegionId;

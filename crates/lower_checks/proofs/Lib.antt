@@ -34,4 +34,3 @@ mod Wholes
 mod Within
 mod Near
 mod Writing
-

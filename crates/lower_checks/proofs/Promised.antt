@@ -10,7 +10,7 @@ use Rattle.source_lowering.specs.Programs.{function_code, program_code}
 use Rattle.source_lowering.specs.Lowerable.{HaveFewMembers}
 use Rattle.source_lowering.specs.Bounds.{FramesFit, frame_bound}
 use Rattle.core_meaning.specs.Bounds.{core_bound}
-use Rattle.source_lowering.proofs.Programs.{programs_same}
+use Rattle.source_lowering.proofs.Programs.{programs_are_the_same}
 use Rattle.source_lowering.proofs.bounds.Bounded.{code_bounded, program_frames_bounded}
 use Rattle.token_proof.proofs.ProgramSizes.{tokens_pay}
 use Rattle.selectable_proof.proofs.Selectable.{selectable}
@@ -32,7 +32,7 @@ promised : (p : Program) → IsAccepted p → HaveFewMembers (unions_of p) → I
 promised p accepted few =
     let takes = lowerable p accepted few in
     record {
-      does = λ input bytes never n. ⊎_elim (λ stuck. absurd (never n stuck)) (λ same. same) (programs_same p takes input bytes n);
+      does = λ input bytes never n. ⊎_elim (λ stuck. absurd (never n stuck)) (λ same. same) (programs_are_the_same p takes input bytes n);
       frames = λ number f g is_source is_core.
           frame_fits (world_of p) (world_of p).functions number f g (program_frames_bounded p takes) is_source is_core;
       code = λ tokens spelled.

@@ -112,7 +112,7 @@ impl<'p> Body<'p> {
         self.alone(Statement::Raise(kind))
     }
 
-    // a choice, as the tree of its parts
+    /// A choice, as the tree of its parts.
     fn choice(&mut self, condition: Temporary, these: Vec<Statement>, those: Vec<Statement>)
         ensures { Emits self.old self.new
             (core.If condition.0 (statements_of (map statement_tree these.items)) (statements_of (map statement_tree those.items)) ∷ []) }
@@ -128,7 +128,7 @@ impl<'p> Body<'p> {
         self.choice(condition, these, those);
     }
 
-    // a loop, as the tree of its parts
+    /// A loop, as the tree of its parts.
     fn turning(&mut self, test: Vec<Statement>, condition: Temporary, turn: Vec<Statement>)
         ensures { Emits self.old self.new
             (core.While (statements_of (map statement_tree test.items)) condition.0 (statements_of (map statement_tree turn.items)) ∷ []) }
@@ -144,7 +144,7 @@ impl<'p> Body<'p> {
         self.turning(test, condition, turn);
     }
 
-    // a block, as the tree of its parts
+    /// A block, as the tree of its parts.
     fn within(&mut self, locals: Vec<Local>, inside: Vec<Statement>)
         ensures { Emits self.old self.new (core.Block (map local_tree locals.items) (statements_of (map statement_tree inside.items)) ∷ []) }
     {
@@ -158,7 +158,7 @@ impl<'p> Body<'p> {
         self.within(locals, inside);
     }
 
-    // what a break leaves, as the tree of its parts
+    /// What a break leaves, as the tree of its parts.
     fn leaving(&mut self, inside: Vec<Statement>)
         ensures { Emits self.old self.new (core.Leave (statements_of (map statement_tree inside.items)) ∷ []) }
     {

@@ -56,7 +56,7 @@ pub(crate) struct Book {
 }
 
 impl Book {
-    // reads a header word, and counts it
+    /// Reads a header word, and counts it.
     fn read(&mut self, page: u32, field: u32) -> u32
         requires page { page < count self.old.raw }
         requires field { field < 16 }
@@ -70,7 +70,7 @@ impl Book {
         self.raw.word(page, field)
     }
 
-    // writes a header word, and counts it
+    /// Writes a header word, and counts it.
     fn write(&mut self, page: u32, field: u32, value: u32)
         requires page { page < count self.old.raw }
         requires field { field < 16 }
@@ -84,7 +84,7 @@ impl Book {
         self.raw.set_word(page, field, value);
     }
 
-    // no header word is touched yet
+    /// No header word is touched yet.
     pub(crate) fn begin(&mut self)
         ensures raw { self.new.raw ≡ self.old.raw }
         ensures shape { seen self.new ≡ seen self.old }
@@ -93,7 +93,7 @@ impl Book {
         self.touched = 0;
     }
 
-    // whether a number is a live region's
+    /// Whether a number is a live region's.
     pub(crate) fn knows(&mut self, number: u32) -> bool
         requires few { self.old.touched < 60 }
         ensures value { result ≡ is_live_number (owner_of (seen self.old).word) number }
@@ -112,7 +112,7 @@ impl Book {
         self.read(number - 1, OWNER) == number
     }
 
-    // whether blocks are taken under a number: the heap's, or a live region's
+    /// Whether blocks are taken under a number: the heap's, or a live region's.
     pub(crate) fn serves(&mut self, number: u32) -> bool
         requires few { self.old.touched < 60 }
         ensures value { result ≡ takes_blocks number (standing_by (owner_of (seen self.old).word) number) }
@@ -127,7 +127,7 @@ impl Book {
         self.knows(number)
     }
 
-    // whether no page is free
+    /// Whether no page is free.
     pub(crate) fn is_full(&self) -> bool
         requires { self.now.ever_used ≤ count self.now.raw }
         ensures { result ≡ is_full (counts_of (seen self.now)) }
@@ -135,7 +135,7 @@ impl Book {
         self.freed == 0 && self.ever_used == self.raw.pages()
     }
 
-    // takes the next free page out of the free ones
+    /// Takes the next free page out of the free ones.
     #[tactic(auto, unfolding(crate::specs::Steps::without_page))]
     pub(crate) fn take(&mut self) -> u32
         requires page { next_page (seen self.old) < count self.old.raw }
@@ -159,7 +159,7 @@ impl Book {
         }
     }
 
-    // makes a page the first of a region with its number
+    /// Makes a page the first of a region with its number.
     pub(crate) fn start(&mut self, page: u32)
         requires page { page < count self.old.raw }
         requires small { page < 4096 }
@@ -177,7 +177,7 @@ impl Book {
         self.write(page, CURRENT, page);
     }
 
-    // the last page, and one, of the heap or a live region
+    /// The last page, and one, of the heap or a live region.
     pub(crate) fn last(&mut self, number: u32) -> u32
         requires live { 0 < number → is_live_number (owner_of (seen self.old).word) number ≡ true }
         requires first { 0 < number → number - 1 < count self.old.raw }
@@ -196,7 +196,7 @@ impl Book {
         }
     }
 
-    // what is left of a last page, which is named by its number and one
+    /// What is left of a last page, which is named by its number and one.
     pub(crate) fn left(&mut self, last: u32) -> u32
         requires page { last ≤ count self.old.raw }
         requires within { used_of (seen self.old).word (last - 1) ≤ 4096 }
@@ -213,7 +213,7 @@ impl Book {
         }
     }
 
-    // cuts a block of so many bytes from a last page: its address
+    /// Cuts a block of so many bytes from a last page: its address.
     pub(crate) fn cut(&mut self, page: u32, room: u32) -> u32
         requires page { page < count self.old.raw }
         requires small { count self.old.raw ≤ 4096 }
@@ -230,7 +230,7 @@ impl Book {
         BASE + PAGE * page + used
     }
 
-    // makes a page one of the heap's, with a block of so many bytes
+    /// Makes a page one of the heap's, with a block of so many bytes.
     fn join_heap(&mut self, page: u32, room: u32)
         requires page { page < count self.old.raw }
         requires few { self.old.touched < 8000 }
@@ -243,7 +243,7 @@ impl Book {
         self.write(page, OWNER, HEAP);
     }
 
-    // makes a page one of a live region's, with a block of so many bytes
+    /// Makes a page one of a live region's, with a block of so many bytes.
     fn join_region(&mut self, number: u32, page: u32, room: u32)
         requires page { page < count self.old.raw }
         requires some { 0 < number }
@@ -265,7 +265,7 @@ impl Book {
         self.write(number - 1, COUNT, pages + 1);
     }
 
-    // makes a page one of the heap's or a live region's, with a block of so many bytes
+    /// Makes a page one of the heap's or a live region's, with a block of so many bytes.
     fn join(&mut self, number: u32, page: u32, room: u32)
         requires page { page < count self.old.raw }
         requires first { 0 < number → number - 1 < count self.old.raw }
@@ -284,7 +284,7 @@ impl Book {
         }
     }
 
-    // how many pages were never used
+    /// How many pages were never used.
     pub(crate) fn unused(&self) -> u32
         requires { self.now.ever_used ≤ count self.now.raw }
         ensures { result ≡ (counts_of (seen self.now)).fresh }
@@ -292,7 +292,7 @@ impl Book {
         self.raw.pages() - self.ever_used
     }
 
-    // takes the first page that was never used, and makes it one of the heap's or a live region's
+    /// Takes the first page that was never used, and makes it one of the heap's or a live region's.
     fn extend(&mut self, number: u32, room: u32)
         requires page { self.old.ever_used < count self.old.raw }
         requires small { count self.old.raw ≤ 4096 }
@@ -310,7 +310,7 @@ impl Book {
         self.join(number, page, room);
     }
 
-    // makes a run of pages never used the heap's or a live region's, with a block of so many bytes
+    /// Makes a run of pages never used the heap's or a live region's, with a block of so many bytes.
     pub(crate) fn run(&mut self, number: u32, room: u32)
         requires ordered { IsOrdered (seen self.old) no_page }
         requires live { 0 < number → is_live_number (owner_of (seen self.old).word) number ≡ true }
@@ -332,7 +332,7 @@ impl Book {
         self.extend(number, left);
     }
 
-    // makes a page the last of the heap, with a block of so many bytes
+    /// Makes a page the last of the heap, with a block of so many bytes.
     fn grow_heap(&mut self, page: u32, room: u32)
         requires page { page < count self.old.raw }
         requires small { count self.old.raw ≤ 4096 }
@@ -346,7 +346,7 @@ impl Book {
         self.heap_last = page + 1;
     }
 
-    // makes a page the newest and the current one of a live region, with a block of so many bytes
+    /// Makes a page the newest and the current one of a live region, with a block of so many bytes.
     fn grow_region(&mut self, number: u32, page: u32, room: u32)
         requires page { page < count self.old.raw }
         requires some { 0 < number }
@@ -363,7 +363,7 @@ impl Book {
         self.write(number - 1, CURRENT, page);
     }
 
-    // makes a page the last of the heap or a live region, with a block of so many bytes
+    /// Makes a page the last of the heap or a live region, with a block of so many bytes.
     pub(crate) fn grow(&mut self, number: u32, page: u32, room: u32)
         requires page { page < count self.old.raw }
         requires first { 0 < number → number - 1 < count self.old.raw }
@@ -383,7 +383,7 @@ impl Book {
         }
     }
 
-    // puts a live region's chain before that of the freed pages, and its number is live no more
+    /// Puts a live region's chain before that of the freed pages, and its number is live no more.
     pub(crate) fn splice(&mut self, number: u32)
         requires some { 0 < number }
         requires first { number - 1 < count self.old.raw }
@@ -403,7 +403,7 @@ impl Book {
         self.freed = pages + self.freed;
     }
 
-    // makes a page its taker's
+    /// Makes a page its taker's.
     pub(crate) fn mark_taken(&mut self, page: u32)
         requires page { page < count self.old.raw }
         requires few { self.old.touched < 60 }
@@ -415,7 +415,7 @@ impl Book {
         self.write(page, OWNER, TAKEN);
     }
 
-    // a live region's tag
+    /// A live region's tag.
     pub(crate) fn tag(&mut self, number: u32) -> u32
         requires some { 0 < number }
         requires first { number - 1 < count self.old.raw }
@@ -428,7 +428,7 @@ impl Book {
         self.read(number - 1, TAG)
     }
 
-    // sets a live region's tag
+    /// Sets a live region's tag.
     pub(crate) fn set_tag(&mut self, number: u32, value: u32)
         requires some { 0 < number }
         requires first { number - 1 < count self.old.raw }
@@ -441,7 +441,7 @@ impl Book {
         self.write(number - 1, TAG, value);
     }
 
-    // whether a page was got by `take_page`
+    /// Whether a page was got by `take_page`.
     pub(crate) fn is_taken(&mut self, page: u32) -> bool
         requires few { self.old.touched < 60 }
         ensures value { result ≡ is_taken_by (seen self.old).word page }
@@ -457,7 +457,7 @@ impl Book {
         self.read(page, OWNER) == TAKEN
     }
 
-    // sets a word of a taken page
+    /// Sets a word of a taken page.
     pub(crate) fn set_own_word(&mut self, page: u32, field: u32, value: u32)
         requires page { page < count self.old.raw }
         requires field { field < 16 }

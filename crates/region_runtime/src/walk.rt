@@ -9,7 +9,7 @@ ghost use Rattle.raw_pages.specs.Raw.{count};
 use crate::book::{COUNT, HEAP, LINK, NEWEST, OWNER, TAKEN};
 use raw_pages::RawPages;
 
-// whether a number is a live region's
+/// Whether a number is a live region's.
 pub(crate) fn is_region(raw: &RawPages, number: u32) -> bool
     ensures { result ≡ is_live_number (owner_of (word_in raw.now.words)) number }
 {
@@ -22,7 +22,7 @@ pub(crate) fn is_region(raw: &RawPages, number: u32) -> bool
     raw.word(number - 1, OWNER) == number
 }
 
-// whether a page is among so many on a chain
+/// Whether a page is among so many on a chain.
 fn leads_to(raw: &RawPages, many: u32, from: u32, page: u32) -> bool
     requires { (q : ℕ) → 0 < times q (follow (link_of (word_in raw.now.words)) many from) → q < count raw.now }
     ensures { result ≡ nat_lt 0 (times page (follow (link_of (word_in raw.now.words)) many from)) }
@@ -39,7 +39,7 @@ fn leads_to(raw: &RawPages, many: u32, from: u32, page: u32) -> bool
     false
 }
 
-// whether a page is the heap's or a live region's
+/// Whether a page is the heap's or a live region's.
 pub(crate) fn is_held(raw: &RawPages, page: u32) -> bool
     requires page { page < count raw.now }
     requires within { (h q : ℕ) → is_live_number (owner_of (word_in raw.now.words)) h ≡ true → 0 < times q (pages_of (word_in raw.now.words) h) → q < count raw.now }

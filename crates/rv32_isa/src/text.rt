@@ -101,7 +101,7 @@ enum Operands {
     Nothing,
 }
 
-// The name of an instruction.
+/// The name of an instruction.
 fn name_of(instr: Instr) -> &'static str
     ensures { parts_text result.now (operands_in (layout instr)) ≡ instr_text instr }
 {
@@ -157,7 +157,7 @@ fn name_of(instr: Instr) -> &'static str
     }
 }
 
-// What stands behind the name of an instruction.
+/// What stands behind the name of an instruction.
 fn operands_of(instr: Instr) -> Operands
     ensures { result ≡ operands_in (layout instr) }
 {

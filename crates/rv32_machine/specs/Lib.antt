@@ -13,4 +13,3 @@ pub mod Implements
 pub mod Quiet
 pub mod Quick
 pub mod Ops
-

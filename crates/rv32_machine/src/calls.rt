@@ -49,7 +49,7 @@ impl<S: BlockStore> Machine<S> {
         }
     }
 
-    // ends with a status
+    /// Ends with a status.
     fn exits(&mut self, status: u32) -> Event
         ensures step { let seen = arrays S.holdings S.byte_at in Steps (seen self.old) (seen self.new) result (stop (Ended status) (state_of (seen self.old))) }
         ensures headers { S.headers self.new.store ≡ S.headers self.old.store }
@@ -58,7 +58,7 @@ impl<S: BlockStore> Machine<S> {
         Event::Ended(status.cast_signed())
     }
 
-    // writes the low byte of a value, which x10 gets
+    /// Writes the low byte of a value, which x10 gets.
     fn writes(&mut self, value: u32) -> Event
         ensures step { let seen = arrays S.holdings S.byte_at in Steps (seen self.old) (seen self.new) result (calls_host (areas_of (seen self.old)) 1 value (state_of (seen self.old))) }
         ensures headers { S.headers self.new.store ≡ S.headers self.old.store }
@@ -68,7 +68,7 @@ impl<S: BlockStore> Machine<S> {
         Event::Put(byte)
     }
 
-    // waits for a byte
+    /// Waits for a byte.
     fn asks(&mut self) -> Event
         ensures step { let seen = arrays S.holdings S.byte_at in Steps (seen self.old) (seen self.new) result (calls_host (areas_of (seen self.old)) 2 0 (state_of (seen self.old))) }
         ensures headers { S.headers self.new.store ≡ S.headers self.old.store }
@@ -77,7 +77,7 @@ impl<S: BlockStore> Machine<S> {
         Event::Get
     }
 
-    // stops with a failed check of the source
+    /// Stops with a failed check of the source.
     fn raises(&mut self, number: u32) -> Event
         ensures step { let seen = arrays S.holdings S.byte_at in Steps (seen self.old) (seen self.new) result (raises number (state_of (seen self.old))) }
         ensures headers { S.headers self.new.store ≡ S.headers self.old.store }
@@ -89,7 +89,7 @@ impl<S: BlockStore> Machine<S> {
         }
     }
 
-    // stops where the stack has fewer bytes below x2 than a frame takes
+    /// Stops where the stack has fewer bytes below x2 than a frame takes.
     fn refuses_frame(&mut self, bytes: u32) -> Event
         ensures step { let seen = arrays S.holdings S.byte_at in Steps (seen self.old) (seen self.new) result (refuses_frame (areas_of (seen self.old)) bytes (state_of (seen self.old))) }
         ensures headers { S.headers self.new.store ≡ S.headers self.old.store }
@@ -104,7 +104,7 @@ impl<S: BlockStore> Machine<S> {
         }
     }
 
-    // stops with a failed check of this kind
+    /// Stops with a failed check of this kind.
     fn raise(&mut self, kind: Kind) -> Event
         ensures step { let seen = arrays S.holdings S.byte_at in Steps (seen self.old) (seen self.new) result (stop (Raised kind) (state_of (seen self.old))) }
         ensures headers { S.headers self.new.store ≡ S.headers self.old.store }

@@ -14,7 +14,7 @@ use cyc_words::{
 use rv32_isa::{Instr, Register, Signed12};
 
 impl<S: BlockStore> Machine<S> {
-    // the register and the value of an instruction that does no more than give it
+    /// The register and the value of an instruction that does no more than give it.
     pub(crate) fn computed(&self, instr: Instr) -> (Register, u32)
         ensures { is_making instr ≡ true → Makes instr (state_of (arrays S.holdings S.byte_at self.now)) result.0 result.1 }
     {
@@ -38,7 +38,7 @@ impl<S: BlockStore> Machine<S> {
         }
     }
 
-    // the same of an instruction on two registers
+    /// The same of an instruction on two registers.
     fn of_registers(&self, instr: Instr) -> (Register, u32)
         ensures { is_arithmetic instr ≡ true → Makes instr (state_of (arrays S.holdings S.byte_at self.now)) result.0 result.1 }
     {
@@ -57,7 +57,7 @@ impl<S: BlockStore> Machine<S> {
         }
     }
 
-    // the same of a multiplication or a division
+    /// The same of a multiplication or a division.
     fn product(&self, instr: Instr) -> (Register, u32)
         ensures { is_product instr ≡ true → Makes instr (state_of (arrays S.holdings S.byte_at self.now)) result.0 result.1 }
     {
@@ -75,7 +75,7 @@ impl<S: BlockStore> Machine<S> {
     }
 }
 
-// the word of an immediate
+/// The word of an immediate.
 pub(crate) fn word_of(immediate: Signed12) -> u32
     ensures { result ≡ word immediate }
 {

@@ -107,7 +107,7 @@ impl<S: BlockStore> Machine<S> {
         self.finished(done)
     }
 
-    // the bytes of a region's block that are asked of the store: where the image allows none so long, as many as no store has
+    /// The bytes of a region's block that are asked of the store: where the image allows none so long, as many as no store has.
     fn handed(&self, bytes: u32) -> u32
         ensures { let seen = arrays S.holdings S.byte_at in result ≡ (if nat_lt (seen self.now).block_limit bytes then 2 ^ 32 - 1 else bytes) }
     {
@@ -118,7 +118,7 @@ impl<S: BlockStore> Machine<S> {
         }
     }
 
-    // goes on with a number in x10, or stops
+    /// Goes on with a number in x10, or stops.
     fn numbered(&mut self, made: Result<u32, StoreRefusal>) -> Event
         ensures { let seen = arrays S.holdings S.byte_at in Steps (seen self.old) (seen self.new) result (settled true made (state_of (seen self.old))) }
     {
@@ -128,7 +128,7 @@ impl<S: BlockStore> Machine<S> {
         }
     }
 
-    // goes on, or stops
+    /// Goes on, or stops.
     fn finished(&mut self, done: Result<(), StoreRefusal>) -> Event
         ensures { let seen = arrays S.holdings S.byte_at in Steps (seen self.old) (seen self.new) result (settled false (unit_result done) (state_of (seen self.old))) }
     {
@@ -138,7 +138,7 @@ impl<S: BlockStore> Machine<S> {
         }
     }
 
-    // stops where the store refused
+    /// Stops where the store refused.
     fn refused(&mut self, why: StoreRefusal) -> Event
         ensures { let seen = arrays S.holdings S.byte_at in Steps (seen self.old) (seen self.new) result (stop (stop_by why) (state_of (seen self.old))) }
     {

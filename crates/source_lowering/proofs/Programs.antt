@@ -250,6 +250,6 @@ program_same p h n =
     (record { go = λ m agree lasts. main_same w (program_code p) n m c plain enters agree lasts })
 
 -- on each input and with each amount of fuel: the program is stuck, or both show the same and end alike
-pub programs_same : (p : tree.Program) → IsLowerable p → (input : List ℕ) → AreBytes input → (n : ℕ)
+pub programs_are_the_same : (p : tree.Program) → IsLowerable p → (input : List ℕ) → AreBytes input → (n : ℕ)
     → ((source p input n).ending ≡ SourceEnding.Stuck) ⊎ SameOutcome (world_of p) (source p input n) (core (program_code p) input n)
-programs_same p h input bytes n = (program_same p h n).at n (omega arith) input bytes
+programs_are_the_same p h input bytes n = (program_same p h n).at n (omega arith) input bytes

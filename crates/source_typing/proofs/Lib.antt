@@ -10,4 +10,3 @@ pub mod RegionNames
 pub mod NamedBelow
 pub mod SameTags
 mod samples
-

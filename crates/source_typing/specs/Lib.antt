@@ -29,4 +29,3 @@ pub mod Flow
 pub mod Left
 pub mod Answers
 pub mod Named
-

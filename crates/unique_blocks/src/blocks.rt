@@ -61,7 +61,7 @@ impl UniqueBlocks {
         }
     }
 
-    // takes a page for a class with no vacant slot, and cuts it: whether a page was free
+    /// Takes a page for a class with no vacant slot, and cuts it: whether a page was free.
     fn open(&mut self, class: u32, place: usize) -> bool
         requires class { class_of class ≡ class }
         requires place { place ≡ place_of class }
@@ -88,7 +88,7 @@ impl UniqueBlocks {
         }
     }
 
-    // makes the first vacant slot of the class's first page live: its address
+    /// Makes the first vacant slot of the class's first page live: its address.
     fn take(&mut self, class: u32, place: usize) -> u32
         requires class { class_of class ≡ class }
         requires place { place ≡ place_of class }
@@ -134,7 +134,7 @@ impl UniqueBlocks {
         Ok(self.take(class, place))
     }
 
-    // makes a live slot vacant
+    /// Makes a live slot vacant.
     fn give(&mut self, page: u32, class: u32, slot: u32)
         requires class { (slots_in self.old).class page ≡ class }
         requires some { 0 < class }
@@ -183,7 +183,7 @@ impl UniqueBlocks {
         Ok(())
     }
 
-    // whether an address lies in a live slot
+    /// Whether an address lies in a live slot.
     fn is_in_slot(&self, at: u32) -> bool
         ensures { result ≡ is_some (alone_at (slots_in self.now) at) }
     {

@@ -21,7 +21,7 @@ pub(crate) const LIVE: u32 = 9;
 /// The field of the next page, and one, on the chain of pages with a vacant slot.
 pub(crate) const NEXT: u32 = 10;
 
-// a word of a page got from the pool, and 0 of another page
+/// A word of a page got from the pool, and 0 of another page.
 pub(crate) fn word(pool: &Pool, page: u32, field: u32) -> u32
     ensures { result ≡ word_of pool.now page field }
 {
@@ -31,7 +31,7 @@ pub(crate) fn word(pool: &Pool, page: u32, field: u32) -> u32
     }
 }
 
-// the same word, with the header words that are read counted: whose the page is, and the word if it was got
+/// The same word, with the header words that are read counted: whose the page is, and the word if it was got.
 pub(crate) fn read(pool: &Pool, touched: &mut u32, page: u32, field: u32) -> u32
     requires from { 4 ≤ field }
     requires field { field < 16 }
@@ -57,7 +57,7 @@ pub(crate) fn read(pool: &Pool, touched: &mut u32, page: u32, field: u32) -> u32
     }
 }
 
-// sets a word of a page got from the pool
+/// Sets a word of a page got from the pool.
 fn set_word(pool: &mut Pool, touched: &mut u32, page: u32, field: u32, value: u32)
     requires taken { is_taken pool.old page ≡ true }
     requires from { 4 ≤ field }
@@ -71,7 +71,7 @@ fn set_word(pool: &mut Pool, touched: &mut u32, page: u32, field: u32, value: u3
     *touched += pool.touched();
 }
 
-// no page has a class
+/// No page has a class.
 pub(crate) fn forget_pages(pool: &mut Pool)
     ensures none { (page : ℕ) → word_of pool.new page 4 ≡ 0 }
     ensures few { (held pool.new).pages ≤ 4096 }
@@ -84,7 +84,7 @@ pub(crate) fn forget_pages(pool: &mut Pool)
     }
 }
 
-// whether a slot is live
+/// Whether a slot is live.
 pub(crate) fn is_set(pool: &Pool, page: u32, slot: u32) -> bool
     requires { slot < 128 }
     ensures { result ≡ bit_of (word_of pool.now) page slot }
@@ -92,7 +92,7 @@ pub(crate) fn is_set(pool: &Pool, page: u32, slot: u32) -> bool
     word(pool, page, BITS + slot / 32) >> (slot % 32) & 1 == 1
 }
 
-// the same, counted
+/// The same, counted.
 pub(crate) fn finds(pool: &Pool, touched: &mut u32, page: u32, slot: u32) -> bool
     requires slot { slot < 128 }
     requires few { touched.old < 1000 }
@@ -105,7 +105,7 @@ pub(crate) fn finds(pool: &Pool, touched: &mut u32, page: u32, slot: u32) -> boo
     read(pool, touched, page, BITS + slot / 32) >> (slot % 32) & 1 == 1
 }
 
-// makes a slot live
+/// Makes a slot live.
 fn set_bit(pool: &mut Pool, touched: &mut u32, page: u32, slot: u32)
     requires taken { is_taken pool.old page ≡ true }
     requires slot { slot < 128 }
@@ -119,7 +119,7 @@ fn set_bit(pool: &mut Pool, touched: &mut u32, page: u32, slot: u32)
     set_word(pool, touched, page, field, bits);
 }
 
-// makes a slot vacant
+/// Makes a slot vacant.
 fn clear_bit(pool: &mut Pool, touched: &mut u32, page: u32, slot: u32)
     requires taken { is_taken pool.old page ≡ true }
     requires slot { slot < 128 }
@@ -133,7 +133,7 @@ fn clear_bit(pool: &mut Pool, touched: &mut u32, page: u32, slot: u32)
     set_word(pool, touched, page, field, bits);
 }
 
-// how many slots of a page are live
+/// How many slots of a page are live.
 fn set_live(pool: &mut Pool, touched: &mut u32, page: u32, live: u32)
     requires taken { is_taken pool.old page ≡ true }
     requires few { touched.old < 900 }
@@ -144,7 +144,7 @@ fn set_live(pool: &mut Pool, touched: &mut u32, page: u32, live: u32)
     set_word(pool, touched, page, LIVE, live);
 }
 
-// the page, and one, that follows on the chain
+/// The page, and one, that follows on the chain.
 pub(crate) fn set_next(pool: &mut Pool, touched: &mut u32, page: u32, next: u32)
     requires taken { is_taken pool.old page ≡ true }
     requires few { touched.old < 900 }
@@ -155,7 +155,7 @@ pub(crate) fn set_next(pool: &mut Pool, touched: &mut u32, page: u32, next: u32)
     set_word(pool, touched, page, NEXT, next);
 }
 
-// makes all slots vacant
+/// Makes all slots vacant.
 fn clear_bits(pool: &mut Pool, touched: &mut u32, page: u32)
     requires taken { is_taken pool.old page ≡ true }
     requires few { touched.old < 900 }
@@ -169,7 +169,7 @@ fn clear_bits(pool: &mut Pool, touched: &mut u32, page: u32)
     set_word(pool, touched, page, BITS + 3, 0);
 }
 
-// cuts a page into vacant slots
+/// Cuts a page into vacant slots.
 pub(crate) fn cut(pool: &mut Pool, touched: &mut u32, page: u32, class: u32)
     requires taken { is_taken pool.old page ≡ true }
     requires few { touched.old < 800 }
@@ -183,7 +183,7 @@ pub(crate) fn cut(pool: &mut Pool, touched: &mut u32, page: u32, class: u32)
     set_next(pool, touched, page, 0);
 }
 
-// makes a slot live, and counts it: how many are live then
+/// Makes a slot live, and counts it: how many are live then.
 pub(crate) fn take_slot(pool: &mut Pool, touched: &mut u32, page: u32, slot: u32) -> u32
     requires taken { is_taken pool.old page ≡ true }
     requires slot { slot < 128 }
@@ -200,7 +200,7 @@ pub(crate) fn take_slot(pool: &mut Pool, touched: &mut u32, page: u32, slot: u32
     live
 }
 
-// makes a slot vacant, and counts it: how many were live
+/// Makes a slot vacant, and counts it: how many were live.
 pub(crate) fn give_slot(pool: &mut Pool, touched: &mut u32, page: u32, slot: u32) -> u32
     requires taken { is_taken pool.old page ≡ true }
     requires slot { slot < 128 }
@@ -217,7 +217,7 @@ pub(crate) fn give_slot(pool: &mut Pool, touched: &mut u32, page: u32, slot: u32
     live
 }
 
-// the first vacant slot of a page, or 128
+/// The first vacant slot of a page, or 128.
 pub(crate) fn first_vacant(pool: &Pool, touched: &mut u32, page: u32) -> u32
     requires taken { is_taken pool.now page ≡ true }
     requires few { touched.old < 900 }

@@ -24,7 +24,7 @@ use cyc_words::{Counted, Input, Output};
 use std::alloc::{AllocError, Global};
 use std::test::Fail;
 
-// how a program ends on an input with so many units of fuel; none where a call fails, or other bytes are written
+/// How a program ends on an input with so many units of fuel; none where a call fails, or other bytes are written.
 fn ending_of(
     alloc: Global,
     program: &Program,
@@ -41,7 +41,7 @@ fn ending_of(
     }
 }
 
-// whether an ending is shown so
+/// Whether an ending is shown so.
 fn is_shown(alloc: Global, ending: Option<EvalEnding>, wanted: &str) -> Result<bool, AllocError> {
     match ending {
         None => Ok(false),
@@ -49,7 +49,7 @@ fn is_shown(alloc: Global, ending: Option<EvalEnding>, wanted: &str) -> Result<b
     }
 }
 
-// whether the program of a text ends as a case says
+/// Whether the program of a text ends as a case says.
 fn is_ended(alloc: Global, text: &str, case: &'static str) -> Result<bool, AllocError> {
     let (said, given) = case.split_once(" <- ").unwrap_or((case, ""));
     let (wanted, rest) = parted(said);
@@ -64,7 +64,7 @@ fn is_ended(alloc: Global, text: &str, case: &'static str) -> Result<bool, Alloc
     }
 }
 
-// refuses a program with a case that isn't so, and shows all of them
+/// Refuses a program with a case that isn't so, and shows all of them.
 fn expect_cases(alloc: Global, text: &'static str) -> Result<(), Fail> {
     let (program, cases) = text.split_once("\n--\n").unwrap_or((text, "none"));
     for case in cases.lines() {
@@ -75,7 +75,7 @@ fn expect_cases(alloc: Global, text: &'static str) -> Result<(), Fail> {
     Ok(())
 }
 
-// refuses a table with such a program
+/// Refuses a table with such a program.
 fn expect_programs(alloc: Global, table: &'static str) -> Result<(), Fail> {
     for text in table.split("\n\n") {
         expect_cases(alloc, text)?;

@@ -6,7 +6,7 @@ use cyc_core::{Cell, CellLayout, Datum, Layout, Local, Statement, Temporary, Wor
 use std::alloc::Global;
 use std::rc::Rc;
 
-// a cell of an object
+/// A cell of an object.
 fn cell(offset: u32, cell: Cell, padding: u32) -> CellLayout {
     CellLayout {
         offset,
@@ -15,13 +15,13 @@ fn cell(offset: u32, cell: Cell, padding: u32) -> CellLayout {
     }
 }
 
-// an object of these cells
+/// An object of these cells.
 fn object(alloc: Global, cells: &[CellLayout], bytes: u32) -> Option<Rc<Layout>> {
     let cells = cells.to_vec(alloc).ok()?;
     Rc::new(alloc, Layout { cells, bytes }).ok()
 }
 
-// the layout of a shape
+/// The layout of a shape.
 fn layout_of(alloc: Global, shape: Shape) -> Option<Rc<Layout>> {
     match shape {
         Shape::Int => object(alloc, &[cell(0, Cell::Word, 0)], 4),
@@ -66,7 +66,7 @@ pub fn words_of(numbers: [u32; 3], count: usize) -> Option<Words> {
     }
 }
 
-// the statement on objects of a shape that a row says, where it says one
+/// The statement on objects of a shape that a row says, where it says one.
 fn object_statement(alloc: Global, row: Row) -> Option<Statement> {
     let [first, second, third, _, _] = row.numbers;
     let (to, from) = (Temporary(first), Temporary(second));
@@ -82,7 +82,7 @@ fn object_statement(alloc: Global, row: Row) -> Option<Statement> {
     }
 }
 
-// the statement without an object that a row says, where it says one
+/// The statement without an object that a row says, where it says one.
 fn plain_statement(row: Row) -> Option<Statement> {
     let [first, second, third, _, _] = row.numbers;
     match row.word {

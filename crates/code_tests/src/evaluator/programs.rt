@@ -41,7 +41,7 @@ struct Reader {
     passed: Vec<Temporary>,
 }
 
-// the statement of a level that is no function
+/// The statement of a level that is no function.
 fn whole_statement(level: Level) -> Statement {
     match level.sort {
         Sort::Function(_) | Sort::Block => Statement::Block(level.locals, level.body),
@@ -151,7 +151,7 @@ impl Reader {
         Some(())
     }
 
-    // reads the lines of a text, where the given ones stand for its lines `?`
+    /// Reads the lines of a text, where the given ones stand for its lines `?`.
     fn read_text(&mut self, text: &str, given: &str) -> Option<()> {
         let mut given = given.split(" | ");
         for line in text.lines() {
@@ -165,7 +165,7 @@ impl Reader {
         }
     }
 
-    // the program, which its first function begins, where there is one and no end is missing
+    /// The program, which its first function begins, where there is one and no end is missing.
     fn into_program(self) -> Option<Program> {
         if self.levels.is_empty() && !self.functions.is_empty() {
             Some(Program {

@@ -11,7 +11,7 @@ pub struct Row {
     pub count: usize,
 }
 
-// a decimal number, or a hexadecimal one behind `0x`
+/// A decimal number, or a hexadecimal one behind `0x`.
 fn number_of(word: &str) -> Option<u32> {
     match word.strip_prefix("0x") {
         Some(digits) => u32::from_str_radix(digits, 16).ok(),
@@ -35,7 +35,7 @@ pub fn row_of(text: &str) -> Option<Row> {
     })
 }
 
-// a local of the innermost block
+/// A local of the innermost block.
 fn local(index: u32) -> Variable {
     Variable {
         out: 0,
@@ -43,7 +43,7 @@ fn local(index: u32) -> Variable {
     }
 }
 
-// so many cells and bytes on, the part of this number
+/// So many cells and bytes on, the part of this number.
 fn distance(width: Width, cells: u32, bytes: u32, part: u32) -> Distance {
     Distance {
         cells,
@@ -53,7 +53,7 @@ fn distance(width: Width, cells: u32, bytes: u32, part: u32) -> Distance {
     }
 }
 
-// what a row of a load or store does: the first temporary gets, or is a pointer, and where no further numbers stand, what lies right there is meant
+/// What a row of a load or store does: the first temporary gets, or is a pointer, and where no further numbers stand, what lies right there is meant.
 fn memory_operation(row: Row) -> Option<Operation> {
     let [first, second, cells, bytes, part] = row.numbers;
     let (to, from) = (Temporary(first), Temporary(second));
@@ -66,7 +66,7 @@ fn memory_operation(row: Row) -> Option<Operation> {
     }
 }
 
-// what a row that makes or tests a pointer, a handle or a key does
+/// What a row that makes or tests a pointer, a handle or a key does.
 fn pointer_operation(row: Row) -> Option<Operation> {
     let [first, second, third, fourth, fifth] = row.numbers;
     let (to, from, other) = (Temporary(first), Temporary(second), Temporary(third));
@@ -91,7 +91,7 @@ fn pointer_operation(row: Row) -> Option<Operation> {
     }
 }
 
-// what a row on numbers does
+/// What a row on numbers does.
 fn number_operation(row: Row) -> Option<Operation> {
     let [first, second, third, _, _] = row.numbers;
     let (to, left, right) = (Temporary(first), Temporary(second), Temporary(third));

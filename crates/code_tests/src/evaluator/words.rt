@@ -149,7 +149,7 @@ const PARTS: [(&str, Word); 37] = [
     ("region_wide", Word::Object(Verb::Region, Shape::Wide)),
 ];
 
-// the word of a name in a table
+/// The word of a name in a table.
 fn word_in(table: &[(&str, Word)], name: &str) -> Option<Word> {
     for (text, word) in table.iter() {
         if *text == name {

@@ -4,7 +4,7 @@ use crate::devices::Tape;
 use cyc_words::{Counted, Output};
 use std::io::Write;
 
-// whether a flush is what it is inside, and counts nothing, nor a write of nothing; and a write of a byte that isn't taken counts
+/// Whether a flush is what it is inside, and counts nothing, nor a write of nothing; and a write of a byte that isn't taken counts.
 fn are_counted(output: &mut Counted<Tape>) -> bool {
     let is_flushed = output.flush().is_ok();
     let nothing = output.send(b"").ok();

@@ -17,7 +17,7 @@ const WITH_DATA: [u8; 43] = [
     0, 0, 0x93, 0x08, 0, 0, 0x13, 0x05, 0x70, 0, 0x73, 0, 0, 0, 7, 8, 9,
 ];
 
-// whether the code with an entry, data and pages of the arena and of the stack is written so
+/// Whether the code with an entry, data and pages of the arena and of the stack is written so.
 fn is_written(
     alloc: Global,
     entry: u32,
@@ -53,7 +53,7 @@ fn images_are_written(rt: HostRuntime) -> Result<(), Fail> {
     Ok(())
 }
 
-// whether parts fit with so many of these bytes as their code and as their data
+/// Whether parts fit with so many of these bytes as their code and as their data.
 fn do_fit(
     zeros: &[u8],
     entry: u32,

@@ -17,7 +17,7 @@ use std::test::Fail;
 // the data of images
 const DATA: &[u8] = &[0x80, 0x81, 0x82, 0x83];
 
-// the code of words in hexadecimal, one space apart
+/// The code of words in hexadecimal, one space apart.
 fn code_of(alloc: Global, text: &str) -> Result<Vec<u8>, AllocError> {
     let mut code = Vec::new(alloc);
     for digits in text.split(' ') {
@@ -26,7 +26,7 @@ fn code_of(alloc: Global, text: &str) -> Result<Vec<u8>, AllocError> {
     Ok(code)
 }
 
-// the image of parts
+/// The image of parts.
 fn loaded(alloc: Global, parts: &Parts<'_>) -> Result<Image, Fail> {
     if parts.fits() {
         Ok(load(alloc, &write(alloc, parts)?)?)
@@ -35,7 +35,7 @@ fn loaded(alloc: Global, parts: &Parts<'_>) -> Result<Image, Fail> {
     }
 }
 
-// the image of so many pages with this code
+/// The image of so many pages with this code.
 fn image_of(alloc: Global, words: &str, pages: u32) -> Result<Image, Fail> {
     let code = code_of(alloc, words)?;
     let parts = Parts {
@@ -48,7 +48,7 @@ fn image_of(alloc: Global, words: &str, pages: u32) -> Result<Image, Fail> {
     loaded(alloc, &parts)
 }
 
-// the event that is not Next, of at most 20 steps
+/// The event that is not Next, of at most 20 steps.
 fn event_of<S: BlockStore>(machine: &mut Machine<S>) -> Event {
     for _ in 0..20 {
         let event = machine.step();
@@ -59,12 +59,12 @@ fn event_of<S: BlockStore>(machine: &mut Machine<S>) -> Event {
     Event::Next
 }
 
-// whether an event is shown so
+/// Whether an event is shown so.
 fn is_event(alloc: Global, event: Event, wanted: &str) -> Result<bool, AllocError> {
     Ok(format!(in alloc; "{event:?}")?.as_str() == wanted)
 }
 
-// whether a machine has this in a register, or as the address of its instruction
+/// Whether a machine has this in a register, or as the address of its instruction.
 fn has<S: BlockStore>(machine: &Machine<S>, place: &str, wanted: &str) -> bool {
     let found = match place.strip_prefix("x") {
         Some(register) => machine.reg(register.parse().unwrap_or(0)),
@@ -73,7 +73,7 @@ fn has<S: BlockStore>(machine: &Machine<S>, place: &str, wanted: &str) -> bool {
     found == hex(wanted)
 }
 
-// whether it is so what a part of a row says
+/// Whether it is so what a part of a row says.
 fn is_so<S: BlockStore>(
     alloc: Global,
     machine: &mut Machine<S>,
@@ -93,7 +93,7 @@ fn is_so<S: BlockStore>(
     }
 }
 
-// whether all is so that a row says of a machine
+/// Whether all is so that a row says of a machine.
 fn are_so<S: BlockStore>(
     alloc: Global,
     machine: &mut Machine<S>,
@@ -108,7 +108,7 @@ fn are_so<S: BlockStore>(
     Ok(true)
 }
 
-// whether it is so what a row says of an image's machine over a store
+/// Whether it is so what a row says of an image's machine over a store.
 fn is_done_over<S: BlockStore + Drop>(
     alloc: Global,
     row: &'static str,
@@ -121,7 +121,7 @@ fn is_done_over<S: BlockStore + Drop>(
     }
 }
 
-// whether it is so over both stores
+/// Whether it is so over both stores.
 fn is_done_over_both(alloc: Global, row: &'static str, image: &Image) -> Result<bool, Fail> {
     let plain = is_done_over(alloc, row, image, PlainStore::new(alloc, image.pages())?)?;
     let paged = is_done_over(alloc, row, image, PagedStore::new(alloc, image.pages())?)?;
@@ -194,7 +194,7 @@ until Put(65); x10 41; until Raised(ArrayBounds); pc 10014 <- 14100513 00100893 
 until Fault(Break); x12 0; x13 50; x14 34; x15 0 <- 00400893 00000073 00050313 00500893 00800593 00000073 00050293 123453B7 0072A023 \
 00030513 00600893 00000073 00400893 00000073 0002C603 0012C683 0022C703 0042C783 00100073";
 
-// whether a machine is made over a store that holds a byte, or where memory lacks, as under rt try --test --fail-alloc, its store comes back as it was
+/// Whether a machine is made over a store that holds a byte, or where memory lacks, as under rt try --test --fail-alloc, its store comes back as it was.
 fn is_made_or_given_back(alloc: Global, image: &Image, mut store: PlainStore) -> bool {
     let is_stored = store.store8(0x1000_0000, 7);
     match Machine::new(alloc, image, store) {

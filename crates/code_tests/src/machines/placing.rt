@@ -7,18 +7,18 @@ use rv32_select::Labelled;
 use std::alloc::{AllocError, Global};
 use std::test::Fail;
 
-// an instruction that does nothing
+/// An instruction that does nothing.
 fn nothing() -> Instr {
     Instr::Addi(Register::ZERO, Register::ZERO, Signed12::new(0))
 }
 
-// adds an instruction
+/// Adds an instruction.
 fn put(lines: &mut Vec<Line>, instruction: Instr) -> Result<(), AllocError> {
     lines.push(Line::Plain(instruction))?;
     Ok(())
 }
 
-// adds a jump on zero to the label 0, or that label, and an instruction behind it
+/// Adds a jump on zero to the label 0, or that label, and an instruction behind it.
 fn put_end(lines: &mut Vec<Line>, is_jump: bool, behind: Instr) -> Result<(), AllocError> {
     if is_jump {
         lines.push(Line::JumpIfZero(Register::TEMPORARY_0, 0))?;
@@ -28,7 +28,7 @@ fn put_end(lines: &mut Vec<Line>, is_jump: bool, behind: Instr) -> Result<(), Al
     put(lines, behind)
 }
 
-// adds so many instructions
+/// Adds so many instructions.
 fn fill(lines: &mut Vec<Line>, count: u16) -> Result<(), AllocError> {
     for _ in 0..count {
         put(lines, nothing())?;
@@ -36,28 +36,28 @@ fn fill(lines: &mut Vec<Line>, count: u16) -> Result<(), AllocError> {
     Ok(())
 }
 
-// adds a jump and its label, which is ahead or behind, with some instructions and these between them
+/// Adds a jump and its label, which is ahead or behind, with some instructions and these between them.
 fn put_both(lines: &mut Vec<Line>, is_ahead: bool, between: u16) -> Result<(), AllocError> {
     put_end(lines, is_ahead, nothing())?;
     fill(lines, between)?;
     put_end(lines, !is_ahead, nothing())
 }
 
-// how many words these lines are as they are placed
+/// How many words these lines are as they are placed.
 fn placed(alloc: Global, lines: Vec<Line>, _sample: Instr) -> Result<usize, Fail> {
     let labelled = Labelled::new(lines).ok_or("no code")?;
     let code = place(alloc, &labelled).ok().ok_or("not placed")?;
     Ok(code.bytes.len() / 4)
 }
 
-// how many words a jump and its label are with one instruction between them, these, and one behind them
+/// How many words a jump and its label are with one instruction between them, these, and one behind them.
 fn words(alloc: Global, is_ahead: bool, between: u16, sample: Instr) -> Result<usize, Fail> {
     let mut lines = Vec::new(alloc);
     put_both(&mut lines, is_ahead, between)?;
     placed(alloc, lines, sample)
 }
 
-// refuses other words than these
+/// Refuses other words than these.
 fn expect(words: usize, wanted: usize) -> Result<(), Fail> {
     if words == wanted {
         Ok(())

@@ -36,7 +36,7 @@ const CONSTANTS: [(Register, u8); 30] = [
     (Register::TEMPORARY_6, 31),
 ];
 
-// whether each constant has its number
+/// Whether each constant has its number.
 fn are_numbered() -> bool {
     for (register, number) in CONSTANTS.iter() {
         if register.number() != *number {

@@ -11,7 +11,7 @@ pub fn hex(text: &str) -> u32 {
     u32::from_str_radix(text, 16).unwrap_or(0xdead_beef)
 }
 
-// whether it is so what a row says; behind ` <- ` stands of what a machine is made
+/// Whether it is so what a row says; behind ` <- ` stands of what a machine is made.
 fn holds(alloc: Global, row: &'static str) -> Result<bool, Fail> {
     match row.split_once(" <- ") {
         None => Ok(are_limits(alloc, row)?),
@@ -19,7 +19,7 @@ fn holds(alloc: Global, row: &'static str) -> Result<bool, Fail> {
     }
 }
 
-// refuses a table with a row that isn't so
+/// Refuses a table with a row that isn't so.
 fn expect(alloc: Global, table: &'static str) -> Result<(), Fail> {
     for row in table.lines() {
         if !holds(alloc, row)? {

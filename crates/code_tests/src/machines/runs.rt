@@ -41,7 +41,7 @@ impl Devices {
         true
     }
 
-    // how the last of so many runs of so many steps ends
+    /// How the last of so many runs of so many steps ends.
     fn ending_of<S: BlockStore>(
         &mut self,
         machine: &mut Machine<S>,
@@ -60,7 +60,7 @@ impl Devices {
         ending
     }
 
-    // whether these were asked so, with what they say of it: the ending, the bytes written, the reads and writes, and those that failed
+    /// Whether these were asked so, with what they say of it: the ending, the bytes written, the reads and writes, and those that failed.
     fn are_asked(&self, alloc: Global, ending: Ending, wanted: &str) -> Result<bool, AllocError> {
         let (read, written) = (self.reader.get_ref(), self.writer.get_ref());
         let (reads, writes, taken) = (read.calls, written.calls, written.taken);

@@ -1,10 +1,10 @@
 // What the calls of tables are made on: stores, and the unique blocks over a pool below them.
 
 use crate::stores::calls::Call;
-use cyc_arena::{BlockStore, PagedStore, PlainStore};
 use arena_laws::StoreRefusal;
-use region_runtime::{Handle, Refusal};
+use cyc_arena::{BlockStore, PagedStore, PlainStore};
 use dynamic_region::Regions;
+use region_runtime::{Handle, Refusal};
 use unique_blocks::{UniqueBlocks, UniqueRefusal};
 
 /// What is said to a call: a number, where none is granted 0, and 1 for what holds; or the name of a refusal.
@@ -19,7 +19,7 @@ pub trait Asked {
     fn put(&mut self, at: u32, byte: u8) -> bool;
 }
 
-// a store's refusal
+/// A store's refusal.
 fn of_store(why: StoreRefusal) -> &'static str {
     match why {
         StoreRefusal::Full => "Full",
@@ -32,7 +32,7 @@ fn of_store(why: StoreRefusal) -> &'static str {
     }
 }
 
-// what a store says with a number
+/// What a store says with a number.
 fn numbered(said: Result<u32, StoreRefusal>) -> Said {
     match said {
         Ok(number) => Ok(number),
@@ -40,7 +40,7 @@ fn numbered(said: Result<u32, StoreRefusal>) -> Said {
     }
 }
 
-// what a store says without one
+/// What a store says without one.
 fn done(said: Result<(), StoreRefusal>) -> Said {
     match said {
         Ok(()) => Ok(0),
@@ -48,7 +48,7 @@ fn done(said: Result<(), StoreRefusal>) -> Said {
     }
 }
 
-// a number, if there is one
+/// A number, if there is one.
 fn given(said: Option<u32>) -> Said {
     match said {
         Some(number) => Ok(number),
@@ -56,7 +56,7 @@ fn given(said: Option<u32>) -> Said {
     }
 }
 
-// a byte, if there is one
+/// A byte, if there is one.
 fn byte_given(said: Option<u8>) -> Said {
     match said {
         Some(byte) => Ok(u32::from(byte)),
@@ -64,12 +64,12 @@ fn byte_given(said: Option<u8>) -> Said {
     }
 }
 
-// a count of touched words, if it is small
+/// A count of touched words, if it is small.
 fn few(count: u64) -> Said {
     if count <= 8 { Ok(0) } else { Err("many") }
 }
 
-// a call on a store
+/// A call on a store.
 fn ask_store<S: BlockStore>(store: &mut S, call: Call, base: u32, number: u32) -> Said {
     let at = base.wrapping_add(number);
     match call {
@@ -113,7 +113,7 @@ impl Asked for PagedStore<UniqueBlocks> {
     }
 }
 
-// a region's refusal
+/// A region's refusal.
 fn of_region(why: Refusal) -> &'static str {
     match why {
         Refusal::Full => "Full",
@@ -121,7 +121,7 @@ fn of_region(why: Refusal) -> &'static str {
     }
 }
 
-// what is said to a call that makes a region
+/// What is said to a call that makes a region.
 fn region_made(said: Option<Handle>) -> Said {
     match said {
         Some(handle) => Ok(handle.0),
@@ -129,7 +129,7 @@ fn region_made(said: Option<Handle>) -> Said {
     }
 }
 
-// what is said to a call that asks for a region's block
+/// What is said to a call that asks for a region's block.
 fn region_placed(said: Result<u32, Refusal>) -> Said {
     match said {
         Ok(at) => Ok(at),
@@ -137,7 +137,7 @@ fn region_placed(said: Result<u32, Refusal>) -> Said {
     }
 }
 
-// what is said to a call that frees a region
+/// What is said to a call that frees a region.
 fn region_freed(said: Result<(), Refusal>) -> Said {
     match said {
         Ok(()) => Ok(0),
@@ -145,7 +145,7 @@ fn region_freed(said: Result<(), Refusal>) -> Said {
     }
 }
 
-// a call on regions
+/// A call on regions.
 fn ask_regions<R: Regions>(regions: &mut R, call: Call, base: u32, number: u32) -> Said {
     let (handle, at) = (Handle(base), base.wrapping_add(number));
     match call {
@@ -165,7 +165,7 @@ fn ask_regions<R: Regions>(regions: &mut R, call: Call, base: u32, number: u32) 
     }
 }
 
-// a unique block's refusal
+/// A unique block's refusal.
 fn of_block(why: UniqueRefusal) -> &'static str {
     match why {
         UniqueRefusal::Full => "Full",
@@ -173,7 +173,7 @@ fn of_block(why: UniqueRefusal) -> &'static str {
     }
 }
 
-// what is said to a call that asks for a unique block
+/// What is said to a call that asks for a unique block.
 fn block_placed(said: Result<u32, UniqueRefusal>) -> Said {
     match said {
         Ok(at) => Ok(at),
@@ -181,7 +181,7 @@ fn block_placed(said: Result<u32, UniqueRefusal>) -> Said {
     }
 }
 
-// what is said to a call that frees a unique block
+/// What is said to a call that frees a unique block.
 fn block_freed(said: Result<(), UniqueRefusal>) -> Said {
     match said {
         Ok(()) => Ok(0),

@@ -3,13 +3,13 @@
 use crate::stores::BASE;
 use crate::texts::refuse;
 use dynamic_region::{Key, KeyRefusal, Keys};
-use region_runtime::Pool;
-use unique_blocks::UniqueBlocks;
 use raw_pages::RawPages;
+use region_runtime::Pool;
 use std::alloc::Global;
 use std::test::Fail;
+use unique_blocks::UniqueBlocks;
 
-// whether a page has what is written to it: a word, a byte, and a range that is lent
+/// Whether a page has what is written to it: a word, a byte, and a range that is lent.
 fn are_written(alloc: Global) -> bool {
     let Ok(mut pages) = RawPages::new(alloc, 1) else {
         return false;
@@ -26,7 +26,7 @@ fn are_written(alloc: Global) -> bool {
         && pages.pages() == 1
 }
 
-// whether the one page of a pool has words once it is taken, and then no region has it
+/// Whether the one page of a pool has words once it is taken, and then no region has it.
 fn has_words(pool: &mut Pool) -> bool {
     if pool.page_word(0, 4).is_some() {
         return false;
@@ -43,7 +43,7 @@ fn has_words(pool: &mut Pool) -> bool {
         && pool.region_new().is_none()
 }
 
-// whether the same holds of a pool that is made
+/// Whether the same holds of a pool that is made.
 fn are_words(alloc: Global) -> bool {
     match Pool::new(alloc, 1) {
         Ok(mut pool) => has_words(&mut pool),
@@ -51,7 +51,7 @@ fn are_words(alloc: Global) -> bool {
     }
 }
 
-// whether the handle of a region is no key, in two pages
+/// Whether the handle of a region is no key, in two pages.
 fn are_apart(keys: &mut Keys<Pool>) -> bool {
     let (Some(handle), Ok(key)) = (keys.region_new(), keys.key_new()) else {
         return false;
@@ -67,7 +67,7 @@ fn are_apart(keys: &mut Keys<Pool>) -> bool {
         && (keys.free_pages(), keys.fresh_pages(), keys.pages()) == (1, 0, 2)
 }
 
-// whether the same holds of keys that are made
+/// Whether the same holds of keys that are made.
 fn are_keys_apart(alloc: Global) -> bool {
     match Pool::new(alloc, 2) {
         Ok(pool) => are_apart(&mut Keys::new(pool)),
@@ -75,7 +75,7 @@ fn are_keys_apart(alloc: Global) -> bool {
     }
 }
 
-// whether a page that was taken before has no block, of two pages
+/// Whether a page that was taken before has no block, of two pages.
 fn has_no_block(alloc: Global) -> Option<bool> {
     let mut pool = Pool::new(alloc, 2).ok()?;
     let page = pool.take_page()?;
@@ -85,7 +85,7 @@ fn has_no_block(alloc: Global) -> Option<bool> {
     Some(is_set && is_none && blocks.unique_alloc(32) == Ok(BASE + 4096))
 }
 
-// what doesn't hold, if there is such
+/// What doesn't hold, if there is such.
 fn wrong(alloc: Global) -> Option<&'static str> {
     if !are_written(alloc) {
         Some("pages have what is written")

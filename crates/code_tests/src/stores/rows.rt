@@ -8,9 +8,9 @@ use crate::texts::{number_of, parted, refuse};
 use cyc_arena::{PagedStore, PlainStore};
 use raw_pages::PagesFault;
 use region_runtime::Pool;
-use unique_blocks::UniqueBlocks;
 use std::alloc::Global;
 use std::test::Fail;
+use unique_blocks::UniqueBlocks;
 
 // what calls are made on: the region or key that was made last, at first the heap, and the block, at first the arena's first address
 #[derive(Clone, Copy)]
@@ -20,7 +20,7 @@ struct Last {
 }
 
 impl Last {
-    // what a call is made on
+    /// What a call is made on.
     fn base(self, call: Call) -> u32 {
         match call {
             Call::UniqueFree | Call::Load8 | Call::Store8 | Call::Live => self.block,
@@ -28,7 +28,7 @@ impl Last {
         }
     }
 
-    // the same behind a call that was said this
+    /// The same behind a call that was said this.
     fn after(self, call: Call, said: Said) -> Last {
         let Last { region, block } = self;
         match (said, call) {
@@ -39,7 +39,7 @@ impl Last {
     }
 }
 
-// stores FF to every byte of the arena, of at most 64 pages
+/// Stores FF to every byte of the arena, of at most 64 pages.
 fn fill<A: Asked>(asked: &mut A) {
     for place in 0..64 * 4096 {
         if !asked.put(BASE + place, 255) {
@@ -48,7 +48,7 @@ fn fill<A: Asked>(asked: &mut A) {
     }
 }
 
-// whether this is what a row wants: `Ok` is any number
+/// Whether this is what a row wants: `Ok` is any number.
 fn is_wanted(said: Said, wanted: &str) -> bool {
     match said {
         Ok(number) => wanted == "Ok" || wanted.parse() == Ok(number),
@@ -56,7 +56,7 @@ fn is_wanted(said: Said, wanted: &str) -> bool {
     }
 }
 
-// makes a call so often as a row says, and fills the arena before one that may change what is held: what is last then, if all that is said is wanted
+/// Makes a call so often as a row says, and fills the arena before one that may change what is held: what is last then, if all that is said is wanted.
 fn done<A: Asked>(asked: &mut A, last: Last, row: &str) -> Option<Last> {
     let (times, rest) = parted(row);
     let (name, rest) = parted(rest);
@@ -75,7 +75,7 @@ fn done<A: Asked>(asked: &mut A, last: Last, row: &str) -> Option<Last> {
     Some(last)
 }
 
-// the first row that is answered otherwise, or none
+/// The first row that is answered otherwise, or none.
 fn unlike<'t, A: Asked>(asked: &mut A, rows: &'t str) -> Option<&'t str> {
     let mut last = Last {
         region: 0,
@@ -90,7 +90,7 @@ fn unlike<'t, A: Asked>(asked: &mut A, rows: &'t str) -> Option<&'t str> {
     None
 }
 
-// the same of what was made for it
+/// The same of what was made for it.
 fn unlike_of<A: Asked + Drop>(
     made: Result<A, PagesFault>,
     rows: &str,
@@ -101,12 +101,12 @@ fn unlike_of<A: Asked + Drop>(
     }
 }
 
-// unique blocks over a pool
+/// Unique blocks over a pool.
 fn blocks(alloc: Global, pages: u32) -> Result<UniqueBlocks, PagesFault> {
     Ok(UniqueBlocks::new(Pool::new(alloc, pages)?))
 }
 
-// the first row that is answered otherwise by what the head of a table names, or none
+/// The first row that is answered otherwise by what the head of a table names, or none.
 fn wrong_row<'t>(alloc: Global, head: &str, rows: &'t str) -> Result<Option<&'t str>, PagesFault> {
     let (sort, pages) = parted(head);
     let pages = number_of(pages);
@@ -117,7 +117,7 @@ fn wrong_row<'t>(alloc: Global, head: &str, rows: &'t str) -> Result<Option<&'t 
     }
 }
 
-// the first row of tables that is answered otherwise, or none
+/// The first row of tables that is answered otherwise, or none.
 fn wrong_row_of(alloc: Global, tables: &str) -> Result<Option<&str>, PagesFault> {
     for table in tables.split("\n\n") {
         let (heads, rows) = table.split_once(":\n").unwrap_or((table, "no rows"));
@@ -130,7 +130,7 @@ fn wrong_row_of(alloc: Global, tables: &str) -> Result<Option<&str>, PagesFault>
     Ok(None)
 }
 
-// Where memory lacks as under rt try --test --fail-alloc, no store is made, and one that is made never lacks any.
+/// Where memory lacks as under rt try --test --fail-alloc, no store is made, and one that is made never lacks any.
 #[test]
 fn where_memory_lacks_no_store_is_made(rt: HostRuntime) {
     let is_right = match wrong_row_of(rt.alloc(), TABLES) {
@@ -141,7 +141,7 @@ fn where_memory_lacks_no_store_is_made(rt: HostRuntime) {
     assert!(rt; is_right);
 }
 
-// Wants the same stores.
+/// Wants the same stores.
 #[test]
 fn stores_answer_by_their_laws(rt: HostRuntime) -> Result<(), Fail> {
     refuse(wrong_row_of(rt.alloc(), TABLES)?)

@@ -42,7 +42,7 @@ pub fn base_kinds_of(of: &BaseType) -> [bool; 10] {
     ]
 }
 
-// the name of a likeness
+/// The name of a likeness.
 fn likeness_name(alike: Likeness) -> &'static str {
     match alike {
         Likeness::Equal => "equal",
@@ -51,7 +51,7 @@ fn likeness_name(alike: Likeness) -> &'static str {
     }
 }
 
-// the name of the rule that a conversion breaks
+/// The name of the rule that a conversion breaks.
 fn broken_name(broken: Option<Broken>) -> &'static str {
     match broken {
         None => "converts",
@@ -61,7 +61,7 @@ fn broken_name(broken: Option<Broken>) -> &'static str {
     }
 }
 
-// the name of what one cell holds
+/// The name of what one cell holds.
 fn scalar_name(scalar: Option<Scalar>) -> &'static str {
     match scalar {
         None => "none",
@@ -76,7 +76,7 @@ fn scalar_name(scalar: Option<Scalar>) -> &'static str {
     }
 }
 
-// how alike the outermost pointers of two types are
+/// How alike the outermost pointers of two types are.
 fn outer_name(one: Option<Layer>, other: Option<Layer>) -> &'static str {
     match (one, other) {
         (None, None) => "none",
@@ -89,7 +89,7 @@ fn yes_or_no(holds: bool) -> &'static str {
     if holds { "yes" } else { "no" }
 }
 
-// whether a pointer is copied, and whether it has a beginning
+/// Whether a pointer is copied, and whether it has a beginning.
 fn pointer_name(of: Option<Layer>) -> &'static str {
     match of {
         None => "none",
@@ -138,7 +138,7 @@ pub fn extent_of(tables: &Tables<'static>, of: &CType) -> (u32, u32) {
     }
 }
 
-// whether the first cells lie so many bytes from the first, one by one
+/// Whether the first cells lie so many bytes from the first, one by one.
 fn are_at(cells: &[Cell], offsets: &str) -> bool {
     let mut are_right = true;
     for (cell, offset) in cells.iter().zip(offsets.split(' ')) {
@@ -147,7 +147,7 @@ fn are_at(cells: &[Cell], offsets: &str) -> bool {
     are_right
 }
 
-// whether a layout has so many cells, of which the first holds this, and the first ones lie at these offsets
+/// Whether a layout has so many cells, of which the first holds this, and the first ones lie at these offsets.
 fn has_cells(found: &Layout, count: usize, first: &str, offsets: &str) -> bool {
     let held = match found.cells.first() {
         Some(cell) => Some(cell.scalar),

@@ -11,7 +11,7 @@ use cyc_types::{CType, Tables};
 use std::alloc::Global;
 use std::test::Fail;
 
-// whether these kinds are the ones that a text names
+/// Whether these kinds are the ones that a text names.
 fn are_kinds(found: &[bool; 10], wanted: &str) -> bool {
     let mut are_right = true;
     for (kind, is_so) in KINDS.split(' ').zip(found.iter()) {
@@ -20,20 +20,20 @@ fn are_kinds(found: &[bool; 10], wanted: &str) -> bool {
     are_right
 }
 
-// whether the kinds of a type are these, and those of its base, where it is no pointer
+/// Whether the kinds of a type are these, and those of its base, where it is no pointer.
 fn has_kinds(of: &CType, wanted: &str) -> bool {
     are_kinds(&kinds_of(of), wanted)
         && (of.is_pointer() || are_kinds(&base_kinds_of(&of.base), wanted))
 }
 
-// a type's bytes and alignment, and what is behind them
+/// A type's bytes and alignment, and what is behind them.
 fn bytes_of(text: &str) -> ((u32, u32), &str) {
     let (bytes, rest) = parted(text);
     let (align, rest) = parted(rest);
     ((number_of(bytes), number_of(align)), rest)
 }
 
-// whether the cells of a type lie so
+/// Whether the cells of a type lie so.
 fn lies(alloc: Global, tables: &Tables<'static>, of: &CType<'static>, wanted: &str) -> bool {
     let (bytes, cells) = bytes_of(wanted);
     let (count, cells) = parted(cells);
@@ -42,13 +42,13 @@ fn lies(alloc: Global, tables: &Tables<'static>, of: &CType<'static>, wanted: &s
     laid(alloc, tables, of, cells) == Some(bytes) && extent_of(tables, of) == bytes
 }
 
-// one type or two that a text says; one stands for two
+/// One type or two that a text says; one stands for two.
 fn types_of(alloc: Global, text: &'static str) -> Option<(CType<'static>, CType<'static>)> {
     let (one, other) = text.split_once(' ').unwrap_or((text, text));
     type_of(alloc, one).zip(type_of(alloc, other))
 }
 
-// whether a pointer leads to the other type of a text, or doesn't
+/// Whether a pointer leads to the other type of a text, or doesn't.
 fn is_pointee(alloc: Global, types: &'static str, wanted: &str) -> bool {
     match types_of(alloc, types) {
         None => false,
@@ -56,7 +56,7 @@ fn is_pointee(alloc: Global, types: &'static str, wanted: &str) -> bool {
     }
 }
 
-// whether it is so what is asked of two types
+/// Whether it is so what is asked of two types.
 fn is_answered(
     alloc: Global,
     tables: &Tables<'static>,
@@ -72,7 +72,7 @@ fn is_answered(
     }
 }
 
-// whether it is so what a row says of one type or two
+/// Whether it is so what a row says of one type or two.
 fn is_said(
     alloc: Global,
     tables: &Tables<'static>,
@@ -85,7 +85,7 @@ fn is_said(
     }
 }
 
-// whether a struct or union is added so
+/// Whether a struct or union is added so.
 fn is_added(
     alloc: Global,
     tables: &mut Tables<'static>,
@@ -100,7 +100,7 @@ fn is_added(
     }
 }
 
-// whether a struct or union has this order, or isn't there where no number stands
+/// Whether a struct or union has this order, or isn't there where no number stands.
 fn has_order(tables: &Tables<'static>, name: &str, wanted: &str) -> bool {
     match tables.tag(name.as_bytes()) {
         Some(tag) => wanted.parse() == Ok(tag.order),
@@ -108,7 +108,7 @@ fn has_order(tables: &Tables<'static>, name: &str, wanted: &str) -> bool {
     }
 }
 
-// whether it is so what a row says
+/// Whether it is so what a row says.
 fn holds(alloc: Global, tables: &mut Tables<'static>, row: &'static str) -> bool {
     let (asked, wanted) = row.split_once(" = ").unwrap_or((row, ""));
     let (asked, text) = parted(asked);
@@ -121,7 +121,7 @@ fn holds(alloc: Global, tables: &mut Tables<'static>, row: &'static str) -> bool
     }
 }
 
-// the first row that isn't so, behind those of which these tables are made
+/// The first row that isn't so, behind those of which these tables are made.
 fn wrong_row_of(
     alloc: Global,
     tables: &mut Tables<'static>,
@@ -135,7 +135,7 @@ fn wrong_row_of(
     None
 }
 
-// the first row that isn't so
+/// The first row that isn't so.
 fn wrong_row(alloc: Global, table: &'static str) -> Option<&'static str> {
     let mut tables = Tables::new(alloc);
     wrong_row_of(alloc, &mut tables, table)
@@ -251,7 +251,7 @@ struct e10 0 a struct:e9  b struct:e9  c struct:e9  d struct:e9  e struct:e9  f 
 layout struct:e3 = 2048 4 512 int 0 4 8
 layout struct:e10 = 0 0 0 none";
 
-// Types are told apart, structs are found by their names, and cells lie in order.
+/// Types are told apart, structs are found by their names, and cells lie in order.
 #[test]
 fn types_are_as_they_are_said(rt: HostRuntime) -> Result<(), Fail> {
     refuse(wrong_row(rt.alloc(), TYPES))

@@ -8,7 +8,7 @@ use cyc_types::{BaseType, CType, Layer, Member, Reach, RegionArguments, RegionId
 use smallvec::SmallVec;
 use std::alloc::Global;
 
-// the region of this level, or the heap
+/// The region of this level, or the heap.
 fn region_of(level: &str) -> RegionId {
     match level.parse() {
         Ok(level) => RegionId::Level(level),
@@ -16,7 +16,7 @@ fn region_of(level: &str) -> RegionId {
     }
 }
 
-// the pointer that a text says
+/// The pointer that a text says.
 fn layer_of(text: &str) -> Option<Layer> {
     let (sign, level) = text.split_at_checked(1)?;
     let region = region_of(level);
@@ -30,7 +30,7 @@ fn layer_of(text: &str) -> Option<Layer> {
     }
 }
 
-// a union with one region argument
+/// A union with one region argument.
 fn union_of(alloc: Global, text: &'static str) -> Option<BaseType<'static>> {
     let (name, level) = text.split_once(':').unwrap_or((text, ""));
     let mut regions: RegionArguments = SmallVec::new(alloc);
@@ -38,7 +38,7 @@ fn union_of(alloc: Global, text: &'static str) -> Option<BaseType<'static>> {
     Some(BaseType::Union(name.as_bytes(), regions))
 }
 
-// the base that a text says: `struct:NAME` without region arguments, `union:NAME` with one
+/// The base that a text says: `struct:NAME` without region arguments, `union:NAME` with one.
 fn base_of(alloc: Global, text: &'static str) -> Option<BaseType<'static>> {
     let (word, name) = text.split_once(':').unwrap_or((text, ""));
     match word {
@@ -54,7 +54,7 @@ fn base_of(alloc: Global, text: &'static str) -> Option<BaseType<'static>> {
     }
 }
 
-// a type under the pointer that a text says, or as it is where the text says none
+/// A type under the pointer that a text says, or as it is where the text says none.
 fn under(of: CType<'static>, text: &str) -> Option<CType<'static>> {
     match layer_of(text) {
         Some(layer) => of.under(layer).ok(),
@@ -70,7 +70,7 @@ pub fn type_of(alloc: Global, text: &'static str) -> Option<CType<'static>> {
     under(under(of, inner)?, outer)
 }
 
-// the member that a text says: a name and a type
+/// The member that a text says: a name and a type.
 fn member_of(alloc: Global, text: &'static str) -> Option<Member<'static>> {
     let (name, of) = text.split_once(' ')?;
     Some(Member {
@@ -79,12 +79,12 @@ fn member_of(alloc: Global, text: &'static str) -> Option<Member<'static>> {
     })
 }
 
-// adds the member that a text says
+/// Adds the member that a text says.
 fn add_member(alloc: Global, members: &mut Vec<Member<'static>>, text: &'static str) -> Option<()> {
     members.push(member_of(alloc, text)?).ok()
 }
 
-// the members that a text says, two spaces apart
+/// The members that a text says, two spaces apart.
 fn members_of(alloc: Global, text: &'static str) -> Option<Vec<Member<'static>>> {
     let mut members: Vec<Member<'static>> = Vec::new(alloc);
     let mut are_added = true;

@@ -56,7 +56,7 @@ use Rattle.core_meaning.specs.Selectable.{IsSelectable}
 use Rattle.core_lines.specs.Running.{DoesAsCore}
 use Rattle.core_lines.proofs.labels.NoTargets.{operand_none, operation_none, call_none, return_none, epilogue_none, prologue_none}
 use Rattle.core_lines.proofs.labels.TargetsOnce.{program_targets_once}
-use Rattle.core_lines.proofs.DoesAsCore.{does_as_core}
+use Rattle.core_lines.proofs.DoesAsCore.{lines_do_as_core}
 use Rattle.core_lines.specs.Relaxed.{shortened, shorten_to, shortened_to, wide_to, targets}
 
 -- where no two go to one label, both say the same
@@ -277,4 +277,4 @@ shortened_do_as_core p selectable ws same =
     let lines = program_code far p in
     let wide = wide_to ws lines in
     let is : shortened ws lines ≡ program_code wide p = by_labels ws lines same (program_targets_once far p) ∙ program_short wide p in
-    subst (λ ls. DoesAsCore p ls) (sym is) (does_as_core p wide selectable)
+    subst (λ ls. DoesAsCore p ls) (sym is) (lines_do_as_core p wide selectable)

@@ -5,6 +5,7 @@ use Rattle.std.proofs.lemmas.Bool.{ne_eqb, eq-eqb}
 use Rattle.std.proofs.lemmas.Option.{same_Some}
 use Rattle.core_meaning.specs.Memory.{Spot, Content, Blank, Word, Null, Pointer, Birth, Part, Memory, Standing, Dead, is_live, with_part}
 use Rattle.core_meaning.specs.Operations.{too_far, low_byte}
+use Rattle.core_meaning.proofs.Spots.{spot_same}
 use Rattle.core_lines.specs.Machines.{Store}
 use Rattle.core_lines.specs.Lies.{Maps, Shows, Known}
 use Rattle.core_lines.proofs.memory.Fitting.{Writes, writes_word, writes_byte, store_fits, part_change, allowed, IsWidth, if_split}
@@ -27,7 +28,7 @@ known_part m mem st s j old v is k = record {
   made = λ t i p e. ⊎_elim
       (λ (x : (_ ≡ true) × (Some (record old { content = v }) ≡ Some p)).
       let q = Rattle.std.proofs.lemmas.Bool.and_parts _ (nat_eq i j) x.0 in
-      let same = Rattle.core_lines.proofs.memory.Fitting.spot_same t s q.0 in
+      let same = spot_same t s q.0 in
       subst (λ (u : Spot). u.object < mem.objects u.region) (sym same) (k.made s j old is))
       (λ (x : (_ ≡ false) × (mem.parts t i ≡ Some p)). k.made t i p x.1)
       (if_split _ (Some (record old { content = v })) (mem.parts t i) (Some p) e);

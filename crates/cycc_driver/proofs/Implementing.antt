@@ -103,7 +103,7 @@ module _ (program : Program) (code statics : List ℕ) (parts : Contents) (layer
       begins_as start places placed (program_code program).data_objects (first_machine arena start small starts) all.plain
       (starts.statics ∙ is_statics ∙ layers.statics_are) layers.has.labels (layers.has.has start (starts.code ∙ is_code)) in
       does.does layers.lines layers.are layers.has.wide layers.has.each (areas_of start) places (state_of start) input are_bytes begun
-      (λ fuel. never_stuck program accepted input fuel)
+      (λ fuel. accepted_are_never_stuck program accepted input fuel)
 
 -- ---- sizes
 

@@ -4,7 +4,7 @@ use Rattle.core_lines.specs.declared.line.Line.{Line}
 use Rattle.core_lines.specs.Promise.{AreLinesOf}
 use Rattle.core_lines.specs.Relaxed.{wide_in}
 use Rattle.core_lines.specs.Running.{data_offsets}
-use Rattle.core_lines.specs.Statics.{data_bytes, ArePlainData}
+use Rattle.core_lines.specs.Statics.{data_bytes}
 use Rattle.core_meaning.specs.Core as core
 use Rattle.rv32_layout.specs.declared.fault.LayoutFault.{LayoutFault}
 use Rattle.cyc_image.specs.Format.{data_limit}
@@ -53,9 +53,3 @@ unreachable-requires c =
     let large = c.in-Err-TooLarge-data.ensures.too_large.0 (ap (λ (f : LayoutFault). Err f) c.in-Err-TooLarge-data.field-0-is) in
     data_fit c.args.checked.now c.in_ok-core.ensures.accepted c.in_ok-core.ensures.few
     (subst (λ (p : core.Program). data_limit < length (data_bytes (data_offsets p.data_objects) 0 p.data_objects)) c.in_ok-core.ensures.code large)
-
-pub data-requires : goal.data-requires
-data-requires c =
-    let made = c.in_ok-core.ensures in
-    let all = accepted_do c.args.checked.now made.accepted made.few in
-    record { plain = subst (λ (p : core.Program). ArePlainData (data_offsets p.data_objects) p.data_objects) (sym made.code) all.plain }

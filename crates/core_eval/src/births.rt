@@ -91,7 +91,7 @@ impl Memory {
     }
 
     /// A region that isn't freed or closed gets a block of so many elements of a layout, which hold nothing as yet: where the block begins. Fails
-    /// only where no host memory is left, or the block would have a cell behind 2^32 - 1 bytes.
+    /// only where no host memory is left.
     pub fn allocate(
         &mut self,
         alloc: Global,

@@ -4,6 +4,7 @@ ghost use Rattle.std.specs.Prelude.{◌≡◌, ◌+◌, ◌*◌, map, slice_get,
 ghost use Rattle.core_eval.specs.Leading.{lies_among, lies_in};
 ghost use Rattle.core_eval.specs.LongBlocks.{has_far, is_long, long_block_of, with_long_block};
 
+use crate::object::offset_in;
 use cyc_core::{CellLayout, Layout};
 use std::alloc::{AllocError, Global};
 
@@ -56,13 +57,6 @@ fn cell_at(cells: &[CellLayout], cell: u64) -> Option<CellLayout>
         Some(layout) => Some(*layout),
         None => None,
     }
-}
-
-/// How many bytes of the object lie before a byte of the element with this number, of so many bytes.
-fn offset_in(element: u32, bytes: u32, byte: u32) -> u64
-    ensures { result ≡ element * bytes + byte }
-{
-    u64::from(element) * u64::from(bytes) + u64::from(byte)
 }
 
 /// As many cells.

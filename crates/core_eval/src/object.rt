@@ -1,6 +1,6 @@
 // How objects begin.
 
-ghost use Rattle.std.specs.Prelude.{◌≡◌, ◌++◌, ◌∷◌, [], false, true, map, vec_len, IfOk, OnOk};
+ghost use Rattle.std.specs.Prelude.{◌≡◌, ◌+◌, ◌*◌, ◌++◌, ◌∷◌, [], false, true, map, vec_len, IfOk, OnOk};
 ghost use Rattle.core_eval.specs.Values.{cells_of};
 ghost use Rattle.core_eval.specs.Elements.{blank_object, block_cells, char_slot, first_element, first_object, held_first, scalar, slot_from, text_cells};
 
@@ -8,6 +8,13 @@ use crate::held::{Bound, Held};
 use crate::value::{Area, Object, Place, Slot, Value};
 use cyc_core::{Cell, CellLayout, Datum, Layout, Local};
 use std::alloc::{AllocError, Global};
+
+/// How many bytes of the object lie before a byte of the element with this number, of so many bytes.
+pub fn offset_in(element: u32, bytes: u32, byte: u32) -> u64
+    ensures { result ≡ element * bytes + byte }
+{
+    u64::from(element) * u64::from(bytes) + u64::from(byte)
+}
 
 /// An object of one cell.
 fn scalar(held: Held) -> Object
@@ -28,37 +35,34 @@ fn held_first(is_begun: bool, cell: Cell) -> Held
     if is_begun { first } else { first.blanked() }
 }
 
-/// A cell of an element that lies so many bytes on. Fails only where the cell would lie behind 2^32 - 1 bytes.
-fn slot_from(is_begun: bool, from: u32, cell: CellLayout) -> Result<Slot, AllocError>
-    ensures { IfOk result (λ slot. slot ≡ slot_from is_begun from cell) }
+/// A cell of the element with this number, of so many bytes.
+fn slot_from(is_begun: bool, element: u32, bytes: u32, cell: CellLayout) -> Slot
+    ensures { result ≡ slot_from is_begun (element * bytes) cell }
 {
-    match from.checked_add(cell.offset) {
-        Some(offset) => Ok(Slot {
-            offset,
-            padding: cell.padding,
-            held: held_first(is_begun, cell.cell),
-        }),
-        None => Err(AllocError),
+    Slot {
+        offset: offset_in(element, bytes, cell.offset),
+        padding: cell.padding,
+        held: held_first(is_begun, cell.cell),
     }
 }
 
-/// An element more, which lies so many bytes on.
+/// The element with this number more, of so many bytes.
 fn push_element(
     slots: &mut Vec<Slot>,
     is_begun: bool,
-    from: u32,
+    element: u32,
+    bytes: u32,
     cells: &[CellLayout],
 ) -> Result<(), AllocError>
-    ensures { OnOk result (slots.new.items ≡ slots.old.items ++ map (slot_from is_begun from) cells.now) }
+    ensures { OnOk result (slots.new.items ≡ slots.old.items ++ map (slot_from is_begun (element * bytes)) cells.now) }
 {
     'each: for cell in cells {
-        slots.push(slot_from(is_begun, from, *cell)?)?;
+        slots.push(slot_from(is_begun, element, bytes, *cell))?;
     }
     Ok(())
 }
 
-/// The cells of so many elements of a layout, which hold what they begin as, or nothing as yet. Fails only where no host memory is left,
-/// or there would be a cell behind 2^32 - 1 bytes.
+/// The cells of so many elements of a layout, which hold what they begin as, or nothing as yet. Fails only where no host memory is left.
 pub fn block_cells(
     alloc: Global,
     is_begun: bool,
@@ -70,10 +74,7 @@ pub fn block_cells(
     let cells: &[CellLayout] = &layout.cells;
     let mut slots = Vec::with_capacity(alloc, cells.len().saturating_mul(count as usize))?;
     'each: for element in 0..count {
-        let Some(from) = element.checked_mul(layout.bytes) else {
-            return Err(AllocError);
-        };
-        push_element(&mut slots, is_begun, from, cells)?;
+        push_element(&mut slots, is_begun, element, layout.bytes, cells)?;
     }
     Ok(slots)
 }
@@ -104,15 +105,12 @@ pub fn blank_objects(alloc: Global, locals: &[Local]) -> Result<Vec<Object>, All
     Ok(objects)
 }
 
-/// A char of a string more, right behind the others. Fails only where no host memory is left, or it would lie behind 2^32 - 1 bytes.
+/// A char of a string more, right behind the others. Fails only where no host memory is left.
 fn push_char(slots: &mut Vec<Slot>, byte: u8) -> Result<(), AllocError>
     ensures { OnOk result (slots.new.items ≡ slots.old.items ++ char_slot (vec_len slots.old) byte ∷ []) }
 {
-    let Ok(offset) = u32::try_from(slots.len()) else {
-        return Err(AllocError);
-    };
     slots.push(Slot {
-        offset,
+        offset: slots.len() as u64,
         padding: 0,
         held: Held::Byte(Value::Word(u32::from(byte))),
     })?;

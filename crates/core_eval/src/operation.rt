@@ -207,7 +207,7 @@ fn element<'p>(
 }
 
 /// Gives a temporary the part at a distance from where another one points. Fails only where no host memory is left, there would be a cell
-/// with a number over 2^64 - 1, or the part is a byte behind the first part of its cell, of which nothing is kept.
+/// with a number over 2^64 - 1 or a byte behind that, or the part is a byte behind the first part of its cell, of which nothing is kept.
 fn load<'p>(
     frame: &mut Frame,
     memory: &Memory,
@@ -226,7 +226,7 @@ fn load<'p>(
         return Err(AllocError);
     }
     let cell = further(place.cell, distance.cells)?;
-    let byte = u64::from(place.byte) + u64::from(distance.bytes);
+    let byte = further(place.byte, distance.bytes)?;
     match value_of(
         memory.slot(place.area, place.object, cell),
         byte,
@@ -260,7 +260,7 @@ fn store<'p>(
         return Err(AllocError);
     }
     let cell = further(place.cell, distance.cells)?;
-    let byte = u64::from(place.byte) + u64::from(distance.bytes);
+    let byte = further(place.byte, distance.bytes)?;
     if memory.put_to(place, cell, byte, distance.part, distance.width, value) {
         return Ok(Due::Go(Now::Leave(Flow::Falls)));
     }
@@ -316,9 +316,8 @@ fn putchar<'p>(frame: &Frame, to: Temporary, from: Temporary) -> Due<'p>
     }
 }
 
-/// The move of an operation. Fails only where no host memory is left, there would be a cell with a number over 2^64 - 1 or a byte behind
-/// 2^32 - 1, a pointer would lead 2^25 bytes or further into an object of a block or a function that is left, or a part is read or stored of
-/// which nothing is kept.
+/// The move of an operation. Fails only where no host memory is left, over 2^64 - 1 cells or bytes would lie before a place, a pointer would lead
+/// 2^25 bytes or further into an object of a block or a function that is left, or a part is read or stored of which nothing is kept.
 pub fn operate<'p>(
     alloc: Global,
     operation: Operation,

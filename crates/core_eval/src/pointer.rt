@@ -80,7 +80,7 @@ fn lies_far(memory: &Memory, place: Place) -> Result<bool, AllocError>
             region,
             place.object,
             place.cell,
-            u64::from(place.byte),
+            place.byte,
         )),
         Area::Block(_) | Area::Own(_) => {
             if memory.is_held(place.area) {
@@ -93,8 +93,8 @@ fn lies_far(memory: &Memory, place: Place) -> Result<bool, AllocError>
 }
 
 /// The place so many cells and so many bytes on, if a pointer may lead there: where that is less than too far from where its object begins, or
-/// a cell lies there. Fails only where there would be a cell with a number over 2^64 - 1 or a byte behind 2^32 - 1, or the block or the function
-/// that had the object is left.
+/// a cell lies there. Fails only where over 2^64 - 1 cells or bytes would lie before it, or the block or the function that had the object
+/// is left.
 pub fn lead_on(
     memory: &Memory,
     place: Place,
@@ -107,14 +107,11 @@ pub fn lead_on(
     let Some(cell) = place.cell.checked_add(cells) else {
         return Err(AllocError);
     };
-    let Some(byte) = u64::from(place.byte).checked_add(bytes) else {
+    let Some(byte) = place.byte.checked_add(bytes) else {
         return Err(AllocError);
     };
-    if byte > u64::from(u32::MAX) {
-        return Err(AllocError);
-    }
     let there = Place {
-        byte: byte as u32,
+        byte,
         cell,
         ..place
     };

@@ -72,8 +72,7 @@ pub enum Region {
     Freed,
 }
 
-/// A block more, of so many elements of a layout, which hold nothing as yet: how many there were before. Fails only where no host memory
-/// is left, or the block would have a cell behind 2^32 - 1 bytes.
+/// A block more, of so many elements of a layout, which hold nothing as yet: how many there were before. Fails only where no host memory is left.
 pub fn push_block(
     alloc: Global,
     objects: &mut Vec<Object>,

@@ -211,12 +211,12 @@ fn pay_unit<'p, R: Input, W: Output>(
 /// Ends as the definition does: with the program's status, with `Running` where a unit is due and none is left, or
 /// `Stuck`. `WriteFault` comes in place of any other ending, where a write failed or took no byte; `ReadFault` where a
 /// read failed; `HostMemory` where the host has no memory for what is still to be done or for a block of a region,
-/// 2^64 - 1 blocks or functions were entered, a pointer would lead to a cell with a number over 2^64 - 1 or to a byte
-/// behind 2^32 - 1, an object would have a cell behind 2^32 - 1 bytes, or a program that no source becomes would lead a
-/// pointer 2^25 bytes or further into an object of a block or a function that was left, store or return a pointer as a
-/// count, an index or a tag, copy or clear a tagged union as what is none or what is none as a tagged union, or reach a
-/// byte behind the first part of a cell. After a failed call neither device is called again. Output is written when 4,096
-/// bytes are gathered, before each read and at each ending. Each byte that is taken from the reader was asked for.
+/// 2^64 - 1 blocks or functions were entered, or a program that no source becomes would lead a pointer to a cell with a
+/// number over 2^64 - 1, to a byte behind that, or 2^25 bytes or further into an object of a block or a function that
+/// was left, store or return a pointer as a count, an index or a tag, copy or clear a tagged union as what is none or
+/// what is none as a tagged union, or reach a byte behind the first part of a cell. After a failed call neither device
+/// is called again. Output is written when 4,096 bytes are gathered, before each read and at each ending. Each byte that
+/// is taken from the reader was asked for.
 pub fn evaluate_core<R: Input, W: Output>(
     alloc: Global,
     program: &Program,

@@ -30,7 +30,7 @@ pub struct Place {
     /// The number of the object there.
     pub object: usize,
     /// How many bytes of the object lie before.
-    pub byte: u32,
+    pub byte: u64,
     /// The number of the cell in the object.
     pub cell: u64,
 }
@@ -54,7 +54,7 @@ pub enum Value {
 #[derive(Clone, Copy)]
 pub struct Slot {
     /// How many bytes of the object lie before it.
-    pub offset: u32,
+    pub offset: u64,
     /// How many bytes behind its parts hold nothing.
     pub padding: u32,
     /// What it holds.
@@ -197,7 +197,9 @@ fn is_fit(byte: u64, part: u32, width: Width, slot: Slot) -> bool
     ensures { result ≡ is_fit byte part width slot }
 {
     let own = slot.held.width();
-    u64::from(slot.offset) + u64::from(part) * bytes_of(own) == byte && is_same(own, width)
+    slot.offset <= byte
+        && byte - slot.offset == u64::from(part) * bytes_of(own)
+        && is_same(own, width)
 }
 
 /// Whether the part of a cell with this number may be one that has a value: behind the first part of a cell a byte is one that holds nothing.
@@ -254,11 +256,11 @@ pub fn fill_in(
     }
 }
 
-/// The number of a cell so many cells further on. Fails only where that is over 2^64 - 1.
-pub fn further(cell: u64, cells: u32) -> Result<u64, AllocError>
-    ensures { IfOk result (λ n. n ≡ cell + cells) }
+/// How many cells or bytes lie before what lies so many further on. Fails only where that is over 2^64 - 1.
+pub fn further(before: u64, by: u32) -> Result<u64, AllocError>
+    ensures { IfOk result (λ n. n ≡ before + by) }
 {
-    match cell.checked_add(u64::from(cells)) {
+    match before.checked_add(u64::from(by)) {
         Some(sum) => Ok(sum),
         None => Err(AllocError),
     }

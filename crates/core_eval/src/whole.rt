@@ -56,12 +56,13 @@ fn has_parts(own: Held, padding: u32, held: Held, behind: u32) -> bool
 }
 
 /// Whether there is a cell that lies where a layout has it, from a byte on, and is made as it.
-fn is_cell(slot: Option<Slot>, byte: u32, cell: CellLayout) -> bool
+fn is_cell(slot: Option<Slot>, byte: u64, cell: CellLayout) -> bool
     ensures { result ≡ is_cell slot byte cell }
 {
     match slot {
         Some(slot) => {
-            u64::from(slot.offset) == u64::from(byte) + u64::from(cell.offset)
+            byte <= slot.offset
+                && slot.offset - byte == u64::from(cell.offset)
                 && has_parts(
                     slot.held,
                     slot.padding,
@@ -120,14 +121,14 @@ fn are_laid(memory: &Memory, place: Place, cells: &[CellLayout]) -> Result<bool,
     }
 }
 
-/// The place behind an element with so many cells and bytes. Fails only where that has over 2^64 - 1 cells or 2^32 - 1 bytes before it.
+/// The place behind an element with so many cells and bytes. Fails only where that has over 2^64 - 1 cells or bytes before it.
 fn next_element(place: Place, cells: usize, bytes: u32) -> Result<Place, AllocError>
     ensures { IfOk result (λ next. next
         ≡ record { area = place.area; object = place.object; byte = place.byte + bytes; cell = place.cell + cells }) }
 {
     match (
         place.cell.checked_add(cells as u64),
-        place.byte.checked_add(bytes),
+        place.byte.checked_add(u64::from(bytes)),
     ) {
         (Some(cell), Some(byte)) => Ok(Place {
             byte,
@@ -138,8 +139,8 @@ fn next_element(place: Place, cells: usize, bytes: u32) -> Result<Place, AllocEr
     }
 }
 
-/// Whether a place leads to so many elements of a layout. Fails only where a place behind one of them has over 2^64 - 1 cells or
-/// 2^32 - 1 bytes before it, or a cell lies as one of theirs and may have a pointer in another part.
+/// Whether a place leads to so many elements of a layout. Fails only where a place behind one of them has over 2^64 - 1 cells or bytes before it,
+/// or a cell lies as one of theirs and may have a pointer in another part.
 fn has_elements(
     memory: &Memory,
     place: Place,

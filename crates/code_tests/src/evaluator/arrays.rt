@@ -25,10 +25,10 @@ data_address 0 0
 element 2 0 1 2 8; constant 1 1; return 1
 end
 --
-# a pointer goes on below 2^25 bytes, whether or not an object is there, and no further where none is; no byte has a number over 2^32 - 1
+# a pointer goes on below 2^25 bytes, whether or not an object is there, and no further where none is
 Ended(1) <- constant 1 0x3fffff
 Stuck <- constant 1 0x400000
-HostMemory <- constant 1 0xffffffff
+Stuck <- constant 1 0xffffffff
 
 function 0
 block; with_word

@@ -33,6 +33,7 @@ Stuck <- key_close 0; key_free 0; load 1 2
 Stuck <- key_new 3; region_words 2 3 1
 Stuck <- key_new 3; key_close 3
 # a pointer goes on to where a cell lies 2^25 bytes on or further, also where the region is closed or freed, and no further where none does
+Ended(7) <- constant 3 300; region_wide 4 0 3; constant 5 299; element 6 4 5 1 0x1000000; store 6 1; constant 1 7; store 6 1; constant 1 0; load 1 6
 Ended(1) <- constant 3 3; region_wide 4 0 3; key_close 0; constant 5 2; element 6 4 5 1 0x1000000; offset 6 6 0 0; key_free 0; element 6 4 5 1 0x1000000
 Ended(1) <- constant 3 3; region_wide 4 0 3; key_close 0; constant 5 1; element 6 4 5 1 0x1ffffff; key_free 0; element 6 4 5 3 0x1ffffff
 Stuck <- constant 3 3; region_wide 4 0 3; constant 5 3; element 6 4 5 1 0x1000000

@@ -1,4 +1,4 @@
-use Rattle.std.proofs.Common.{◌≡◌, ℕ, ◌*◌, ◌<◌, ◌++◌, map, ap, ◌∙◌, rules}
+use Rattle.std.proofs.Common.{◌*◌, ◌<◌, rules}
 use Rattle.core_eval.specs.Elements.{slot_from}
 use Rattle.core_eval.proofs.Elements.{element_pushed}
 use Rattle.core_eval.proofs.object.block_cells.Goals as goal
@@ -9,8 +9,7 @@ each-preserved c =
     let cells = c.deref-cells.result.now in
     let slots = c.each.slots.items in
     let within : c.each.element < c.args.count = search rules in
-    let at : c.in-Some.from ≡ c.each.element * c.args.layout.now.bytes = search rules in
     record {
       whole = element_pushed (λ n. slot_from begun (n * c.args.layout.now.bytes)) cells c.each.element c.args.count slots _ _ within
-          (c.in_ok-push_element.ensures ∙ ap (λ (n : ℕ). slots ++ map (slot_from begun n) cells) at) c.each.invariant.whole;
+          c.in_ok-push_element.ensures c.each.invariant.whole;
     }

@@ -1,6 +1,6 @@
 use Rattle.std.proofs.Common.{◌≤◌, arith}
 use Rattle.std.proofs.lemmas.Nat.{mul-le}
-use Rattle.core_eval.proofs.long_block.offset_in.Goals as goal
+use Rattle.core_eval.proofs.object.offset_in.Goals as goal
 
 pub overflow_add-result : goal.overflow_add-result
 overflow_add-result c =

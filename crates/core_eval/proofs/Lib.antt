@@ -27,6 +27,7 @@ mod WholeMoves
 mod Answered
 mod RegionAnswers
 mod EnterMoves
+mod Follows
 mod BlockMoves
 mod LeaveMoves
 mod Entered

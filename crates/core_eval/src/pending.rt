@@ -27,8 +27,6 @@ pub enum Flow {
 pub enum Now<'p> {
     /// These statements are executed.
     Follow(&'p [Statement]),
-    /// A statement is executed.
-    Execute(&'p Statement),
     /// A statement was left, and what waits for that goes on.
     Leave(Flow),
 }

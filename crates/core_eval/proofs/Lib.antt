@@ -30,6 +30,7 @@ mod EnterMoves
 mod Follows
 mod BlockMoves
 mod LeaveMoves
+mod Returning
 mod Entered
 mod Taken
 mod Globals

@@ -89,7 +89,6 @@ abbrev pub exit_of : code_flow.Flow → Exit
 exit_of flow.Falls = steps.Falls
 exit_of flow.Breaks = steps.Breaks
 exit_of flow.Continues = steps.Continues
-exit_of (flow.Returns v) = steps.Returns (optional_value v)
 
 abbrev pub task_of : code_now.Now → Task
 task_of (now.Follow ss) = Follow (body_tree ss.now)

@@ -18,6 +18,7 @@ use crate::object::blank_objects;
 use crate::operation::operate;
 use crate::pending::{Due, Flow, Now, Pending, Returned};
 use crate::request::{allocate, allocate_unique};
+use crate::take::leave_function;
 use crate::value::Value;
 use crate::whole::{clear, copy};
 use cyc_core::{Local, Statement, Temporary, Words};
@@ -216,7 +217,8 @@ pub fn enter_statement<'p>(
             Ok(Due::Call(*result, *function, values))
         }
         Statement::Return(words) => {
-            Ok(Due::Go(Now::Leave(Flow::Returns(returned(frame, *words)?))))
+            let values = returned(frame, *words)?;
+            leave_function(values, stack, frame, memory)
         }
         Statement::Raise(kind) => Ok(Due::Raised(*kind)),
     }

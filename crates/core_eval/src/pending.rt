@@ -13,13 +13,12 @@ pub enum Returned {
     Three(Value, Bound, Bound),
 }
 
-/// How a statement is left.
+/// How a statement is left, where its function isn't.
 #[derive(Clone, Copy)]
 pub enum Flow {
     Falls,
     Breaks,
     Continues,
-    Returns(Option<Returned>),
 }
 
 /// What is done next.

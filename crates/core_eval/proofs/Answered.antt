@@ -1,35 +1,6 @@
 -- From what the code of an operation answers to a move.
 use Rattle.std.specs.Prelude.{slice_index_or, slice_set, if◌then◌else◌}
-use Rattle.std.proofs.Common.{
-  ◌≡◌,
-  ℕ,
-  zero,
-  suc,
-  ◌+◌,
-  ◌<◌,
-  Bool,
-  true,
-  false,
-  Option,
-  Some,
-  None,
-  List,
-  [],
-  ◌∷◌,
-  length,
-  map,
-  Result,
-  Ok,
-  Err,
-  IfOk,
-  OnOk,
-  refl,
-  ap,
-  ◌∙◌,
-  sym,
-  subst,
-  arith,
-}
+use Rattle.std.proofs.Common.{◌≡◌, ℕ, zero, suc, ◌+◌, ◌<◌, Bool, true, Option, Some, None, List, [], ◌∷◌, length, map, Result, Ok, Err, IfOk, OnOk, refl, ap, ◌∙◌, sym, subst, arith}
 use Rattle.core_meaning.specs.Memory.{Content}
 use Rattle.core_meaning.specs.Core as core
 use Rattle.core_meaning.specs.Steps as steps

@@ -1,36 +1,15 @@
 -- The first move of each statement.
 use Rattle.std.specs.Prelude.{if◌then◌else◌, nat_eq, not}
-use Rattle.std.proofs.Common.{◌≡◌, ℕ, ◌+◌, ◌≤◌, Bool, true, false, Option, Some, None, List, [], ◌∷◌, map, refl, ap, ◌∙◌, sym, arith}
-use Rattle.step_trees.specs.Trees as trees
-use Rattle.cyc_words.specs.declared.faults.Kind.{Kind}
+use Rattle.std.proofs.Common.{◌≡◌, ℕ, ◌+◌, ◌≤◌, Bool, true, false, Option, Some, None, List, ◌∷◌, refl, ap, ◌∙◌, sym, arith}
 use Rattle.core_meaning.specs.Memory.{Content}
 use Rattle.core_meaning.specs.Core as core
 use Rattle.core_meaning.specs.Core.{Statements, NoStatements, MoreStatements}
-use Rattle.core_meaning.specs.Steps as steps
-use Rattle.core_meaning.specs.Steps.{Config, Exit, Step, stuck}
-use Rattle.core_meaning.specs.Meaning.{branch, values_of}
+use Rattle.core_meaning.specs.Steps.{Config, Step, stuck}
+use Rattle.core_meaning.specs.Meaning.{branch}
 use Rattle.core_eval.specs.declared.value.Value.{Value}
 use Rattle.core_eval.specs.declared.value.Value.TheVariants as value
-use Rattle.core_eval.specs.Values.{content_of, temp_of, truth_of, AreRead}
-use Rattle.core_eval.specs.Pendings.{
-  Task,
-  Follow,
-  Execute,
-  Leave,
-  Wait,
-  Then,
-  Test,
-  Breakable,
-  Next,
-  Go,
-  CallDue,
-  Raised,
-  Wrong,
-  Mark,
-  rest_of,
-  coming,
-  returned_to,
-}
+use Rattle.core_eval.specs.Values.{content_of, temp_of, truth_of}
+use Rattle.core_eval.specs.Pendings.{Task, Follow, Execute, Wait, Breakable, Next, Go, Wrong, Mark, rest_of, coming}
 use Rattle.core_eval.specs.Standing.{Known, Agrees}
 use Rattle.core_eval.specs.Costs.{next_cost, task_cost, waits_cost, IsMove}
 use Rattle.core_eval.proofs.Moves.{all_stand, goes_here}

@@ -8,7 +8,7 @@ use Rattle.core_meaning.specs.Memory.{Own, Born, Dead, Content, Memory, is_live,
 use Rattle.core_meaning.specs.Core.{Statements}
 use Rattle.core_meaning.specs.Steps as steps
 use Rattle.core_meaning.specs.Steps.{Config, set_temp, with_temp, with_memory, Exit, Step, stuck}
-use Rattle.core_meaning.specs.Meaning.{with_results, left_by, status_of}
+use Rattle.core_meaning.specs.Meaning.{with_results, status_of}
 use Rattle.core_eval.specs.declared.value.Value.{Value}
 use Rattle.core_eval.specs.declared.value.Value.TheVariants as value
 use Rattle.core_eval.specs.declared.pending.Returned.{Returned}
@@ -152,6 +152,18 @@ module _ (known : Known) (ws : List Wait) where
         same_state (Leave (steps.Returns vs)) (Body test flag body ∷ ws) (Go (Leave (steps.Returns vs))) ws known
         (λ main marks c h. (behind (Body test flag body) known ws marks c h (λ n. n) (λ n. n), refl)) (omega arith)
 
+  -- ---- what waits within a function that returns
+
+  pub then_returns : (ss : Statements) (vs : List Content) → IsMove (Leave (steps.Returns vs)) (Then ss ∷ ws) known (Go (Leave (steps.Returns vs))) ws known
+  then_returns ss vs =
+      same_state (Leave (steps.Returns vs)) (Then ss ∷ ws) (Go (Leave (steps.Returns vs))) ws known
+      (λ main marks c h. (behind (Then ss) known ws marks c h (λ n. n) (λ n. n), refl)) (omega arith)
+
+  pub breakable_returns : (vs : List Content) → IsMove (Leave (steps.Returns vs)) (Breakable ∷ ws) known (Go (Leave (steps.Returns vs))) ws known
+  breakable_returns vs =
+      same_state (Leave (steps.Returns vs)) (Breakable ∷ ws) (Go (Leave (steps.Returns vs))) ws known
+      (λ main marks c h. (behind Breakable known ws marks c h (λ n. n) (λ n. n), refl)) (omega arith)
+
   -- ---- the caller goes on
 
   module _ (results : List ℕ) (f : ℕ) (saved : Saved) where
@@ -273,6 +285,13 @@ module _ (known : Known) (ws : List Wait) where
   }
 
 -- ---- `main` is left
+
+-- without a return
+pub main_wrong : (known : Known) (exit : Exit) → IsNoReturn exit → IsMove (Leave exit) [] known Wrong [] known
+main_wrong known steps.Falls h = same_state (Leave steps.Falls) [] Wrong [] known (λ main marks c k. (k, refl)) (omega arith)
+main_wrong known steps.Breaks h = same_state (Leave steps.Breaks) [] Wrong [] known (λ main marks c k. (k, refl)) (omega arith)
+main_wrong known steps.Continues h = same_state (Leave steps.Continues) [] Wrong [] known (λ main marks c k. (k, refl)) (omega arith)
+main_wrong known (steps.Returns vs) h = absurd h
 
 -- what comes of the word that it returned
 abbrev pub ends_as : Option ℕ → Next

@@ -27,8 +27,10 @@ mod WholeMoves
 mod Answered
 mod RegionAnswers
 mod EnterMoves
+mod Follows
 mod BlockMoves
 mod LeaveMoves
+mod Returning
 mod Entered
 mod Taken
 mod Globals

@@ -12,7 +12,8 @@ use Rattle.core_eval.specs.declared.value.Value.TheVariants as value
 use Rattle.core_eval.specs.declared.held.Held.{Held}
 use Rattle.core_eval.specs.declared.blocks.Block.{Block}
 use Rattle.core_eval.specs.declared.value.Object.{Object}
-use Rattle.core_eval.specs.Values.{content_of, temp_of, cells_of, put_cell, put_object, put_in}
+use Rattle.core_eval.specs.declared.value.Slot.{Slot}
+use Rattle.core_eval.specs.Values.{content_of, temp_of, cells_of, with_held, fitted, is_fit, put_part, put_slot, put_within, put_cell, put_object, put_in}
 use Rattle.core_eval.specs.Blocks.{activation_of, put_block, put_among, put_through}
 use Rattle.core_eval.specs.Whole.{fill_cells, fill_object, fill_in, fill_among, fill_through}
 
@@ -146,6 +147,23 @@ module _ (os : List Object) (i k byte j : ℕ) (w : Width) (v : Value) where
 
   pub put_object_none : length os ≤ i → put_in (map cells_of os) i k byte j w v ≡ None
   put_object_none h = ap (put_object (map cells_of os) i k byte j w v) (get_past (map cells_of os) i (let e = length-map os cells_of in omega (arith, h, e)))
+
+-- ---- a store to a cell
+
+module _ (cells : List Slot) (k byte j : ℕ) (w : Width) (v : Value) (s : Slot) where
+  put_slot_is : (fits : Bool) (held : Option Held)
+      → (if fits then option_map (λ h. slice_set cells k (with_held s h)) held else None)
+      ≡ option_map (slice_set cells k) (if fits then option_map (with_held s) held else None)
+  put_slot_is true None = refl
+  put_slot_is true (Some h) = refl
+  put_slot_is false held = refl
+
+  pub put_cell_some : (new : Slot) (is_put : Bool) → slice_get cells k ≡ Some s → put_within s byte j w v ≡ (if is_put then Some new else None)
+      → put_cell cells k byte j w v ≡ (if is_put then Some (slice_set cells k new) else None)
+  put_cell_some new true there put =
+      ap (put_slot cells k byte j w v) there ∙ put_slot_is (is_fit byte j w s) (put_part s.held j (fitted w v)) ∙ ap (option_map (slice_set cells k)) put
+  put_cell_some new false there put =
+      ap (put_slot cells k byte j w v) there ∙ put_slot_is (is_fit byte j w s) (put_part s.held j (fitted w v)) ∙ ap (option_map (slice_set cells k)) put
 
 -- ---- cells that get other values
 

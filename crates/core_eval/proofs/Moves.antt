@@ -8,7 +8,7 @@ use Rattle.core_meaning.specs.Steps.{Config, Event, Visible, Exit, Step, stuck}
 use Rattle.core_meaning.specs.Operations.{does, says}
 use Rattle.core_eval.specs.Pendings.{Execute, Leave, Wait, Next, Go, Wrong, Mark, rest_of, coming}
 use Rattle.core_eval.specs.Standing.{Known, Agrees, saying, IsSilent, AreAllSilent, Stands, StandsStill}
-use Rattle.core_eval.specs.Costs.{next_cost, IsMove}
+use Rattle.core_eval.specs.Costs.{IsMove}
 
 pub saying_both : (first second : List Event) (s : Step) → saying first (saying second s) ≡ saying (first ++ second) s
 saying_both [] second s = refl

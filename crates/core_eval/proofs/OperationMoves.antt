@@ -1,20 +1,18 @@
 -- Each operation, as the evaluator does it.
 use Rattle.std.specs.Prelude.{if◌then◌else◌, nat_eq}
 use Rattle.std.proofs.Common.{◌≡◌, ℕ, ◌%◌, ◌^◌, ◌<◌, Bool, Option, Some, None, List, refl, ap, ◌∙◌, sym, arith}
-use Rattle.cyc_words.specs.Events as events
-use Rattle.step_trees.specs.Trees.{Pays}
 use Rattle.core_meaning.specs.Memory as memory
 use Rattle.core_meaning.specs.Memory.{Content, Born, Spot, Part, Pointer, with_part, beyond}
 use Rattle.core_meaning.specs.Core as core
 use Rattle.core_meaning.specs.Words.{truth, two}
 use Rattle.core_meaning.specs.Steps as steps
 use Rattle.core_meaning.specs.Steps.{Config, with_temp, with_memory, Step, stuck, word_of, pointer_of, needed, checked}
-use Rattle.core_meaning.specs.Operations.{does, is_null, says}
+use Rattle.core_meaning.specs.Operations.{is_null}
 use Rattle.core_eval.specs.declared.value.Value.{Value}
 use Rattle.core_eval.specs.declared.value.Value.TheVariants as value
 use Rattle.core_eval.specs.Values.{content_of, temp_of, null_of}
 use Rattle.core_eval.specs.Blocks.{global_place}
-use Rattle.core_eval.specs.Pendings.{Execute, Leave, Wait, Go, GetcharDue, PutcharDue, Wrong, Mark}
+use Rattle.core_eval.specs.Pendings.{Execute, Leave, Wait, Go, Wrong, Mark}
 use Rattle.core_eval.specs.Standing.{Known, Agrees, Gives}
 use Rattle.core_eval.specs.Costs.{IsMove}
 use Rattle.core_eval.proofs.Moves.{Becomes, becomes, goes_wrong}

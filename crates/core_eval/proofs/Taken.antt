@@ -30,16 +30,6 @@ pub left_ok : {E : Type 0} (r : Result Due E) (exit : Exit) (ws ws' : List Wait)
 left_ok r exit ws ws' known rest known' same h =
     subst (λ (l : List Wait). IfOk r (λ due. IsMove (Leave exit) l known (next_of due) rest known')) (sym same) h
 
--- for this number of a function, and with what waits and is stored here
-pub for_caller : {E : Type 0} (r : Result Due E) (exit : Exit) (results : List ℕ) (f : ℕ) (saved : Frame) (known : Memory → Known) (rest : List Wait)
-    (known' : Memory → Known) (m m' : Memory) → LeavesCall m m'
-    → IfOk r (λ due. (f : ℕ) (ws : List Wait) (memory after : Memory) → LeavesCall memory after
-    → IsMove (Leave exit) (Caller results f (saved_of saved) ∷ ws) (known memory)
-    (next_of due) ws (known' after))
-    → IfOk r (λ due. IsMove (Leave exit) (Caller results f (saved_of saved) ∷ rest) (known m) (next_of due) rest (known' m'))
-for_caller (Ok due) exit results f saved known rest known' m m' left h = h f rest m m' left
-for_caller (Err e) exit results f saved known rest known' m m' left h = tt
-
 -- what is known where the innermost function is left
 pub left_known : (f g : Frame) (m m' : Memory) → LeavesCall m m'
     → known_of g m' ≡ record (known_of f m) { temps = g.temps.items; base = g.base; owns = drop 1 (map activation_of m.owns.items) }

@@ -28,7 +28,7 @@ use Rattle.core_eval.specs.Costs.{IsMove}
 use Rattle.core_eval.proofs.Memories.{same_number}
 use Rattle.core_eval.proofs.Born.{region_grown}
 use Rattle.core_eval.proofs.Changes.{stored_in, with_stored}
-use Rattle.core_eval.proofs.Moves.{Becomes, becomes_saying, goes_wrong}
+use Rattle.core_eval.proofs.Moves.{Becomes, becomes_saying}
 use Rattle.core_eval.proofs.OperationMoves.{given, agrees_given}
 use Rattle.core_eval.proofs.RegionMoves.{with_birth, birth_agrees}
 use Rattle.core_eval.proofs.TurnMoves.{turn_answer, wrong_answer}

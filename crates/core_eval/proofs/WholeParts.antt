@@ -1,5 +1,5 @@
 -- What the parts of a cell are after a copy, and after a clearing.
-use Rattle.std.specs.Prelude.{if◌then◌else◌, ◌&&◌, nat_eq, nat_lt, map, slice_get, option_map}
+use Rattle.std.specs.Prelude.{if◌then◌else◌, ◌&&◌, nat_lt, map, slice_get, option_map}
 use Rattle.std.proofs.Common.{
   ◌≡◌,
   ℕ,

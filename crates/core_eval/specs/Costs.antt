@@ -1,8 +1,12 @@
 -- How many moves there are at most before a unit is due or the run is over: each move has fewer after it.
-use Rattle.std.specs.Prelude.{ℕ, ◌+◌, ◌≤◌, List, [], ◌∷◌}
+use Rattle.std.specs.Prelude.{◌≡◌, ℕ, ◌+◌, ◌≤◌, List, [], ◌∷◌}
 use Rattle.core_meaning.specs.Core.{Statement, If, While, Block, Leave as LeaveOf, Statements, NoStatements, MoreStatements}
-use Rattle.core_eval.specs.Pendings.{Task, Follow, Execute, Leave, Wait, Then, Body, Next, Go}
-use Rattle.core_eval.specs.Standing.{Known, StandsStill}
+use Rattle.core_meaning.specs.Memory.{Content}
+use Rattle.core_meaning.specs.Steps.{Returns}
+use Rattle.core_eval.specs.declared.frame.Frame.{Frame}
+use Rattle.core_eval.specs.declared.memory.Memory as code
+use Rattle.core_eval.specs.Pendings.{Task, Follow, Execute, Leave, Wait, Then, Body, Caller, Saved, Next, Go}
+use Rattle.core_eval.specs.Standing.{Known, StandsStill, known_of}
 
 abbrev mutual
   pub statement_cost : Statement → ℕ
@@ -39,3 +43,14 @@ next_cost _ = 0
 pub record IsMove (task : Task) (ws : List Wait) (known : Known) (next : Next) (ws' : List Wait) (known' : Known) : Type 0 where
   pub still : StandsStill (Go task) ws known next ws' known'
   pub fewer : next_cost next + waits_cost ws' ≤ task_cost task + waits_cost ws
+
+-- the caller of some function, which has saved this, and whose temporaries get the results
+pub record IsCaller (w : Wait) (results : List ℕ) (saved : Saved) : Type 0 where
+  pub function : ℕ
+  pub is : w ≡ Caller results function saved
+
+-- What waits ends with the function that it is within, whatever that returns.
+abbrev pub EndsWithin : Wait → code.Memory → code.Memory → Type 0
+EndsWithin w m m' =
+    (vs : List Content) (ws : List Wait) (frame : Frame)
+    → IsMove (Leave (Returns vs)) (w ∷ ws) (known_of frame m) (Go (Leave (Returns vs))) ws (known_of frame m')

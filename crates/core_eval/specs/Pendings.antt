@@ -7,12 +7,12 @@ use Rattle.step_trees.specs.Trees.{Stops, Reads, Pays, Calls, Turns}
 use Rattle.core_meaning.specs.Memory as memory
 use Rattle.core_meaning.specs.Memory.{Content, Word}
 use Rattle.core_meaning.specs.Core as core
-use Rattle.core_meaning.specs.Core.{Statements}
+use Rattle.core_meaning.specs.Core.{Statements, NoStatements, MoreStatements}
 use Rattle.core_meaning.specs.Steps as steps
 use Rattle.core_meaning.specs.Steps.{Config, with_temp, with_memory, Exit, Step, stuck}
 use Rattle.core_meaning.specs.Operations.{byte_word, says}
 use Rattle.core_meaning.specs.Meaning.{falls_to, branch, with_results, out_of_block, left_by, after_turn, statement, statements, left, status_of}
-use Rattle.cyc_core.specs.Trees.{optional_tree, statement_tree, body_tree}
+use Rattle.cyc_core.specs.Trees.{optional_tree, body_tree}
 use Rattle.core_eval.specs.declared.value.Value.{Value}
 use Rattle.core_eval.specs.declared.value.Value.TheVariants as value
 use Rattle.core_eval.specs.declared.frame.Frame.{Frame}
@@ -89,11 +89,9 @@ abbrev pub exit_of : code_flow.Flow → Exit
 exit_of flow.Falls = steps.Falls
 exit_of flow.Breaks = steps.Breaks
 exit_of flow.Continues = steps.Continues
-exit_of (flow.Returns v) = steps.Returns (optional_value v)
 
 abbrev pub task_of : code_now.Now → Task
 task_of (now.Follow ss) = Follow (body_tree ss.now)
-task_of (now.Execute s) = Execute (statement_tree s.now)
 task_of (now.Leave f) = Leave (exit_of f)
 
 abbrev pub saved_of : Frame → Saved
@@ -120,6 +118,11 @@ next_of due.Wrong = Wrong
 -- all that waits, the last first
 abbrev pub waits_of : List code_pending.Pending → List Wait
 waits_of ps = reverse (map wait_of ps)
+
+-- the statements after one wait, if there are any
+abbrev pub waits_behind : Statements → List Wait → List Wait
+waits_behind NoStatements ws = ws
+waits_behind (MoreStatements s ss) ws = Then (MoreStatements s ss) ∷ ws
 
 -- ---- what comes after
 

@@ -247,6 +247,10 @@ is_kept j w = nat_eq j 0 || same_width w width.Word
 abbrev pub with_held : Slot → Held → Slot
 with_held s h = record s { held = h }
 
+-- the cell after a store to a part of it, if that lies there and is so wide
+abbrev pub put_within : Slot → (byte j : ℕ) → Width → Value → Option Slot
+put_within s byte j w v = (if is_fit byte j w s then option_map (with_held s) (put_part s.held j (fitted w v)) else None)
+
 -- the cells after a store to a part of one of them, where there is one, and it lies there and is so wide
 abbrev pub put_slot : List Slot → (k byte j : ℕ) → Width → Value → Option Slot → Option (List Slot)
 put_slot cells k byte j w v None = None

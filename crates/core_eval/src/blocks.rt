@@ -2,10 +2,11 @@
 
 ghost use Rattle.std.specs.Prelude.{◌≡◌, ℕ, Some, None, false, if◌then◌else◌, map, OnOk};
 ghost use Rattle.core_eval.specs.Blocks.{Descends, activation_of, position_of, put_through, slot_through};
+ghost use Rattle.core_eval.specs.Values.{value_of};
 ghost use Rattle.core_eval.specs.Whole.{fill_through};
 
 use crate::held::Held;
-use crate::value::{Object, Slot, Value, fill_in, put_in, slot_in};
+use crate::value::{Object, Slot, Value, fill_in, put_in, slot_in, value_in};
 use cyc_core::Width;
 use std::alloc::{AllocError, Global};
 use std::collections::VecDeque;
@@ -31,11 +32,29 @@ pub fn position_of(blocks: &VecDeque<Block>, number: u64) -> Option<usize>
 }
 
 /// A cell of an object of the one that stands there.
-pub fn slot_at(blocks: &VecDeque<Block>, position: usize, index: usize, cell: u64) -> Option<Slot>
+fn slot_at(blocks: &VecDeque<Block>, position: usize, index: usize, cell: u64) -> Option<Slot>
     ensures { result ≡ slot_through (map activation_of blocks.now.items) (Some position) index cell }
 {
     match blocks.get(position) {
         Some(block) => slot_in(&block.objects, index, cell),
+        None => None,
+    }
+}
+
+/// What a part of a cell of an object of the one that stands there holds, if there is one that lies so many bytes on and is so wide.
+pub fn value_at(
+    blocks: &VecDeque<Block>,
+    position: usize,
+    index: usize,
+    cell: u64,
+    byte: u64,
+    part: u32,
+    width: Width,
+) -> Option<Value>
+    ensures { result ≡ value_of byte part width (slot_through (map activation_of blocks.now.items) (Some position) index cell) }
+{
+    match blocks.get(position) {
+        Some(block) => value_in(&block.objects, index, cell, byte, part, width),
         None => None,
     }
 }

@@ -1,13 +1,14 @@
 // The first move of each statement.
 
-ghost use Rattle.std.specs.Prelude.{◌≡◌, ◌∷◌, ◌+◌, IfOk, OnOk, map};
+ghost use Rattle.std.specs.Prelude.{◌≡◌, ◌∷◌, ◌+◌, IfOk, OnOk, map, true};
 ghost use Rattle.core_meaning.specs.Meaning.{values_of};
+ghost use Rattle.core_meaning.specs.Steps.{Falls};
 ghost use Rattle.cyc_core.specs.Trees.{body_tree, optional_tree, statement_tree, temporary_tree};
 ghost use Rattle.core_eval.specs.Values.{AreRead, bound_value, content_of, temp_of, truth_of};
 ghost use Rattle.core_eval.specs.Elements.{blank_object};
 ghost use Rattle.core_eval.specs.Blocks.{activation_of};
-ghost use Rattle.core_eval.specs.Pendings.{Block, Breakable, Execute, Follow, Go, Test, next_of, optional_value, wait_of, waits_of};
-ghost use Rattle.core_eval.specs.Standing.{Known, known_of};
+ghost use Rattle.core_eval.specs.Pendings.{Block, Breakable, Execute, Follow, Go, Leave, Test, next_of, optional_value, wait_of, waits_behind, waits_of};
+ghost use Rattle.core_eval.specs.Standing.{known_of};
 ghost use Rattle.core_eval.specs.Costs.{IsMove};
 
 use crate::frame::Frame;
@@ -17,6 +18,7 @@ use crate::object::blank_objects;
 use crate::operation::operate;
 use crate::pending::{Due, Flow, Now, Pending, Returned};
 use crate::request::{allocate, allocate_unique};
+use crate::take::leave_function;
 use crate::value::Value;
 use crate::whole::{clear, copy};
 use cyc_core::{Local, Statement, Temporary, Words};
@@ -28,6 +30,29 @@ pub fn wait<'p>(stack: &mut Vec<Pending<'p>>, pending: Pending<'p>) -> Result<()
 {
     stack.push(pending)?;
     Ok(())
+}
+
+/// Whether a statement is over, and those after it are next.
+fn is_over(due: &Due<'_>) -> bool
+    ensures { result ≡ true → next_of due.entry.now ≡ Go (Leave Falls) }
+{
+    match due {
+        Due::Go(Now::Leave(Flow::Falls)) => true,
+        _ => false,
+    }
+}
+
+/// Puts the statements after one on top of the stack, if there are any.
+fn wait_for_others<'p>(
+    stack: &mut Vec<Pending<'p>>,
+    others: &'p [Statement],
+) -> Result<(), AllocError>
+    ensures { OnOk result (waits_of stack.new.items ≡ waits_behind (body_tree others.entry.now) (waits_of stack.old.items)) }
+{
+    if others.is_empty() {
+        return Ok(());
+    }
+    wait(stack, Pending::Then(others))
 }
 
 /// Puts what waits on top of the stack, and these statements are next.
@@ -192,25 +217,39 @@ pub fn enter_statement<'p>(
             Ok(Due::Call(*result, *function, values))
         }
         Statement::Return(words) => {
-            Ok(Due::Go(Now::Leave(Flow::Returns(returned(frame, *words)?))))
+            let values = returned(frame, *words)?;
+            leave_function(values, stack, frame, memory)
         }
         Statement::Raise(kind) => Ok(Due::Raised(*kind)),
     }
 }
 
-/// The first move of statements that follow one another.
-pub fn enter_statements<'p>(
+/// The moves of statements that follow one another: operations are done here, one after the other, up to a statement of another sort, for whose
+/// end the others wait. Fails only where a first move does, or no host memory is left.
+pub fn follow_statements<'p>(
+    alloc: Global,
     statements: &'p [Statement],
     stack: &mut Vec<Pending<'p>>,
+    frame: &mut Frame,
+    memory: &mut Memory,
 ) -> Result<Due<'p>, AllocError>
-    ensures { IfOk result (λ due. (known : Known) → IsMove (Follow (body_tree statements.entry.now)) (waits_of stack.old.items) known
-        (next_of due) (waits_of stack.new.items) known) }
+    ensures { IfOk result (λ due. IsMove (Follow (body_tree statements.entry.now)) (waits_of stack.old.items) (known_of frame.old memory.old)
+        (next_of due) (waits_of stack.new.items) (known_of frame.new memory.new)) }
 {
-    match statements.split_first() {
-        None => Ok(Due::Go(Now::Leave(Flow::Falls))),
-        Some((statement, others)) => {
-            wait(stack, Pending::Then(others))?;
-            Ok(Due::Go(Now::Execute(statement)))
+    let mut rest = statements;
+    'each: loop {
+        let Some((statement, others)) = rest.split_first() else {
+            return Ok(Due::Go(Now::Leave(Flow::Falls)));
+        };
+        let Statement::Do(operation) = statement else {
+            wait_for_others(stack, others)?;
+            return enter_statement(alloc, statement, stack, frame, memory);
+        };
+        let due = operate(alloc, *operation, frame, memory)?;
+        if !is_over(&due) {
+            wait_for_others(stack, others)?;
+            return Ok(due);
         }
+        rest = others;
     }
 }

@@ -1,6 +1,6 @@
 // What cells hold.
 
-ghost use Rattle.std.specs.Prelude.{◌≡◌, IfSome, slice_get};
+ghost use Rattle.std.specs.Prelude.{◌≡◌, Some, None, IfSome, false, if◌then◌else◌, slice_get};
 ghost use Rattle.core_eval.specs.Values.{
   blanked,
   bound_value,
@@ -159,7 +159,7 @@ impl Held {
     }
 
     /// The same with another value in the part with this number, if there is one, and the value is kept there.
-    pub fn with_part(self, part: u32, value: Value) -> Option<Self>
+    fn with_part(self, part: u32, value: Value) -> Option<Self>
         ensures { result ≡ put_part self part value }
     {
         match (self, part, Bound::kept(value)) {
@@ -183,6 +183,20 @@ impl Held {
                 Some(Held::TaggedFat(tag, first, count, index))
             }
             _ => None,
+        }
+    }
+
+    /// Stores a value to the part with this number, if there is one, and the value is kept there, and answers whether it is.
+    pub fn put(&mut self, part: u32, value: Value) -> bool
+        ensures put { put_part self.old part value ≡ (if result then Some self.new else None) }
+        ensures kept { result ≡ false → self.new ≡ self.old }
+    {
+        match self.with_part(part, value) {
+            Some(held) => {
+                *self = held;
+                true
+            }
+            None => false,
         }
     }
 

@@ -20,12 +20,12 @@ ghost use Rattle.core_eval.specs.Blocks.{
   stored_of,
 };
 
-use crate::blocks::{Block, fill_by, position_of, set_at, set_by, slot_at, slot_by};
+use crate::blocks::{Block, fill_by, position_of, set_at, set_by, slot_by, value_at};
 use crate::held::Held;
 use crate::long_block::LongBlock;
 use crate::object::{blank_objects, first_objects};
 use crate::region::{self, Region};
-use crate::value::{Area, Object, Place, Slot, Value, fill_in, put_in, slot_in, value_of};
+use crate::value::{Area, Object, Place, Slot, Value, fill_in, put_in, slot_in};
 use cyc_core::{Datum, Local, Variable, Width};
 use std::alloc::{AllocError, Global};
 use std::collections::VecDeque;
@@ -155,12 +155,7 @@ impl Memory {
         ensures { result ≡ value_of 0 0 width (local_slot base (map activation_of self.now.blocks.items) variable.out variable.index) }
     {
         match self.own_position(base, variable.out) {
-            Some(position) => value_of(
-                slot_at(&self.blocks, position, variable.index, 0),
-                0,
-                0,
-                width,
-            ),
+            Some(position) => value_at(&self.blocks, position, variable.index, 0, 0, 0, width),
             None => None,
         }
     }

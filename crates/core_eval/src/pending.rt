@@ -13,13 +13,12 @@ pub enum Returned {
     Three(Value, Bound, Bound),
 }
 
-/// How a statement is left.
+/// How a statement is left, where its function isn't.
 #[derive(Clone, Copy)]
 pub enum Flow {
     Falls,
     Breaks,
     Continues,
-    Returns(Option<Returned>),
 }
 
 /// What is done next.
@@ -27,8 +26,6 @@ pub enum Flow {
 pub enum Now<'p> {
     /// These statements are executed.
     Follow(&'p [Statement]),
-    /// A statement is executed.
-    Execute(&'p Statement),
     /// A statement was left, and what waits for that goes on.
     Leave(Flow),
 }

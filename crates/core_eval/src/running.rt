@@ -16,7 +16,7 @@ ghost use Rattle.core_eval.specs.Stages.{Stage};
 
 use crate::call::{enter_call, start};
 use crate::ending::EvalEnding;
-use crate::enter::{enter_statement, enter_statements, follow};
+use crate::enter::{follow, follow_statements};
 use crate::frame::Frame;
 use crate::memory::Memory;
 use crate::operation::give;
@@ -40,8 +40,7 @@ fn step<'p>(
         (next_of due) (waits_of stack.new.items) (known_of frame.new memory.new)) }
 {
     match now {
-        Now::Follow(statements) => enter_statements(statements, stack),
-        Now::Execute(statement) => enter_statement(alloc, statement, stack, frame, memory),
+        Now::Follow(statements) => follow_statements(alloc, statements, stack, frame, memory),
         Now::Leave(flow) => take_flow(flow, stack, frame, memory),
     }
 }

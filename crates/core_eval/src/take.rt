@@ -1,6 +1,7 @@
 // What goes on at the end of a statement.
 
-ghost use Rattle.std.specs.Prelude.{◌≡◌, ◌∷◌, [], ℕ, List, IfOk, OnOk, IfSome, IfNone, map, drop, true, false};
+ghost use Rattle.std.specs.Prelude.{◌≡◌, ◌∷◌, [], ℕ, List, IfOk, OnOk, IfSome, IfNone, true, false};
+ghost use Rattle.core_meaning.specs.Steps.{Returns};
 ghost use Rattle.cyc_core.specs.Trees.{body_tree, optional_tree};
 ghost use Rattle.core_eval.specs.declared.frame.Frame.{Frame as TheFrame};
 ghost use Rattle.core_eval.specs.declared.memory.Memory.{Memory as TheMemory};
@@ -21,7 +22,7 @@ ghost use Rattle.core_eval.specs.Pendings.{
   word_returned,
 };
 ghost use Rattle.core_eval.specs.Standing.{Known, LeavesCall, Takes, are_as_many, known_of};
-ghost use Rattle.core_eval.specs.Costs.{IsMove};
+ghost use Rattle.core_eval.specs.Costs.{EndsWithin, IsCaller, IsMove};
 
 use crate::enter::{enter_loop, truth};
 use crate::frame::Frame;
@@ -77,7 +78,6 @@ fn take_body<'p>(
     match flow {
         Flow::Falls | Flow::Continues => enter_loop(test, flag, body, stack),
         Flow::Breaks => Ok(Due::Go(Now::Leave(Flow::Falls))),
-        Flow::Returns(_) => Ok(Due::Go(Now::Leave(flow))),
     }
 }
 
@@ -96,7 +96,7 @@ fn take_breakable<'p>(flow: Flow) -> Due<'p>
 {
     match flow {
         Flow::Falls | Flow::Breaks => Due::Go(Now::Leave(Flow::Falls)),
-        Flow::Continues | Flow::Returns(_) => Due::Go(Now::Leave(flow)),
+        Flow::Continues => Due::Go(Now::Leave(flow)),
     }
 }
 
@@ -130,27 +130,21 @@ fn take_result(
 
 /// A caller goes on with what it had, and its temporaries get the result, if there is one.
 fn take_caller<'p>(
-    flow: Flow,
+    returned: Option<Returned>,
     to: Option<Words>,
     saved: Frame,
     frame: &mut Frame,
 ) -> Result<Due<'p>, AllocError>
-    ensures { IfOk result (λ due. (f : ℕ) (ws : List Wait) (memory after : TheMemory) → LeavesCall memory after → IsMove (Leave (exit_of flow))
-        (Caller (optional_tree to) f (saved_of saved) ∷ ws) (known_of frame.old memory) (next_of due) ws (known_of frame.new after)) }
+    ensures { IfOk result (λ due. (f : ℕ) (ws : List Wait) (memory after : TheMemory) → LeavesCall memory after
+        → IsMove (Leave (Returns (optional_value returned))) (Caller (optional_tree to) f (saved_of saved) ∷ ws) (known_of frame.old memory)
+        (next_of due) ws (known_of frame.new after)) }
 {
     *frame = saved;
-    match flow {
-        Flow::Returns(returned) => {
-            let fits = take_result(frame, to, returned)?;
-            if fits {
-                Ok(Due::Go(Now::Leave(Flow::Falls)))
-            } else {
-                Ok(Due::Wrong)
-            }
-        }
-        Flow::Falls => Ok(Due::Wrong),
-        Flow::Breaks => Ok(Due::Wrong),
-        Flow::Continues => Ok(Due::Wrong),
+    let fits = take_result(frame, to, returned)?;
+    if fits {
+        Ok(Due::Go(Now::Leave(Flow::Falls)))
+    } else {
+        Ok(Due::Wrong)
     }
 }
 
@@ -165,17 +159,59 @@ fn word_returned(returned: Option<Returned>) -> Option<u32>
 }
 
 /// The status of a program whose `main` is left.
-fn status<'p>(flow: Flow) -> Due<'p>
-    ensures { (known : Known) → IsMove (Leave (exit_of flow)) [] known (next_of result) [] known }
+fn status<'p>(returned: Option<Returned>) -> Due<'p>
+    ensures { (known : Known) → IsMove (Leave (Returns (optional_value returned))) [] known (next_of result) [] known }
 {
-    match flow {
-        Flow::Returns(returned) => match word_returned(returned) {
-            Some(word) => Due::Over(word),
-            None => Due::Wrong,
-        },
-        Flow::Falls => Due::Wrong,
-        Flow::Breaks => Due::Wrong,
-        Flow::Continues => Due::Wrong,
+    match word_returned(returned) {
+        Some(word) => Due::Over(word),
+        None => Due::Wrong,
+    }
+}
+
+/// A function that waits for a call's end: the temporaries that get the result, and what it had.
+#[derive(Drop)]
+struct Waiting {
+    to: Option<Words>,
+    saved: Frame,
+}
+
+/// Ends what waits within a function that returns, as a block with its locals. The answer is the caller, where it is one that waits.
+fn end_within(pending: Pending<'_>, memory: &mut Memory) -> Option<Waiting>
+    ensures caller { IfSome result (λ caller. IsCaller (wait_of pending.entry) (optional_tree caller.to) (saved_of caller.saved)) }
+    ensures same { IfSome result (λ caller. memory.new ≡ memory.old) }
+    ensures within { IfNone result (EndsWithin (wait_of pending.entry) memory.old memory.new) }
+{
+    match pending {
+        Pending::Caller(to, _, saved) => Some(Waiting { to, saved }),
+        Pending::Block => {
+            memory.leave_block();
+            None
+        }
+        Pending::Then(_) => None,
+        Pending::Test(_, _, _) => None,
+        Pending::Body(_, _, _) => None,
+        Pending::Breakable => None,
+    }
+}
+
+/// A function returns: what waits within it ends, and its caller goes on, or the program is over. Fails only where no host memory is left.
+pub fn leave_function<'p>(
+    returned: Option<Returned>,
+    stack: &mut Vec<Pending<'p>>,
+    frame: &mut Frame,
+    memory: &mut Memory,
+) -> Result<Due<'p>, AllocError>
+    ensures { IfOk result (λ due. IsMove (Leave (Returns (optional_value returned))) (waits_of stack.old.items) (known_of frame.old memory.old)
+        (next_of due) (waits_of stack.new.items) (known_of frame.new memory.new)) }
+{
+    'waits: loop {
+        let Some(pending) = next(stack) else {
+            return Ok(status(returned));
+        };
+        if let Some(caller) = end_within(pending, memory) {
+            memory.leave_call();
+            return take_caller(returned, caller.to, caller.saved, frame);
+        }
     }
 }
 
@@ -190,7 +226,7 @@ pub fn take_flow<'p>(
         (next_of due) (waits_of stack.new.items) (known_of frame.new memory.new)) }
 {
     let Some(pending) = next(stack) else {
-        return Ok(status(flow));
+        return Ok(Due::Wrong);
     };
     match (pending, flow) {
         (Pending::Then(others), Flow::Falls) => Ok(Due::Go(Now::Follow(others))),
@@ -199,9 +235,10 @@ pub fn take_flow<'p>(
         (Pending::Body(test, flag, body), _) => take_body(flow, test, flag, body, stack),
         (Pending::Block, _) => Ok(take_block(flow, memory)),
         (Pending::Breakable, _) => Ok(take_breakable(flow)),
-        (Pending::Caller(result, _, saved), _) => {
+        (Pending::Caller(_, _, saved), _) => {
             memory.leave_call();
-            take_caller(flow, result, saved, frame)
+            *frame = saved;
+            Ok(Due::Wrong)
         }
     }
 }

@@ -2,7 +2,7 @@
 
 ghost use Rattle.std.specs.Prelude.{◌≡◌, ◌+◌, IfOk, OnOk, Some, None, false, if◌then◌else◌, map, slice_get, slice_set};
 ghost use Rattle.cyc_core.specs.Trees.{bytes_of};
-ghost use Rattle.core_eval.specs.Values.{cells_of, fitted, is_fit, is_kept, put_cell, put_in, same_width, slot_at, value_of};
+ghost use Rattle.core_eval.specs.Values.{cells_of, fitted, is_fit, is_kept, put_cell, put_in, put_within, same_width, slot_at, value_of};
 ghost use Rattle.core_eval.specs.Whole.{fill_cells, fill_in, fill_slot};
 
 use crate::held::Held;
@@ -61,6 +61,31 @@ pub struct Slot {
     pub held: Held,
 }
 
+impl Slot {
+    /// What the part with this number holds, if there is one that lies so many bytes on and is so wide.
+    fn value(&self, byte: u64, part: u32, width: Width) -> Option<Value>
+        ensures { result ≡ value_of byte part width (Some self.now) }
+    {
+        if is_fit(byte, part, width, self) {
+            self.held.part(part)
+        } else {
+            None
+        }
+    }
+
+    /// Stores a value to the part with this number, if there is one that lies so many bytes on and is so wide, and answers whether there is.
+    fn put(&mut self, byte: u64, part: u32, width: Width, value: Value) -> bool
+        ensures put { put_within self.old byte part width value ≡ (if result then Some self.new else None) }
+        ensures kept { result ≡ false → self.new ≡ self.old }
+    {
+        if is_fit(byte, part, width, self) {
+            self.held.put(part, fitted(width, value))
+        } else {
+            false
+        }
+    }
+}
+
 /// A local, an unnamed value, a global or a block of a region.
 #[derive(Drop)]
 pub enum Object {
@@ -79,6 +104,25 @@ impl Object {
             Object::Scalar(slot) => { if cell == 0 { Some(*slot) } else { None } }
             Object::Whole(slots) => match slots.get(cell as usize) {
                 Some(slot) => Some(*slot),
+                None => None,
+            },
+        }
+    }
+
+    /// What a part of the cell with this number holds, if there is one that lies so many bytes on and is so wide.
+    fn value(&self, cell: u64, byte: u64, part: u32, width: Width) -> Option<Value>
+        ensures { result ≡ value_of byte part width (slice_get (cells_of self.now) cell) }
+    {
+        match self {
+            Object::Scalar(slot) => {
+                if cell == 0 {
+                    slot.value(byte, part, width)
+                } else {
+                    None
+                }
+            }
+            Object::Whole(slots) => match slots.get(cell as usize) {
+                Some(slot) => slot.value(byte, part, width),
                 None => None,
             },
         }
@@ -135,18 +179,19 @@ impl Object {
         ensures put { put_cell (cells_of self.old) cell byte part width value ≡ (if result then Some (cells_of self.new) else None) }
         ensures kept { result ≡ false → self.new ≡ self.old }
     {
-        match self.slot(cell) {
-            Some(slot) if is_fit(byte, part, width, slot) => match slot
-                .held
-                .with_part(part, fitted(width, value))
-            {
-                Some(held) => {
-                    self.set(cell, Slot { held, ..slot });
-                    true
+        match self {
+            Object::Scalar(slot) => cell == 0 && slot.put(byte, part, width, value),
+            Object::Whole(slots) => {
+                let Some(slot) = slots.get(cell as usize) else {
+                    return false;
+                };
+                let mut changed = *slot;
+                let is_put = changed.put(byte, part, width, value);
+                if is_put {
+                    slots[cell as usize] = changed;
                 }
-                None => false,
-            },
-            _ => false,
+                is_put
+            }
         }
     }
 }
@@ -182,6 +227,23 @@ pub fn slot_in(objects: &[Object], index: usize, cell: u64) -> Option<Slot>
     }
 }
 
+/// What a part of a cell of the object with this number holds, if there is one that lies so many bytes on and is so wide.
+pub fn value_in(
+    objects: &[Object],
+    index: usize,
+    cell: u64,
+    byte: u64,
+    part: u32,
+    width: Width,
+) -> Option<Value>
+    ensures { result ≡ value_of byte part width (slot_at (map cells_of objects.now) index cell) }
+{
+    match objects.get(index) {
+        Some(object) => object.value(cell, byte, part, width),
+        None => None,
+    }
+}
+
 /// How many bytes a width is.
 fn bytes_of(width: Width) -> u64
     ensures { result ≡ bytes_of width }
@@ -193,8 +255,8 @@ fn bytes_of(width: Width) -> u64
 }
 
 /// Whether the part of a cell with this number lies so many bytes on, and is so wide.
-fn is_fit(byte: u64, part: u32, width: Width, slot: Slot) -> bool
-    ensures { result ≡ is_fit byte part width slot }
+fn is_fit(byte: u64, part: u32, width: Width, slot: &Slot) -> bool
+    ensures { result ≡ is_fit byte part width slot.now }
 {
     let own = slot.held.width();
     slot.offset <= byte
@@ -214,8 +276,8 @@ pub fn value_of(slot: Option<Slot>, byte: u64, part: u32, width: Width) -> Optio
     ensures { result ≡ value_of byte part width slot }
 {
     match slot {
-        Some(slot) if is_fit(byte, part, width, slot) => slot.held.part(part),
-        _ => None,
+        Some(slot) => slot.value(byte, part, width),
+        None => None,
     }
 }
 

@@ -1,8 +1,9 @@
 use Rattle.std.proofs.Common.{ap, ◌∙◌}
-use Rattle.cyc_core.specs.Trees.{body_tree, statement_tree}
-use Rattle.core_eval.specs.Pendings.{waits_of}
+use Rattle.cyc_core.specs.Trees.{body_tree, optional_tree, statement_tree}
+use Rattle.core_eval.specs.Pendings.{optional_value, waits_of}
 use Rattle.core_eval.specs.Standing.{known_of}
 use Rattle.core_eval.proofs.Entered.{block_tree, block_answer, breakable_tree, breakable_answer}
+use Rattle.core_eval.proofs.Returning.{return_tree, return_answer}
 use Rattle.core_eval.proofs.enter.enter_statement.Goals as goal
 
 pub returns-in-Block : goal.returns-in-Block
@@ -19,3 +20,9 @@ returns-in-Leave c =
     breakable_answer c.enter_breakable.result (known_of c.args.frame.now c.args.memory.now) (statement_tree c.args.statement.now)
     (body_tree c.in-Leave.body.items) (body_tree c.deref-in-Leave.result.now) (waits_of c.args.stack.now.items) _ (ap statement_tree c.in-Leave.is ∙ breakable_tree c.in-Leave.body)
     (ap body_tree c.deref-in-Leave.ensures.value) c.enter_breakable.ensures.next c.enter_breakable.ensures.waits
+
+pub returns-in_ok-values-in-Return : goal.returns-in_ok-values-in-Return
+returns-in_ok-values-in-Return c =
+    return_answer c.leave_function.result (statement_tree c.args.statement.now) (optional_tree c.in-Return.words) (optional_value c.in_ok-values-in-Return.values)
+    (waits_of c.args.stack.now.items) (known_of c.args.frame.now c.args.memory.now) _ _ (ap statement_tree c.in-Return.is ∙ return_tree c.in-Return.words)
+    c.in_ok-values-in-Return.ensures c.leave_function.ensures

@@ -1,16 +1,18 @@
 use Rattle.std.proofs.Common.{◌∷◌, refl, ap, ◌∙◌}
 use Rattle.cyc_core.specs.Trees.{optional_tree}
 use Rattle.core_eval.specs.declared.pending.Pending.TheVariants as pending
-use Rattle.core_eval.specs.Pendings.{Block, Breakable, exit_of, next_of, wait_of, waits_of}
+use Rattle.core_eval.specs.Pendings.{Block, Breakable, Wrong, exit_of, saved_of, wait_of, waits_of}
 use Rattle.core_eval.specs.Standing.{LeavesCall, known_of}
-use Rattle.core_eval.proofs.Taken.{left_as, left_ok, for_caller, known_here, main_left}
+use Rattle.core_eval.proofs.LeaveMoves.{main_wrong, caller_wrong}
+use Rattle.core_eval.proofs.Taken.{left_as, left_ok, left_known, left_to, known_here, main_left}
+use Rattle.core_eval.proofs.Returning.{no_return}
 use Rattle.core_eval.proofs.take.take_flow.Goals as goal
 
 pub returns-in_default : goal.returns-in_default
 returns-in_default c =
-    main_left (exit_of c.args.flow) (waits_of c.args.stack.now.items) (waits_of c.next.new.stack.items) (known_of c.args.frame.now c.args.memory.now)
-    (next_of c.status.result)
-    c.in_default.ensures.none c.in_default.ensures.still (c.status.ensures (known_of c.args.frame.now c.args.memory.now))
+    let known = known_of c.args.frame.now c.args.memory.now in
+    main_left (exit_of c.args.flow) (waits_of c.args.stack.now.items) (waits_of c.next.new.stack.items) known Wrong
+    c.in_default.ensures.none c.in_default.ensures.still (main_wrong known (exit_of c.args.flow) (no_return c.args.flow))
 
 pub returns-in-Test-default : goal.returns-in-Test-default
 returns-in-Test-default c =
@@ -60,9 +62,10 @@ returns-in-Caller-default c =
       regions = c.leave_call.ensures.regions;
       long_blocks = c.leave_call.ensures.long_blocks;
     } in
-    left_ok c.take_caller.result (exit_of c.args.flow)
-    (wait_of (pending.Caller c.in-Caller-default.result c.in-Caller-default.field-1-0 c.in-Caller-default.saved) ∷ ws)
-    (waits_of c.args.stack.now.items) (known_of c.args.frame.now m) ws (known_of c.take_caller.new.frame m')
-    (c.in-Some.ensures.some ∙ ap (λ p. wait_of p ∷ ws) c.in-Caller-default.is-0)
-    (for_caller c.take_caller.result (exit_of c.args.flow) (optional_tree c.in-Caller-default.result) c.in-Caller-default.field-1-0 c.in-Caller-default.saved
-    (known_of c.args.frame.now) ws (known_of c.take_caller.new.frame) m m' left c.take_caller.ensures)
+    let caller = c.in-Caller-default in
+    left_to (exit_of c.args.flow) (exit_of c.args.flow) (wait_of (pending.Caller caller.field-0-0 caller.field-1-0 caller.saved) ∷ ws)
+    (waits_of c.args.stack.now.items) (known_of c.args.frame.now m) Wrong ws _ (known_of caller.saved m') refl
+    (c.in-Some.ensures.some ∙ ap (λ p. wait_of p ∷ ws) caller.is-0)
+    (left_known c.args.frame.now caller.saved m m' left)
+    (caller_wrong (known_of c.args.frame.now m) ws (optional_tree caller.field-0-0) caller.field-1-0 (saved_of caller.saved) (exit_of c.args.flow)
+    (no_return c.args.flow))

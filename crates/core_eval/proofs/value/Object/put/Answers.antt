@@ -1,0 +1,32 @@
+use Rattle.std.specs.Prelude.{if◌then◌else◌, slice_get, slice_set}
+use Rattle.std.proofs.Common.{◌≡◌, Bool, List, Some, None, ap, ◌∙◌, sym}
+use Rattle.core_eval.specs.declared.value.Object.{Object}
+use Rattle.core_eval.specs.declared.value.Slot.{Slot}
+use Rattle.core_eval.specs.Values.{cells_of, put_cell}
+use Rattle.core_eval.proofs.Lists.{get_within, put_cell_some}
+use Rattle.core_eval.proofs.value.Object.put.Goals as goal
+
+pub returns-then-is_put-clause-put : goal.returns-then-is_put-clause-put
+returns-then-is_put-clause-put c =
+    let cells = c.in-Whole.slots.items in
+    let found = c.in-Some.ensures.lookup.3 in
+    let there : slice_get c.in-Whole.slots.items c.args.cell ≡ Some c.in-Some.slot.now =
+    ap (λ (l : List Slot). slice_get l c.args.cell) (sym c.deref.ensures.value)
+    ∙ get_within c.deref.result.now c.args.cell c.in-Some.slot.now found.0 (found.1 c.in-Some.slot.now) in
+    ap (λ (o : Object). put_cell (cells_of o) c.args.cell c.args.byte c.args.part c.args.width c.args.value) c.in-Whole.is
+    ∙ put_cell_some cells c.args.cell c.args.byte c.args.part c.args.width c.args.value c.in-Some.slot.now c.put-is_put.new.self c.put-is_put.result there
+    c.put-is_put.ensures.put
+
+pub returns-else-is_put-clause-put : goal.returns-else-is_put-clause-put
+returns-else-is_put-clause-put c =
+    let cells = c.in-Whole.slots.items in
+    let new = slice_set cells c.args.cell c.put-is_put.new.self in
+    let found = c.in-Some.ensures.lookup.3 in
+    let there : slice_get c.in-Whole.slots.items c.args.cell ≡ Some c.in-Some.slot.now =
+    ap (λ (l : List Slot). slice_get l c.args.cell) (sym c.deref.ensures.value)
+    ∙ get_within c.deref.result.now c.args.cell c.in-Some.slot.now found.0 (found.1 c.in-Some.slot.now) in
+    ap (λ (o : Object). put_cell (cells_of o) c.args.cell c.args.byte c.args.part c.args.width c.args.value) c.in-Whole.is
+    ∙ put_cell_some cells c.args.cell c.args.byte c.args.part c.args.width c.args.value c.in-Some.slot.now c.put-is_put.new.self c.put-is_put.result there
+    c.put-is_put.ensures.put
+    ∙ ap (λ (b : Bool). if b then Some new else None) c.if-is_put.false
+    ∙ sym (ap (λ (b : Bool). if b then Some cells else None) c.if-is_put.false)

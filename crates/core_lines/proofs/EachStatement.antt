@@ -224,13 +224,12 @@ module _ (w : World) (order : IsInOrder w) (outer : List Waiting) (small : DataS
         let upto = highest_of_above high (shrunk_of inner body) in
         let framed = around.framed in
         let start = showing w hss names held needs (Block ls body) in
-        let lines = statements_code flags (surrounding w x (offsets_from low placed ∷ oss) (hs ∷ hss) inner high []) next out again body in
-        does_any w x outer most held [] start needs lines out again (core.statement (Block ls body))
-        (block_does w order x outer most p ls body (held_behind_all (hs ∷ hss) w.data_offsets [] body) start needs lines out again
+        let lines = statements_code flags (surrounding w x (offsets_from low placed ∷ oss) (hs ∷ hss) inner high held) next out again body in
+        block_does w order x outer most p ls body held (held_behind_all (hs ∷ hss) w.data_offsets held body) start needs lines out again
         (offsets_lie low placed (shrunk_layouts ls hs has.0)) (omega (arith, upto, below, framed)) around.nest
         (tiny ls hs has.0 fine.0.short) (fit x.fn ls names ns x.nest oss hss around.blocks fine.0) around.inside
-        (λ k. statements_do (within_block x p k) (length ls ∷ ns) (offsets_from low placed ∷ oss) (hs ∷ hss) inner high [] needs flags rest next out again body
-        whole are (in_block x ns oss hss names low k ls around fine.0 (omega (arith, upto, below))) has.1 fine.1 below))
+        (λ k. statements_do (within_block x p k) (length ls ∷ ns) (offsets_from low placed ∷ oss) (hs ∷ hss) inner high held needs flags rest next out again body
+        whole are (in_block x ns oss hss names low k ls around fine.0 (omega (arith, upto, below))) has.1 fine.1 below)
     statement_does x ns oss hss names low held needs flags rest next out again (Leave body) whole are around has fine below =
         leave_does w order x outer most held (held_behind_all hss w.data_offsets held body) (showing w hss names held needs (Leave body)) needs next out again
         body (statements_code flags (surrounding w x oss hss names low held) (next + 1) next again body)

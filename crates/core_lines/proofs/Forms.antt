@@ -2,11 +2,11 @@
 use Rattle.std.specs.Prelude.{Bool, slice_get}
 use Rattle.std.proofs.Common.{◌≡◌, ℕ, zero, suc, ◌+◌, ◌%◌, ◌<◌, ◌≤◌, inl, List, [], ◌∷◌, ◌++◌, Some, refl, sym, ap, ◌∙◌, subst, arith}
 use Rattle.cyc_words.specs.Events.{AreBytes}
-use Rattle.core_meaning.specs.Memory.{Content, Memory, Frame, Own, Dead, with_standing}
+use Rattle.core_meaning.specs.Memory.{Content, Memory, Frame, Own, Live, Dead, with_standing}
 use Rattle.core_meaning.specs.Core.{Local, Statement, Statements, While, Block, Break, Continue, NoStatements, MoreStatements}
 use Rattle.core_meaning.specs.Meaning as core
 use Rattle.core_meaning.specs.Steps.{Config, Step, Exit, Falls, Breaks, Continues, Returns}
-use Rattle.core_meaning.specs.Meaning.{in_block, out_of_block}
+use Rattle.core_meaning.specs.Meaning.{with_objects, in_block, out_of_block}
 use Rattle.core_lines.specs.Machines.{Machine}
 use Rattle.rv32_machine.specs.State.{Runs}
 use Rattle.core_lines.specs.declared.line.Line.{Line}
@@ -23,7 +23,7 @@ use Rattle.core_lines.proofs.frames.Passing.{has_first, has_second}
 use Rattle.core_lines.proofs.frames.Bodies.{with_config, IsIn, GoesFrom, from_same, GoesHolding, goes_any, goes_fewer}
 use Rattle.core_lines.specs.Held.{Holding}
 use Rattle.core_lines.specs.Lies.{Maps, Activation}
-use Rattle.core_lines.proofs.operations.Registers.{AtHolding, IsServed, at_any}
+use Rattle.core_lines.proofs.operations.Registers.{AtHolding, AreThere, IsServed, at_any, at_of, there_extends}
 use Rattle.core_lines.proofs.memory.Laying.{AreTiny, LaidOut}
 use Rattle.core_lines.proofs.memory.Nested.{NestFits, enters_block}
 use Rattle.core_lines.proofs.memory.Zones.{leaves_block, leaves_block_returning}
@@ -253,6 +253,22 @@ at_config w x outer c d mem place s temps blocks own a = record {
   shows = frame_config w a.maps x (back_of w outer) a.frame c d temps blocks own a.shows;
 }
 
+-- nor does what is known
+holding_config : (w : World) (x : Waiting) (outer : List Waiting) (c d : Config) (mem : Memory) (place : ℕ) (held : List Holding) (s : Machine)
+    → c.temps ≡ d.temps → c.blocks ≡ d.blocks → c.own ≡ d.own
+    → AtHolding w (with_config x c) outer mem place held s → AtHolding w (with_config x d) outer mem place held s
+holding_config w x outer c d mem place [] s temps blocks own a = at_config w x outer c d mem place s temps blocks own a
+holding_config w x outer c d mem place (h ∷ hs) s temps blocks own a = record {
+  maps = a.maps;
+  frame = a.frame;
+  others = a.others;
+  sp = a.sp;
+  stands = a.stands;
+  shows = frame_config w a.maps x (back_of w outer) a.frame c d temps blocks own a.shows;
+  stack = a.stack;
+  holds = subst (λ g. AreThere (h ∷ hs) g a.maps s.registers) temps a.holds;
+}
+
 returning_config : (w : World) (x : Waiting) (outer : List Waiting) (c d : Config) (mem : Memory) (values : List Content) (s : Machine) → c.temps ≡ d.temps
     → c.blocks ≡ d.blocks
     → c.own ≡ d.own → Returning w (with_config x c) outer mem values s → Returning w (with_config x d) outer mem values s
@@ -273,13 +289,38 @@ returning_config w x outer c d mem values s temps blocks own a = record {
 abbrev pub within_block : Waiting → Place → ℕ → Waiting
 within_block x p k = record x { nest = p ∷ x.nest; config = record x.config { blocks = k ∷ x.config.blocks } }
 
-pub block_does : (w : World) (order : IsInOrder w) (x : Waiting) (outer : List Waiting) (most : ℕ) (p : Place) (ls : List Local) (body : Statements)
-    (last : List Holding) (start : List Bool) (needs : Needs) (lines : List Line) (out again : ℕ)
+-- what is known of temporaries is known within it
+enters_holding : (w : World) (order : IsInOrder w) (x : Waiting) (outer : List Waiting) (p : Place) (ls : List Local) (mem : Memory) (place : ℕ)
+    (held : List Holding) (s : Machine)
     → LaidOut (shrunk ls p.homes) p.offsets p.low p.high → p.high ≤ w.frame_bytes x.function → NestFits x.own_high p.low x.nest
     → AreTiny ls p.homes → HomesFit x.fn (length ls) p.homes x.nest → x.phase ≡ Inside
-    → ((k : ℕ) → Does w (within_block x p k) outer most [] last start needs lines out again (core.statements body))
-    → Does w x outer most [] [] start needs lines out again (core.statement (Block ls body))
-block_does w order x outer most p ls body last start needs lines out again laid room nest tiny fit inside inner = record {
+    → AtHolding w x outer mem place held s
+    → AtHolding w (within_block x p mem.activations) outer
+    (with_objects (Frame mem.activations) ls (record (with_standing mem (Frame mem.activations) Live) { activations = mem.activations + 1 })) place held s
+enters_holding w order x outer p ls mem place [] s laid room nest tiny fit inside a =
+    (enters_block w order x outer p ls mem place s laid room nest tiny fit inside a).at
+enters_holding w order x outer p ls mem place (h ∷ hs) s laid room nest tiny fit inside a =
+    let more = enters_block w order x outer p ls mem place s laid room nest tiny fit inside
+    (at_of w order x outer mem place (AreThere (h ∷ hs) x.config.temps) s a) in
+    let at = more.at in
+    record {
+      maps = at.maps;
+      frame = at.frame;
+      others = at.others;
+      sp = at.sp;
+      stands = at.stands;
+      shows = at.shows;
+      stack = at.stack;
+      holds = there_extends (h ∷ hs) x.config.temps a.maps at.maps s.registers more.extends a.holds;
+    }
+
+pub block_does : (w : World) (order : IsInOrder w) (x : Waiting) (outer : List Waiting) (most : ℕ) (p : Place) (ls : List Local) (body : Statements)
+    (held last : List Holding) (start : List Bool) (needs : Needs) (lines : List Line) (out again : ℕ)
+    → LaidOut (shrunk ls p.homes) p.offsets p.low p.high → p.high ≤ w.frame_bytes x.function → NestFits x.own_high p.low x.nest
+    → AreTiny ls p.homes → HomesFit x.fn (length ls) p.homes x.nest → x.phase ≡ Inside
+    → ((k : ℕ) → Does w (within_block x p k) outer most held last start needs lines out again (core.statements body))
+    → Does w x outer most held [] start needs lines out again (core.statement (Block ls body))
+block_does w order x outer most p ls body held last start needs lines out again laid room nest tiny fit inside inner = record {
   goes = λ place fuel le next aligned has ways c is.
       let k = c.memory.activations in
       let y = within_block x p k in
@@ -295,10 +336,10 @@ block_does w order x outer most p ls body last start needs lines out again laid 
       (with_standing d.memory (Frame k) Dead) at s refl (sym is.blocks) refl
       (leaves_block w within outer p x.nest k x.config.blocks d.memory at s refl i.blocks fit.differ a))
       (goes (out_of_block k c.blocks d) (out_is d i)) in
-      goes_as w (At w (with_config (keeping start x) c) outer c.memory place) (active_of w (x ∷ outer)) fuel (core.statements body ends (in_block ls c))
-      (At w (with_config (keeping start y) (in_block ls c)) outer (in_block ls c).memory place)
-      (λ s a. at_config w (keeping start y) outer (record c { blocks = k ∷ c.blocks }) (in_block ls c) (in_block ls c).memory place s refl refl refl
-      (enters_block w order (with_config (keeping start x) c) outer p ls c.memory place s laid room nest tiny fit inside a))
+      goes_as w (AtHolding w (with_config (keeping start x) c) outer c.memory place held) (active_of w (x ∷ outer)) fuel
+      (core.statements body ends (in_block ls c)) (AtHolding w (with_config (keeping start y) (in_block ls c)) outer (in_block ls c).memory place held)
+      (λ s a. holding_config w (keeping start y) outer (record c { blocks = k ∷ c.blocks }) (in_block ls c) (in_block ls c).memory place held s refl refl refl
+      (enters_holding w order (with_config (keeping start x) c) outer p ls c.memory place held s laid room nest tiny fit inside a))
       ((inner k).goes place fuel le ends aligned has (record {
         falls = goes_any w (keeping needs.after y) outer fuel (place + code_length lines) last (ends Falls)
             (leave needs.after (place + code_length lines) Falls ways.falls);

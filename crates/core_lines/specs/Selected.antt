@@ -114,7 +114,6 @@ within_block locals u =
       homes = hs ∷ u.homes;
       names = homes_after locals u.names;
       low = end_from u.low ls;
-      held = [];
     }
 
 -- the same place, where these are the homes of the names to come
@@ -128,7 +127,7 @@ holding held u = record u { held = held }
 -- The code of a statement, of whose results these flags say in turn which are saved. The labels that it places are numbered from `next` on; a `break` goes
 -- to the label `out`, and a `continue` to `again`. A choice: the test, the first statements and a jump over the others; a label, the others, and a label. A
 -- loop: a label, its test, its body and a jump back; and a label behind it. What a `break` leaves without a loop: its statements, and a label behind them.
--- What is known of temporaries is known from one statement to the next, on both ways of a choice, and from the test of a loop to its choice.
+-- What is known of temporaries is known from one statement to the next, within a block, on both ways of a choice, and from the test of a loop to its choice.
 abbrev mutual
   pub statement_code : (flags : List Bool) → Surroundings → (next out again : ℕ) → Statement → List Line
   statement_code flags u next out again (Do operation) = operation_code (flag_at flags 0) u operation

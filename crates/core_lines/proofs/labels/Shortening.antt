@@ -50,7 +50,7 @@ use Rattle.core_lines.specs.Choosing.{far, jump_if_zero, choice_code, between_co
 use Rattle.core_lines.specs.Completing.{can_complete, can_complete_all}
 use Rattle.core_lines.specs.Saved.{results_in, results_all, live_at_start, saves_at}
 use Rattle.core_lines.specs.Selected.{Surroundings, frame_bytes, offsets_from, datum_locals, local_home, local_offset, immediate_for, has_operand, both_code}
-use Rattle.core_lines.specs.Selected.{keep_result, applied_kept, get_code, put_code, operation_code, labels_in, labels_of}
+use Rattle.core_lines.specs.Selected.{number_in, keep_result, narrow_kept, applied_kept, get_code, put_code, operation_code, labels_in, labels_of}
 use Rattle.core_lines.specs.Selected.{labels_within, holding, naming, names_after, names_after_all, within_block, statement_code, statements_code, around}
 use Rattle.core_lines.specs.Selected.{function_code, functions_code, program_code}
 use Rattle.core_meaning.specs.Selectable.{IsSelectable}
@@ -120,7 +120,11 @@ operation_same : (f g : ℕ → Bool) (keeps : Bool) (u : Surroundings) (o : Ope
 operation_same f g keeps u (Constant t w) = refl
 operation_same f g keeps u (NullPointer t) = refl
 operation_same f g keeps u (Move t x) = refl
-operation_same f g keeps u (Narrow t x) = refl
+operation_same f g keeps u (Narrow t x) = by (number_in (source_of u.held x))
+  where
+    by : (known : Option ℕ) → narrow_kept keeps (with_wide f u) t x known ≡ narrow_kept keeps (with_wide g u) t x known
+    by None = refl
+    by (Some w) = refl
 operation_same f g keeps u (Apply o t x y) = by (same_as o x y (source_of u.held x) (source_of u.held y))
   where
     in_both : (lines : Option (List Line))

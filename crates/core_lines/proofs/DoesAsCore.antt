@@ -10,6 +10,7 @@ use Rattle.std.proofs.lemmas.Option.{none-some}
 use Rattle.core_lines.specs.Homes.{homes_in}
 use Rattle.core_meaning.specs.Meaning as core
 use Rattle.core_lines.specs.Held.{held_behind_all}
+use Rattle.core_lines.specs.Completing.{can_complete_all}
 use Rattle.core_lines.specs.Saved.{taken_in, live_at_start, saves_at}
 use Rattle.core_lines.specs.Selected.{around, statements_code}
 use Rattle.core_lines.proofs.Ways.{Does}
@@ -52,7 +53,8 @@ module _ (p : Program) (selectable : IsSelectable p) (w : World) (order : IsInOr
       let held = taken_in f in
       let flags = saves_at w.data_offsets f in
       let whole = length_none f.temporaries in
-      subst (λ q. Does w x outer most held (held_behind_all [] w.data_offsets held f.body) (live_at_start w.data_offsets f) (nothing_needed f)
+      subst (λ q. Does w x outer most (can_complete_all f.body) held (held_behind_all [] w.data_offsets held f.body) (live_at_start w.data_offsets f)
+      (nothing_needed f)
       (statements_code flags (around w.wide w.data_offsets q f) (code.next + 1) number number f.body) number number (core.statements f.body)) code.exit
       (statements_do w order outer data_small bytes most calls x [] [] [] (homes_in f) (own_end f) held (nothing_needed f) flags [] (code.next + 1) number
       number f.body (record { after = whole; out = whole; again = whole }) (sym (append-nil flags))

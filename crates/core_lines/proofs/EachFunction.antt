@@ -10,6 +10,7 @@ use Rattle.core_lines.specs.Lines.{code_length}
 use Rattle.core_lines.specs.Frames.{epilogue_code}
 use Rattle.core_lines.specs.Operands.{prologue_code}
 use Rattle.core_lines.specs.Held.{held_behind_all}
+use Rattle.core_lines.specs.Completing.{can_complete_all}
 use Rattle.core_lines.specs.Saved.{none_of, taken_in, live_at_start, saves_at}
 use Rattle.core_lines.specs.Selected.{frame_bytes, around, statements_code}
 use Rattle.core_meaning.specs.Selectable.{IsSelectableIn}
@@ -37,7 +38,8 @@ abbrev pub BodyDoes : (w : World) → IsInOrder w → ℕ → ℕ → Function �
 BodyDoes w order number next f =
     (is : slice_get w.functions number ≡ Some f) (most : ℕ) → w.frame_bytes number ≤ longest_stack → ((j : ℕ) → suc j ≤ most → (g : ℕ) → BodyGoes w j g)
     → EndsThere w number f → (outer : List Waiting) (mem : Memory) (arguments : List Content)
-    → Does w (activation w order number f is outer mem arguments (offsets_from (4 * slots_of f) f.own) (own_end f)) outer most (taken_in f)
+    → Does w (activation w order number f is outer mem arguments (offsets_from (4 * slots_of f) f.own) (own_end f)) outer most (can_complete_all f.body)
+    (taken_in f)
     (held_behind_all [] w.data_offsets (taken_in f) f.body) (live_at_start w.data_offsets f) (nothing_needed f)
     (statements_code (saves_at w.data_offsets f) (around w.wide w.data_offsets next f) (next + 1) number number f.body) number number
     (core.statements f.body)
@@ -91,7 +93,7 @@ function_does w order data_objects number f selectable frame code body =
           let held = taken_in f in
           let goes : GoesHolding w x outer most place held (core.statements f.body next) =
           does.goes place most (omega arith) next (behind (w.places number) prologue aligned) has_lines (record {
-            falls = goes_any w ended outer most (place + code_length lines) (held_behind_all [] w.data_offsets held f.body) (next Falls)
+            falls = λ reached. goes_any w ended outer most (place + code_length lines) (held_behind_all [] w.data_offsets held f.body) (next Falls)
                 (stuck_from w ended outer most (place + code_length lines) (next Falls) (λ c. (ends c).0));
             breaks = stuck_from w ended outer most (w.places number) (next Breaks) (λ c. (ends c).1);
             continues = stuck_from w ended outer most (w.places number) (next Continues) (λ c. (ends c).2);

@@ -1,21 +1,22 @@
 -- Each statement's code does as the statement means, by the forms of statements, where calls with less fuel do as Core.
 use Rattle.std.specs.Prelude.{length, drop}
 use Rattle.rv32_machine.specs.Arrays.{longest_stack}
-use Rattle.std.proofs.Common.{◌≡◌, ℕ, zero, suc, Bool, true, false, Some, ◌+◌, ◌≤◌, List, [], ◌∷◌, ◌++◌, refl, sym, ◌∙◌, arith, append_assoc}
-use Rattle.std.proofs.lemmas.Bool.{and_parts}
+use Rattle.std.proofs.Common.{◌≡◌, ℕ, zero, suc, Bool, true, false, Some, ◌+◌, ◌≤◌, List, [], ◌∷◌, ◌++◌, refl, sym, ap, subst, ◌∙◌, arith}
+use Rattle.std.proofs.Common.{append_assoc}
 use Rattle.core_meaning.specs.Core.{Local, Statement, Do, If, While, Block, Leave, Break, Continue, Call, Return, Raise, Statements, NoStatements}
 use Rattle.core_meaning.specs.Core.{MoreStatements}
 use Rattle.core_meaning.specs.Meaning as core
 use Rattle.core_meaning.specs.Steps.{Falls}
 use Rattle.core_lines.specs.declared.line.Line.TheVariants.{Jump}
-use Rattle.core_lines.specs.Held.{Holding, raises, raises_only, held_behind, held_behind_all}
+use Rattle.core_lines.specs.Held.{Holding, held_behind, held_behind_all}
+use Rattle.core_lines.specs.Completing.{can_complete, can_complete_all}
 use Rattle.core_lines.specs.Loaded.{unknown_in, loads_of_operation, loads_of_values}
 use Rattle.core_lines.specs.Saved.{cleared, all_flagged, results_of, results_in, results_all}
 use Rattle.core_lines.specs.Selected.{offsets_from, end_from, highest, highest_of, labels_in, labels_of, statement_code, statements_code}
 use Rattle.core_lines.specs.Selected.{nth_block, shrunk, shrunk_in, shrunk_of, homes_here, homes_after, names_after, names_after_all}
 use Rattle.core_lines.specs.Homes.{is_home, flag_at}
 use Rattle.core_meaning.specs.Selectable.{HasLinesIn, HaveLinesIn}
-use Rattle.core_lines.proofs.memory.Relations.{Inside, EndsThere, home_of, active_of, World, IsInOrder, Waiting, Place, keeping}
+use Rattle.core_lines.proofs.memory.Relations.{Covers, Inside, EndsThere, home_of, active_of, World, IsInOrder, Waiting, Place, keeping}
 use Rattle.core_lines.proofs.frames.Bodies.{with_config, goes_any, BodyGoes, call_goes, return_goes}
 use Rattle.core_lines.proofs.Flags.{length_cleared, length_all, more_flagged, flags_behind, follows_flags}
 use Rattle.core_lines.proofs.Live.{few_results, saved_in, saved_of, choice_to_after, choice_to_body, head_to_test}
@@ -24,7 +25,7 @@ use Rattle.core_lines.proofs.Ways.{Needs, Does, does_any, does_fewer}
 use Rattle.core_lines.proofs.Shown.{AreWhole, showing, showing_all, saving, saving_all, whole_all, loads_show, first_way, second_way, choice_served}
 use Rattle.core_lines.proofs.Shown.{at_choice, of_test, of_body, whole_test, whole_body, loop_shows, loop_served}
 use Rattle.core_lines.proofs.Forms.{within_block, break_does, continue_does, nothing_does, sequence_does, block_does}
-use Rattle.core_lines.proofs.Choices.{test, jumps, choice_does, choice_either, leave_does, loop_does}
+use Rattle.core_lines.proofs.Choices.{test, jumps, either_does, leave_does, loop_does}
 use Rattle.core_lines.proofs.memory.Nested.{NestFits}
 use Rattle.core_lines.proofs.homes.Locals.{shrunk_layouts, as_many_shrunk, offsets_lie, as_many_offsets, end_above, offset_below, highest_of_above, both_below}
 use Rattle.core_lines.proofs.homes.Nests.{BlocksAre}
@@ -42,60 +43,6 @@ pub record IsAround (w : World) (x : Waiting) (ns : List ℕ) (oss hss : List (L
   pub framed : w.frame_bytes x.function ≡ bytes
   pub small : bytes ≤ longest_stack
   pub own_small : OwnSmall x
-
--- ---- what only raises an exception
-
-module _ (w : World) (order : IsInOrder w) (outer : List Waiting) (most : ℕ) where
-  -- goes on nowhere, so anything is known behind it
-  mutual
-    statement_raises : (x : Waiting) (ns : List ℕ) (oss hss : List (List ℕ)) (names : List ℕ) (low : ℕ) (held last : List Holding) (needs : Needs)
-        (flags : List Bool) (next out again : ℕ) (s : Statement) → AreWhole x.fn.temporaries needs → raises s ≡ true → HasLinesIn (scoped w x ns) s
-        → Does w x outer most held last (showing w hss names held needs s) needs
-        (statement_code flags (surrounding w x oss hss names low held) next out again s) out again (core.statement s)
-    statement_raises x ns oss hss names low held last needs flags next out again (Do operation) whole is has = absurd (cc is)
-    statement_raises x ns oss hss names low held last needs flags next out again (If t these those) whole is has =
-        let behind_these = names_after_all these names in
-        let both = and_parts (raises_only these) (raises_only those) is in
-        let behind_label = next + 1 + labels_of these in
-        let start = showing w hss names held needs (If t these those) in
-        let one = showing_all w hss names held needs these in
-        let other = showing_all w hss behind_these held needs those in
-        let shows_other = second_way w x hss names held needs t these those whole
-        (statements_below w.data_offsets (scoped w x ns) hss behind_these held those has.2) in
-        let second = statements_code flags (surrounding w x oss hss names low held) (next + 1) out again these in
-        let fourth = statements_code (drop (results_all these) flags) (surrounding w x oss hss behind_these low held) (behind_label + 1) out again those in
-        choice_does w order x outer most held last start needs t next behind_label out again these those second fourth has.0
-        (choice_served w x hss names held needs t these those whole has.0)
-        (does_fewer w x outer most held last start one needs second out again (core.statements these) (first_way w x hss names held needs t these those whole)
-        (statements_raise x ns oss hss names low held last needs flags (next + 1) out again these whole both.0 has.1))
-        (does_fewer w x outer most held last start other needs fourth out again (core.statements those) shows_other
-        (statements_raise x ns oss hss behind_these low held last needs (drop (results_all these) flags) (behind_label + 1) out again those whole both.1 has.2))
-    statement_raises x ns oss hss names low held last needs flags next out again (While test t body) whole is has = absurd (cc is)
-    statement_raises x ns oss hss names low held last needs flags next out again (Block ls body) whole is has = absurd (cc is)
-    statement_raises x ns oss hss names low held last needs flags next out again (Leave body) whole is has = absurd (cc is)
-    statement_raises x ns oss hss names low held last needs flags next out again Break whole is has = absurd (cc is)
-    statement_raises x ns oss hss names low held last needs flags next out again Continue whole is has = absurd (cc is)
-    statement_raises x ns oss hss names low held last needs flags next out again (Call results f arguments) whole is has = absurd (cc is)
-    statement_raises x ns oss hss names low held last needs flags next out again (Return values) whole is has = absurd (cc is)
-    statement_raises x ns oss hss names low held last needs flags next out again (Raise kind) whole is has = record {
-      goes = λ place fuel le k aligned lines ways.
-          let y = keeping (showing w hss names held needs (Raise kind)) x in
-          goes_any w y outer fuel place held (core.statement (Raise kind) k)
-          (λ c is. raise_goes w order (with_config y c) outer c.memory fuel kind place (active_of w (x ∷ outer)) lines);
-    }
-
-    statements_raise : (x : Waiting) (ns : List ℕ) (oss hss : List (List ℕ)) (names : List ℕ) (low : ℕ) (held last : List Holding) (needs : Needs)
-        (flags : List Bool) (next out again : ℕ) (ss : Statements) → AreWhole x.fn.temporaries needs → raises_only ss ≡ true → HaveLinesIn (scoped w x ns) ss
-        → Does w x outer most held last (showing_all w hss names held needs ss) needs
-        (statements_code flags (surrounding w x oss hss names low held) next out again ss) out again (core.statements ss)
-    statements_raise x ns oss hss names low held last needs flags next out again NoStatements whole is has = absurd (cc is)
-    statements_raise x ns oss hss names low held last needs flags next out again (MoreStatements s NoStatements) whole is has =
-        sequence_does w order x outer most (test w order x outer most) (jumps w order x outer most) held last last
-        (showing w hss names held needs s) needs.after needs
-        (statement_code flags (surrounding w x oss hss names low held) next out again s) [] out again s NoStatements
-        (statement_raises x ns oss hss names low held last needs flags next out again s whole is has.0)
-        (nothing_does w order x outer most (test w order x outer most) (jumps w order x outer most) last needs out again)
-    statements_raise x ns oss hss names low held last needs flags next out again (MoreStatements s (MoreStatements s' ss)) whole is has = absurd (cc is)
 
 -- ---- each
 
@@ -140,7 +87,7 @@ module _ (w : World) (order : IsInOrder w) (outer : List Waiting) (small : DataS
     pub statement_does : (x : Waiting) (ns : List ℕ) (oss hss : List (List ℕ)) (names : List ℕ) (low : ℕ) (held : List Holding) (needs : Needs)
         (flags rest : List Bool) (next out again : ℕ) (s : Statement) → AreWhole x.fn.temporaries needs → flags ≡ saving w hss names held needs s ++ rest
         → IsAround w x ns oss hss low bytes → HasLinesIn (scoped w x ns) s → IsFine x.fn hss names s → highest low (shrunk_in names s) ≤ bytes
-        → Does w x outer most held (held_behind hss w.data_offsets held s) (showing w hss names held needs s) needs
+        → Does w x outer most (can_complete s) held (held_behind hss w.data_offsets held s) (showing w hss names held needs s) needs
         (statement_code flags (surrounding w x oss hss names low held) next out again s) out again (core.statement s)
     statement_does x ns oss hss names low held needs flags rest next out again (Do operation) whole are around has fine below = record {
       goes = λ place fuel le k aligned lines ways.
@@ -151,7 +98,7 @@ module _ (w : World) (order : IsInOrder w) (outer : List Waiting) (small : DataS
           operation (flag_at flags 0) needs.after has
           (loads_show x.fn.temporaries loads (all_flagged false results needs.after) (length_all false results needs.after ∙ whole.after)
           (operation_below (scoped w x ns) held operation has))
-          (follows_flags results loads needs.after flags rest (few_results operation) are) fine lines ways.falls;
+          (follows_flags results loads needs.after flags rest (few_results operation) are) fine lines (ways.falls refl);
     }
     statement_does x ns oss hss names low held needs flags rest next out again (If t these those) whole are around has fine below =
         let behind_these = names_after_all these names in
@@ -172,15 +119,17 @@ module _ (w : World) (order : IsInOrder w) (outer : List Waiting) (small : DataS
         (saved_of w.data_offsets hss names held needs.after needs.out needs.again these) are_these in
         let second = statements_code flags (surrounding w x oss hss names low held) (next + 1) out again these in
         let fourth = statements_code flags_those (surrounding w x oss hss behind_these low held) (behind_label + 1) out again those in
-        choice_either w order x outer most held last last_of_those start needs t next behind_label out again these those second fourth has.0
-        (choice_served w x hss names held needs t these those whole has.0)
-        (does_fewer w x outer most held last start one needs second out again (core.statements these) (first_way w x hss names held needs t these those whole)
+        either_does w order x outer most (can_complete_all these) held last last_of_those start needs t next behind_label out again these those second fourth
+        has.0 (choice_served w x hss names held needs t these those whole has.0)
+        (does_fewer w x outer most (can_complete_all these) held last start one needs second out again (core.statements these)
+        (first_way w x hss names held needs t these those whole)
         (statements_do x ns oss hss names low held needs flags (saved_others ++ rest) (next + 1) out again these whole are_these around has.1 fine.0 b.0))
-        (does_fewer w x outer most held last_of_those start other needs fourth out again (core.statements those) shows_other
+        (does_fewer w x outer most (can_complete_all those) held last_of_those start other needs fourth out again (core.statements those) shows_other
         (statements_do x ns oss hss behind_these low held needs flags_those rest (behind_label + 1) out again those whole are_those around has.2 fine.1 b.1))
-        (raises_only those)
-        (λ only. does_fewer w x outer most held last start other needs fourth out again (core.statements those) shows_other
-        (statements_raise w order outer most x ns oss hss behind_these low held last needs flags_those (behind_label + 1) out again those whole only has.2))
+        (λ none. (
+          ap (λ ss. statements_code flags_those (surrounding w x oss hss behind_these low held) (behind_label + 1) out again ss) none,
+          subst (λ ss. Covers start (showing_all w hss behind_these held needs ss)) none shows_other,
+        ))
     statement_does x ns oss hss names low held needs flags rest next out again (While ts t body) whole are around has fine below =
         let behind = names_after_all ts names in
         let b = both_below (highest_of low (shrunk_of names ts)) (highest_of low (shrunk_of behind body)) bytes below in
@@ -202,16 +151,17 @@ module _ (w : World) (order : IsInOrder w) (outer : List Waiting) (small : DataS
         let second = statements_code flags (surrounding w x oss hss names low []) (next + 1) out again ts in
         let fourth = statements_code flags_body (surrounding w x oss hss behind low []) (behind_label + 1) behind_label next body in
         let lines = statement_code flags (surrounding w x oss hss names low held) next out again (While ts t body) in
-        does_any w x outer most held [] start needs lines out again (core.statement (While ts t body))
-        (loop_does w order x outer most known last needs start between t next behind_label out again ts body second fourth has.0
+        does_any w x outer most true held [] start needs lines out again (core.statement (While ts t body))
+        (loop_does w order x outer most (can_complete_all ts) (can_complete_all body) known last needs start between t next behind_label out again ts body
+        second fourth has.0
         (loop_served w x hss names needs ts t body whole has.0)
         (choice_to_after w.data_offsets hss names needs.after needs.out needs.again ts t body)
-        (does_fewer w x outer most [] known start in_test needs_test second out again (core.statements ts)
+        (does_fewer w x outer most (can_complete_all ts) [] known start in_test needs_test second out again (core.statements ts)
         (head_to_test w.data_offsets hss names needs.after needs.out needs.again ts t body
         (loop_shows w x hss names needs ts t body whole (statement_below w.data_offsets (scoped w x ns) hss names [] (While ts t body) has)))
         (statements_do x ns oss hss names low [] needs_test flags (saved_others ++ rest) (next + 1) out again ts
         (whole_test w x hss names needs ts t body whole) are_test around has.1 fine.0 b.0))
-        (does_fewer w x outer most [] last between in_body needs_body fourth behind_label next (core.statements body)
+        (does_fewer w x outer most (can_complete_all body) [] last between in_body needs_body fourth behind_label next (core.statements body)
         (choice_to_body w.data_offsets hss names needs.after needs.out needs.again ts t body)
         (statements_do x ns oss hss behind low [] needs_body flags_body rest (behind_label + 1) behind_label next body
         (whole_body w x hss names needs ts t body whole) are_body around has.2 fine.1 b.1)))
@@ -224,23 +174,22 @@ module _ (w : World) (order : IsInOrder w) (outer : List Waiting) (small : DataS
         let upto = highest_of_above high (shrunk_of inner body) in
         let framed = around.framed in
         let start = showing w hss names held needs (Block ls body) in
-        let lines = statements_code flags (surrounding w x (offsets_from low placed ∷ oss) (hs ∷ hss) inner high []) next out again body in
-        does_any w x outer most held [] start needs lines out again (core.statement (Block ls body))
-        (block_does w order x outer most p ls body (held_behind_all (hs ∷ hss) w.data_offsets [] body) start needs lines out again
+        let lines = statements_code flags (surrounding w x (offsets_from low placed ∷ oss) (hs ∷ hss) inner high held) next out again body in
+        block_does w order x outer most p ls body (can_complete_all body) held (held_behind_all (hs ∷ hss) w.data_offsets held body) start needs lines out again
         (offsets_lie low placed (shrunk_layouts ls hs has.0)) (omega (arith, upto, below, framed)) around.nest
         (tiny ls hs has.0 fine.0.short) (fit x.fn ls names ns x.nest oss hss around.blocks fine.0) around.inside
-        (λ k. statements_do (within_block x p k) (length ls ∷ ns) (offsets_from low placed ∷ oss) (hs ∷ hss) inner high [] needs flags rest next out again body
-        whole are (in_block x ns oss hss names low k ls around fine.0 (omega (arith, upto, below))) has.1 fine.1 below))
+        (λ k. statements_do (within_block x p k) (length ls ∷ ns) (offsets_from low placed ∷ oss) (hs ∷ hss) inner high held needs flags rest next out again body
+        whole are (in_block x ns oss hss names low k ls around fine.0 (omega (arith, upto, below))) has.1 fine.1 below)
     statement_does x ns oss hss names low held needs flags rest next out again (Leave body) whole are around has fine below =
-        leave_does w order x outer most held (held_behind_all hss w.data_offsets held body) (showing w hss names held needs (Leave body)) needs next out again
-        body (statements_code flags (surrounding w x oss hss names low held) (next + 1) next again body)
+        leave_does w order x outer most (can_complete_all body) held (held_behind_all hss w.data_offsets held body)
+        (showing w hss names held needs (Leave body)) needs next out again body (statements_code flags (surrounding w x oss hss names low held) (next + 1) next again body)
         (statements_do x ns oss hss names low held (record needs { out = needs.after }) flags rest (next + 1) next again body
         (record { after = whole.after; out = whole.after; again = whole.again }) are around has fine below)
     statement_does x ns oss hss names low held needs flags rest next out again Break whole are around has fine below =
-        does_any w x outer most held [] needs.out needs (Jump out ∷ []) out again (core.statement Break)
+        does_any w x outer most false held [] needs.out needs (Jump out ∷ []) out again (core.statement Break)
         (break_does w order x outer most (test w order x outer most) (jumps w order x outer most) needs out again)
     statement_does x ns oss hss names low held needs flags rest next out again Continue whole are around has fine below =
-        does_any w x outer most held [] needs.again needs (Jump again ∷ []) out again (core.statement Continue)
+        does_any w x outer most false held [] needs.again needs (Jump again ∷ []) out again (core.statement Continue)
         (continue_does w order x outer most (test w order x outer most) (jumps w order x outer most) needs out again)
     statement_does x ns oss hss names low held needs flags rest next out again (Call results f arguments) whole are around has fine below = record {
       goes = λ place fuel le k aligned lines ways.
@@ -251,7 +200,7 @@ module _ (w : World) (order : IsInOrder w) (outer : List Waiting) (small : DataS
           has.1 has.2 k held
           (loads_show x.fn.temporaries loads others (length_all false results needs.after ∙ whole.after)
           (unknown_below x.fn.temporaries held arguments has.1)) needs.after flags rest (more_flagged loads others) are place aligned lines
-          (λ j less. calls j (omega (arith, less, le)) f) ways.falls;
+          (λ j less. calls j (omega (arith, less, le)) f) (ways.falls refl);
     }
     statement_does x ns oss hss names low held needs flags rest next out again (Return values) whole are around has fine below = record {
       goes = λ place fuel le k aligned lines ways.
@@ -261,13 +210,18 @@ module _ (w : World) (order : IsInOrder w) (outer : List Waiting) (small : DataS
           (values_below x.fn.temporaries held 9 values has.0)) has.1 lines ways.returns;
     }
     statement_does x ns oss hss names low held needs flags rest next out again (Raise kind) whole are around has fine below =
-        statement_raises w order outer most x ns oss hss names low held [] needs flags next out again (Raise kind) whole refl has
+        record {
+          goes = λ place fuel le k aligned lines ways.
+              let y = keeping (showing w hss names held needs (Raise kind)) x in
+              goes_any w y outer fuel place held (core.statement (Raise kind) k)
+              (λ c is. raise_goes w order (with_config y c) outer c.memory fuel kind place (active_of w (x ∷ outer)) lines);
+        }
 
     pub statements_do : (x : Waiting) (ns : List ℕ) (oss hss : List (List ℕ)) (names : List ℕ) (low : ℕ) (held : List Holding) (needs : Needs)
         (flags rest : List Bool) (next out again : ℕ) (ss : Statements) → AreWhole x.fn.temporaries needs
         → flags ≡ saving_all w hss names held needs ss ++ rest
         → IsAround w x ns oss hss low bytes → HaveLinesIn (scoped w x ns) ss → AreFine x.fn hss names ss → highest_of low (shrunk_of names ss) ≤ bytes
-        → Does w x outer most held (held_behind_all hss w.data_offsets held ss) (showing_all w hss names held needs ss) needs
+        → Does w x outer most (can_complete_all ss) held (held_behind_all hss w.data_offsets held ss) (showing_all w hss names held needs ss) needs
         (statements_code flags (surrounding w x oss hss names low held) next out again ss) out again (core.statements ss)
     statements_do x ns oss hss names low held needs flags rest next out again NoStatements whole are around has fine below =
         nothing_does w order x outer most (test w order x outer most) (jumps w order x outer most) held needs out again
@@ -285,7 +239,8 @@ module _ (w : World) (order : IsInOrder w) (outer : List Waiting) (small : DataS
         let are_first : flags ≡ saved ++ (saved_others ++ rest) = are ∙ append_assoc saved saved_others rest in
         let are_others : flags_others ≡ saved_others ++ rest = flags_behind (results_in s) flags saved (saved_others ++ rest)
         (saved_in w.data_offsets hss names held between needs.out needs.again s) are_first in
-        sequence_does w order x outer most (test w order x outer most) (jumps w order x outer most) held last (held_behind_all hss w.data_offsets last ss)
+        sequence_does w order x outer most (test w order x outer most) (jumps w order x outer most) (can_complete s) (can_complete_all ss) held last
+        (held_behind_all hss w.data_offsets last ss)
         (showing w hss names held needs_first s) between needs
         (statement_code flags (surrounding w x oss hss names low held) next out again s)
         (statements_code flags_others (surrounding w x oss hss behind low last) (next + labels_in s) out again ss) out again s ss

@@ -1,12 +1,12 @@
 -- The forms of statements, from what their parts do: a choice, a loop, a block, one after the other. Tests, jumps and operations are given.
-use Rattle.std.specs.Prelude.{Bool, slice_get}
-use Rattle.std.proofs.Common.{◌≡◌, ℕ, zero, suc, ◌+◌, ◌%◌, ◌<◌, ◌≤◌, inl, List, [], ◌∷◌, ◌++◌, Some, refl, sym, ap, ◌∙◌, subst, arith}
+use Rattle.std.specs.Prelude.{◌&&◌, if◌then◌else◌, slice_get}
+use Rattle.std.proofs.Common.{◌≡◌, ℕ, zero, suc, Bool, true, false, ◌+◌, ◌%◌, ◌<◌, ◌≤◌, inl, List, [], ◌∷◌, ◌++◌, Some, refl, sym, ap, ◌∙◌, subst, arith}
 use Rattle.cyc_words.specs.Events.{AreBytes}
-use Rattle.core_meaning.specs.Memory.{Content, Memory, Frame, Own, Dead, with_standing}
+use Rattle.core_meaning.specs.Memory.{Content, Memory, Frame, Own, Live, Dead, with_standing}
 use Rattle.core_meaning.specs.Core.{Local, Statement, Statements, While, Block, Break, Continue, NoStatements, MoreStatements}
 use Rattle.core_meaning.specs.Meaning as core
 use Rattle.core_meaning.specs.Steps.{Config, Step, Exit, Falls, Breaks, Continues, Returns}
-use Rattle.core_meaning.specs.Meaning.{in_block, out_of_block}
+use Rattle.core_meaning.specs.Meaning.{with_objects, in_block, out_of_block}
 use Rattle.core_lines.specs.Machines.{Machine}
 use Rattle.rv32_machine.specs.State.{Runs}
 use Rattle.core_lines.specs.declared.line.Line.{Line}
@@ -23,7 +23,7 @@ use Rattle.core_lines.proofs.frames.Passing.{has_first, has_second}
 use Rattle.core_lines.proofs.frames.Bodies.{with_config, IsIn, GoesFrom, from_same, GoesHolding, goes_any, goes_fewer}
 use Rattle.core_lines.specs.Held.{Holding}
 use Rattle.core_lines.specs.Lies.{Maps, Activation}
-use Rattle.core_lines.proofs.operations.Registers.{AtHolding, IsServed, at_any}
+use Rattle.core_lines.proofs.operations.Registers.{AtHolding, AreThere, IsServed, at_any, at_of, there_extends}
 use Rattle.core_lines.proofs.memory.Laying.{AreTiny, LaidOut}
 use Rattle.core_lines.proofs.memory.Nested.{NestFits, enters_block}
 use Rattle.core_lines.proofs.memory.Zones.{leaves_block, leaves_block_returning}
@@ -59,36 +59,47 @@ module _ (w : World) (order : IsInOrder w) (x : Waiting) (outer : List Waiting) 
       → GoesHolding w (keeping kept x) outer fuel (w.places label) held next → GoesHolding w (keeping kept x) outer fuel place held next
   jump_goes kept fuel held label place next has goes c is = goes_from w _ _ fuel (next c) _ ((jumps kept).jump held label place has c is) (goes c is)
 
-  pub break_does : (needs : Needs) (out again : ℕ) → Does w x outer most [] [] needs.out needs (Jump out ∷ []) out again (core.statement Break)
+  pub break_does : (needs : Needs) (out again : ℕ) → Does w x outer most false [] [] needs.out needs (Jump out ∷ []) out again (core.statement Break)
   break_does needs out again =
       record { goes = λ place fuel le next aligned has ways. jump_goes needs.out fuel [] out place (next Breaks) has ways.breaks }
 
-  pub continue_does : (needs : Needs) (out again : ℕ) → Does w x outer most [] [] needs.again needs (Jump again ∷ []) out again (core.statement Continue)
+  pub continue_does : (needs : Needs) (out again : ℕ) → Does w x outer most false [] [] needs.again needs (Jump again ∷ []) out again (core.statement Continue)
   continue_does needs out again =
       record { goes = λ place fuel le next aligned has ways. jump_goes needs.again fuel [] again place (next Continues) has ways.continues }
 
   pub nothing_does : (held : List Holding) (needs : Needs) (out again : ℕ)
-      → Does w x outer most held held needs.after needs [] out again (core.statements NoStatements)
+      → Does w x outer most true held held needs.after needs [] out again (core.statements NoStatements)
   nothing_does held needs out again = record {
-    goes = λ place fuel le next aligned has ways. same_holding needs.after fuel (place + 0) place held (next Falls) (omega arith) ways.falls;
+    goes = λ place fuel le next aligned has ways. same_holding needs.after fuel (place + 0) place held (next Falls) (omega arith) (ways.falls refl);
   }
 
-  pub sequence_does : (held between end : List Holding) (start middle_needs : List Bool) (needs : Needs) (first second : List Line) (out again : ℕ)
-      (s : Statement) (ss : Statements)
-      → Does w x outer most held between start (record needs { after = middle_needs }) first out again (core.statement s)
-      → Does w x outer most between end middle_needs needs second out again (core.statements ss)
-      → Does w x outer most held end start needs (first ++ second) out again (core.statements (MoreStatements s ss))
-  sequence_does held between end start middle_needs needs first second out again s ss one others = record {
+  -- what stands behind a statement that can't complete has no lines
+  pub sequence_does : (completes others_complete : Bool) (held between end : List Holding) (start middle_needs : List Bool) (needs : Needs)
+      (first second : List Line) (out again : ℕ) (s : Statement) (ss : Statements)
+      → Does w x outer most completes held between start (record needs { after = middle_needs }) first out again (core.statement s)
+      → Does w x outer most others_complete between end middle_needs needs second out again (core.statements ss)
+      → Does w x outer most (completes && others_complete) held end start needs (first ++ (if completes then second else [])) out again
+      (core.statements (MoreStatements s ss))
+  sequence_does true others_complete held between end start middle_needs needs first second out again s ss one others = record {
     goes = λ place fuel le next aligned has ways.
         let middle = place + code_length first in
         let e : place + code_length (first ++ second) ≡ middle + code_length second = omega (arith, length_of_both first second) in
         one.goes place fuel le (λ exit. core.falls_to exit (core.statements ss next) next) aligned (has_first w place first second has) (record {
-          falls = others.goes middle fuel le next (behind place first aligned) (has_second w place first second has) (record {
-            falls = same_holding needs.after fuel (place + code_length (first ++ second)) (middle + code_length second) end (next Falls) e ways.falls;
+          falls = λ completes. others.goes middle fuel le next (behind place first aligned) (has_second w place first second has) (record {
+            falls = λ both. same_holding needs.after fuel (place + code_length (first ++ second)) (middle + code_length second) end (next Falls) e (ways.falls both);
             breaks = ways.breaks;
             continues = ways.continues;
             returns = ways.returns;
           });
+          breaks = ways.breaks;
+          continues = ways.continues;
+          returns = ways.returns;
+        });
+  }
+  sequence_does false others_complete held between end start middle_needs needs first second out again s ss one others = record {
+    goes = λ place fuel le next aligned has ways.
+        one.goes place fuel le (λ exit. core.falls_to exit (core.statements ss next) next) aligned (has_first w place first [] has) (record {
+          falls = λ completes. absurd (cc completes);
           breaks = ways.breaks;
           continues = ways.continues;
           returns = ways.returns;
@@ -131,8 +142,9 @@ module _ (w : World) (order : IsInOrder w) (x : Waiting) (outer : List Waiting) 
       (body_aligned : body_at % 4 ≡ 0)
       (back : Has w (body_at + code_length second) (Jump next_label ∷ [])) (label_end : w.places behind_label ≡ end)
       (to_end : Covers between needs.after)
-      (one : Does w x outer most [] held head (record needs { after = between }) first out again (core.statements ts))
-      (other : Does w x outer most [] last between (record { after = head; out = needs.after; again = head }) second behind_label next_label
+      (test_completes body_completes : Bool)
+      (one : Does w x outer most test_completes [] held head (record needs { after = between }) first out again (core.statements ts))
+      (other : Does w x outer most body_completes [] last between (record { after = head; out = needs.after; again = head }) second behind_label next_label
       (core.statements body)) where
     abbrev here : LoopTurn
     here = record { test = ts; flag = t; body = body }
@@ -159,15 +171,15 @@ module _ (w : World) (order : IsInOrder w) (x : Waiting) (outer : List Waiting) 
     Goes_again j = GoesFrom w (keeping head x) outer j place loop
 
     abbrev Ways : ℕ → Type 0
-    Ways j = WaysOut w x outer j end [] needs out again k
+    Ways j = WaysOut w x outer j true end [] needs out again k
 
     turn_again : (j : ℕ) → j ≤ most → Goes_again j → Ways j → GoesFrom w at_choice outer j body_at turn
     turn_again j le goes ways =
         let from_label = from_same w (keeping head x) outer j place (w.places next_label) loop (sym label_first) goes in
         other.goes body_at j le (λ exit. core.after_turn exit loop k) body_aligned has_body (record {
-          falls = goes_any w (keeping head x) outer j (body_at + code_length second) last loop
+          falls = λ completes. goes_any w (keeping head x) outer j (body_at + code_length second) last loop
               (jump_goes head j [] next_label (body_at + code_length second) loop back from_label);
-          breaks = from_same w (keeping needs.after x) outer j end (w.places behind_label) (k Falls) (sym label_end) ways.falls;
+          breaks = from_same w (keeping needs.after x) outer j end (w.places behind_label) (k Falls) (sym label_end) (ways.falls refl);
           continues = from_label;
           returns = ways.returns;
         })
@@ -177,7 +189,7 @@ module _ (w : World) (order : IsInOrder w) (x : Waiting) (outer : List Waiting) 
     ends_goes fuel ways =
         goes_fewer w x outer fuel (w.places behind_label) held (k Falls) between needs.after to_end
         (goes_any w (keeping needs.after x) outer fuel (w.places behind_label) held (k Falls)
-        (from_same w (keeping needs.after x) outer fuel end (w.places behind_label) (k Falls) (sym label_end) ways.falls))
+        (from_same w (keeping needs.after x) outer fuel end (w.places behind_label) (k Falls) (sym label_end) (ways.falls refl)))
 
     tested_goes : (fuel : ℕ) → fuel ≤ most → ((j : ℕ) → suc j ≤ fuel → Goes_again j) → Ways fuel → GoesHolding w at_choice outer fuel tested held on_test
     tested_goes fuel le goes ways c is = by (c.temps t) refl ((jumps between).tested (c.temps t))
@@ -197,7 +209,7 @@ module _ (w : World) (order : IsInOrder w) (x : Waiting) (outer : List Waiting) 
             (λ s a. (at_any w (with_config at_choice c) outer c.memory tested held s a).stands.runs)
             (λ j less. goes_any w at_choice outer j (tested + code_length (test held t behind_label)) held turn
             (from_same w at_choice outer j body_at (tested + code_length (test held t behind_label)) turn (sym at_body)
-            (turn_again j (omega (arith, less, le)) (goes j less) (fewer_ways w x outer fuel j end [] needs out again k (omega (arith, less)) ways))) c is))
+            (turn_again j (omega (arith, less, le)) (goes j less) (fewer_ways w x outer fuel j true end [] needs out again k (omega (arith, less)) ways))) c is))
         by v e (Neither u f) =
             subst (λ q. Goes w fuel q (R c) active) (sym
             (ap (λ q. core.branch q (Turns here k c) (k Falls c)) e ∙ f (Turns here k c) (k Falls c)))
@@ -207,9 +219,9 @@ module _ (w : World) (order : IsInOrder w) (x : Waiting) (outer : List Waiting) 
     loops_below zero fuel less le ways = absurd (omega (arith, less))
     loops_below (suc bound) fuel less le ways =
         one.goes place fuel le (λ exit. core.falls_to exit on_test k) aligned has_first_part (record {
-          falls = same_holding between fuel tested (place + code_length first) held on_test (sym at_tested)
+          falls = λ completes. same_holding between fuel tested (place + code_length first) held on_test (sym at_tested)
               (tested_goes fuel le (λ j fewer_units. loops_below bound j (omega (arith, less, fewer_units)) (omega (arith, fewer_units, le))
-              (fewer_ways w x outer fuel j end [] needs out again k (omega (arith, fewer_units)) ways)) ways);
+              (fewer_ways w x outer fuel j true end [] needs out again k (omega (arith, fewer_units)) ways)) ways);
           breaks = ways.breaks;
           continues = ways.continues;
           returns = ways.returns;
@@ -253,6 +265,22 @@ at_config w x outer c d mem place s temps blocks own a = record {
   shows = frame_config w a.maps x (back_of w outer) a.frame c d temps blocks own a.shows;
 }
 
+-- nor does what is known
+holding_config : (w : World) (x : Waiting) (outer : List Waiting) (c d : Config) (mem : Memory) (place : ℕ) (held : List Holding) (s : Machine)
+    → c.temps ≡ d.temps → c.blocks ≡ d.blocks → c.own ≡ d.own
+    → AtHolding w (with_config x c) outer mem place held s → AtHolding w (with_config x d) outer mem place held s
+holding_config w x outer c d mem place [] s temps blocks own a = at_config w x outer c d mem place s temps blocks own a
+holding_config w x outer c d mem place (h ∷ hs) s temps blocks own a = record {
+  maps = a.maps;
+  frame = a.frame;
+  others = a.others;
+  sp = a.sp;
+  stands = a.stands;
+  shows = frame_config w a.maps x (back_of w outer) a.frame c d temps blocks own a.shows;
+  stack = a.stack;
+  holds = subst (λ g. AreThere (h ∷ hs) g a.maps s.registers) temps a.holds;
+}
+
 returning_config : (w : World) (x : Waiting) (outer : List Waiting) (c d : Config) (mem : Memory) (values : List Content) (s : Machine) → c.temps ≡ d.temps
     → c.blocks ≡ d.blocks
     → c.own ≡ d.own → Returning w (with_config x c) outer mem values s → Returning w (with_config x d) outer mem values s
@@ -273,13 +301,38 @@ returning_config w x outer c d mem values s temps blocks own a = record {
 abbrev pub within_block : Waiting → Place → ℕ → Waiting
 within_block x p k = record x { nest = p ∷ x.nest; config = record x.config { blocks = k ∷ x.config.blocks } }
 
-pub block_does : (w : World) (order : IsInOrder w) (x : Waiting) (outer : List Waiting) (most : ℕ) (p : Place) (ls : List Local) (body : Statements)
-    (last : List Holding) (start : List Bool) (needs : Needs) (lines : List Line) (out again : ℕ)
+-- what is known of temporaries is known within it
+enters_holding : (w : World) (order : IsInOrder w) (x : Waiting) (outer : List Waiting) (p : Place) (ls : List Local) (mem : Memory) (place : ℕ)
+    (held : List Holding) (s : Machine)
     → LaidOut (shrunk ls p.homes) p.offsets p.low p.high → p.high ≤ w.frame_bytes x.function → NestFits x.own_high p.low x.nest
     → AreTiny ls p.homes → HomesFit x.fn (length ls) p.homes x.nest → x.phase ≡ Inside
-    → ((k : ℕ) → Does w (within_block x p k) outer most [] last start needs lines out again (core.statements body))
-    → Does w x outer most [] [] start needs lines out again (core.statement (Block ls body))
-block_does w order x outer most p ls body last start needs lines out again laid room nest tiny fit inside inner = record {
+    → AtHolding w x outer mem place held s
+    → AtHolding w (within_block x p mem.activations) outer
+    (with_objects (Frame mem.activations) ls (record (with_standing mem (Frame mem.activations) Live) { activations = mem.activations + 1 })) place held s
+enters_holding w order x outer p ls mem place [] s laid room nest tiny fit inside a =
+    (enters_block w order x outer p ls mem place s laid room nest tiny fit inside a).at
+enters_holding w order x outer p ls mem place (h ∷ hs) s laid room nest tiny fit inside a =
+    let more = enters_block w order x outer p ls mem place s laid room nest tiny fit inside
+    (at_of w order x outer mem place (AreThere (h ∷ hs) x.config.temps) s a) in
+    let at = more.at in
+    record {
+      maps = at.maps;
+      frame = at.frame;
+      others = at.others;
+      sp = at.sp;
+      stands = at.stands;
+      shows = at.shows;
+      stack = at.stack;
+      holds = there_extends (h ∷ hs) x.config.temps a.maps at.maps s.registers more.extends a.holds;
+    }
+
+pub block_does : (w : World) (order : IsInOrder w) (x : Waiting) (outer : List Waiting) (most : ℕ) (p : Place) (ls : List Local) (body : Statements)
+    (completes : Bool) (held last : List Holding) (start : List Bool) (needs : Needs) (lines : List Line) (out again : ℕ)
+    → LaidOut (shrunk ls p.homes) p.offsets p.low p.high → p.high ≤ w.frame_bytes x.function → NestFits x.own_high p.low x.nest
+    → AreTiny ls p.homes → HomesFit x.fn (length ls) p.homes x.nest → x.phase ≡ Inside
+    → ((k : ℕ) → Does w (within_block x p k) outer most completes held last start needs lines out again (core.statements body))
+    → Does w x outer most completes held [] start needs lines out again (core.statement (Block ls body))
+block_does w order x outer most p ls body completes held last start needs lines out again laid room nest tiny fit inside inner = record {
   goes = λ place fuel le next aligned has ways c is.
       let k = c.memory.activations in
       let y = within_block x p k in
@@ -295,13 +348,13 @@ block_does w order x outer most p ls body last start needs lines out again laid 
       (with_standing d.memory (Frame k) Dead) at s refl (sym is.blocks) refl
       (leaves_block w within outer p x.nest k x.config.blocks d.memory at s refl i.blocks fit.differ a))
       (goes (out_of_block k c.blocks d) (out_is d i)) in
-      goes_as w (At w (with_config (keeping start x) c) outer c.memory place) (active_of w (x ∷ outer)) fuel (core.statements body ends (in_block ls c))
-      (At w (with_config (keeping start y) (in_block ls c)) outer (in_block ls c).memory place)
-      (λ s a. at_config w (keeping start y) outer (record c { blocks = k ∷ c.blocks }) (in_block ls c) (in_block ls c).memory place s refl refl refl
-      (enters_block w order (with_config (keeping start x) c) outer p ls c.memory place s laid room nest tiny fit inside a))
+      goes_as w (AtHolding w (with_config (keeping start x) c) outer c.memory place held) (active_of w (x ∷ outer)) fuel
+      (core.statements body ends (in_block ls c)) (AtHolding w (with_config (keeping start y) (in_block ls c)) outer (in_block ls c).memory place held)
+      (λ s a. holding_config w (keeping start y) outer (record c { blocks = k ∷ c.blocks }) (in_block ls c) (in_block ls c).memory place held s refl refl refl
+      (enters_holding w order (with_config (keeping start x) c) outer p ls c.memory place held s laid room nest tiny fit inside a))
       ((inner k).goes place fuel le ends aligned has (record {
-        falls = goes_any w (keeping needs.after y) outer fuel (place + code_length lines) last (ends Falls)
-            (leave needs.after (place + code_length lines) Falls ways.falls);
+        falls = λ e. goes_any w (keeping needs.after y) outer fuel (place + code_length lines) last (ends Falls)
+            (leave needs.after (place + code_length lines) Falls (ways.falls e));
         breaks = leave needs.out (w.places out) Breaks ways.breaks;
         continues = leave needs.again (w.places again) Continues ways.continues;
         returns = λ d values i.

@@ -9,7 +9,8 @@ use Rattle.core_lines.specs.Frames.{load_code, save_code, environment_code, test
 use Rattle.core_lines.specs.Held.{Holding, without_register, result_register, held_behind, held_behind_all}
 use Rattle.core_lines.specs.Operands.{operand_in, operand_code, into_code, keep_code, pass_code, result_code, values_code, return_code}
 use Rattle.core_lines.specs.Operands.{take_code, prologue_code}
-use Rattle.core_lines.specs.Choosing.{jump_if_zero, choice_code}
+use Rattle.core_lines.specs.Choosing.{jump_if_zero, choice_code, between_code, behind_code}
+use Rattle.core_lines.specs.Completing.{can_complete, can_complete_all}
 use Rattle.core_lines.specs.Saved.{results_in, results_all, live_at_start, saves_at}
 use Rattle.core_lines.specs.Homes.{saved_slot, saved_by, flag_at}
 use Rattle.core_lines.specs.Selected.{offsets_from, frame_bytes, datum_locals, Surroundings, labels_in, labels_of, names_after, names_after_all}
@@ -64,6 +65,15 @@ choice_within wide passed hs t label =
     both_within 12 8 (operand_code passed hs 5 t) (jump_if_zero wide (operand_in hs 5 t) label ∷ []) (operand_within passed hs 5 t)
     (jump_within wide (operand_in hs 5 t) label)
 
+between_within : (completes : Bool) (those : Statements) (behind next : ℕ) → IsWithin 4 (between_code completes those behind next)
+between_within completes NoStatements behind next = record { is = omega arith }
+between_within true (MoreStatements s ss) behind next = record { is = omega arith }
+between_within false (MoreStatements s ss) behind next = record { is = omega arith }
+
+behind_within : (those : Statements) (behind : ℕ) → IsWithin 0 (behind_code those behind)
+behind_within NoStatements behind = record { is = omega arith }
+behind_within (MoreStatements s ss) behind = record { is = omega arith }
+
 -- an exception alone is three lines
 branch_within : (flags : List Bool) (u : Surroundings) (next out again : ℕ) (ss : Statements) (n : ℕ)
     → IsWithin (64 * n) (statements_code flags u next out again ss) → IsWithin (12 + 64 * branch_count ss n) (statements_code flags u next out again ss)
@@ -81,14 +91,14 @@ mutual
       let n = operations_of these in let m = operations_of those in
       let a = 12 + 64 * branch_count these n in let b = 12 + 64 * branch_count those m in
       less_within (20 + a + 4 + b + 0) (64 * (1 + (branch_count these n + branch_count those m))) _ (omega arith)
-      (both_within (20 + a + 4 + b) 0 _ (Label behind ∷ [])
+      (both_within (20 + a + 4 + b) 0 _ (behind_code those behind)
       (both_within (20 + a + 4) b _ (statements_code left further (behind + 1) out again those)
-      (both_within (20 + a) 4 _ (Jump behind ∷ Label next ∷ [])
+      (both_within (20 + a) 4 _ (between_code (can_complete_all these) those behind next)
       (both_within 20 a (choice_code u.wide u.passed u.held t next) (statements_code flags u (next + 1) out again these)
       (choice_within u.wide u.passed u.held t next) (branch_within flags u (next + 1) out again these n
-      (statements_within flags u (next + 1) out again these))) (record { is = omega arith }))
+      (statements_within flags u (next + 1) out again these))) (between_within (can_complete_all these) those behind next))
       (branch_within left further (behind + 1) out again those m (statements_within left further (behind + 1) out again those)))
-      (record { is = omega arith }))
+      (behind_within those behind))
   statement_within flags u next out again (While test t body) =
       let left = drop (results_all test) flags in
       let behind = next + 1 + labels_of test in
@@ -124,9 +134,11 @@ mutual
   statements_within flags u next out again NoStatements = nothing_within 0
   statements_within flags u next out again (MoreStatements s ss) =
       let left = drop (results_in s) flags in
+      let v = holding (held_behind u.homes u.statics u.held s) (naming (names_after s u.names) u) in
       less_within (64 * statement_operations s + 64 * operations_of ss) (64 * (statement_operations s + operations_of ss)) _ (omega arith)
       (both_within (64 * statement_operations s) (64 * operations_of ss) _ _ (statement_within flags u next out again s)
-      (statements_within left (holding (held_behind u.homes u.statics u.held s) (naming (names_after s u.names) u)) (next + labels_in s) out again ss))
+      (if_within (64 * operations_of ss) (can_complete s) _ [] (statements_within left v (next + labels_in s) out again ss)
+      (nothing_within (64 * operations_of ss))))
 
 -- ---- functions and programs
 

@@ -3,6 +3,7 @@ pub mod Steps
 pub mod homes
 pub mod frames
 pub mod Flags
+pub mod Completing
 pub mod Ways
 pub mod Forms
 pub mod operations

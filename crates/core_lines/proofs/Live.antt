@@ -146,7 +146,7 @@ module _ (statics : List ℕ) where
     length_in homes names hs after out again (While test t body) same_out same_again =
         length_at_loop homes names after out again (While test t body) same_out same_again
     length_in homes names hs after out again (Block locals body) same_out same_again =
-        length_of (homes_here locals names ∷ homes) (homes_after locals names) [] after out again body same_out same_again
+        length_of (homes_here locals names ∷ homes) (homes_after locals names) hs after out again body same_out same_again
     length_in homes names hs after out again (Leave body) same_out same_again = length_of homes names hs after after again body refl same_again
     length_in homes names hs after out again Break same_out same_again = same_out
     length_in homes names hs after out again Continue same_out same_again = same_again
@@ -197,7 +197,7 @@ module _ (statics : List ℕ) where
       covers_in homes names hs after out again (While test t body) to_after to_out to_again are =
           covers_loop homes names after out again (While test t body) to_after to_out to_again are
       covers_in homes names hs after out again (Block locals body) to_after to_out to_again are =
-          covers_of (homes_here locals names ∷ homes) (homes_after locals names) [] after out again body to_after to_out to_again are
+          covers_of (homes_here locals names ∷ homes) (homes_after locals names) hs after out again body to_after to_out to_again are
       covers_in homes names hs after out again (Leave body) to_after to_out to_again are =
           covers_of homes names hs after after again body to_after to_after to_again are
       covers_in homes names hs after out again Break to_after to_out to_again are = to_out
@@ -278,7 +278,7 @@ module _ (statics : List ℕ) where
         let other : length second ≡ results_all body = saved_of homes (names_after_all test names) [] head after head body in
         omega (arith, length-append first second, one, other)
     saved_in homes names hs after out again (Block locals body) =
-        saved_of (homes_here locals names ∷ homes) (homes_after locals names) [] after out again body
+        saved_of (homes_here locals names ∷ homes) (homes_after locals names) hs after out again body
     saved_in homes names hs after out again (Leave body) = saved_of homes names hs after after again body
     saved_in homes names hs after out again Break = refl
     saved_in homes names hs after out again Continue = refl

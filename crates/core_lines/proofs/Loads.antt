@@ -130,7 +130,7 @@ module _ (statics : List ℕ) where
         (joined_below u.temporaries first tested (statements_below u hss names [] test has.1) (one_below u.temporaries at_choice t has.0))
         (statements_below u hss (names_after_all test names) [] body has.2)
     statement_below u hss names hs (Block locals body) has =
-        statements_below (scope_within locals u) (homes_here locals names ∷ hss) (homes_after locals names) [] body has.1
+        statements_below (scope_within locals u) (homes_here locals names ∷ hss) (homes_after locals names) hs body has.1
     statement_below u hss names hs (Leave body) has = statements_below u hss names hs body has
     statement_below u hss names hs Break has = tt
     statement_below u hss names hs Continue has = tt

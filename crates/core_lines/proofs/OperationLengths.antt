@@ -19,7 +19,7 @@ use Rattle.core_lines.specs.Operands.{number_code, bring_code, operand_code, fet
 use Rattle.core_lines.specs.Selected.{Surroundings, nth, local_offset, local_home, from_temp, to_temp, far_code, read_line, read_code, write_line, write_code}
 use Rattle.core_lines.specs.Selected.{binary_code, turned, immediate_code, immediate_for, operand, has_operand, both_code, apply_code, keep_result}
 use Rattle.core_lines.specs.Selected.{applied_kept, address_code, get_code, byte_code, put_code}
-use Rattle.core_lines.specs.Selected.{element_code, bytes_code, further_code, bytes_in, operation_code}
+use Rattle.core_lines.specs.Selected.{number_in, narrow_kept, exponent_of, times_code, element_code, bytes_code, further_code, bytes_in, operation_code}
 use Rattle.core_lines.proofs.memory.Access.{length_of_both}
 use Rattle.core_meaning.specs.Bounds.{operation_count}
 
@@ -216,18 +216,21 @@ applied_within keeps u o t x y None =
     result_within 32 keeps u t (apply_code u o (result_register t) x y) (omega arith) (apply_within u o (result_register t) x y)
 applied_within keeps u o t x y (Some z) = move_within keeps u.passed (result_register t) t z (source_of u.held z)
 
+times_within : (exponent : Option ℕ) (left bytes : ℕ) → IsWithin 12 (times_code exponent left bytes)
+times_within None left bytes = both_within 8 4 (number_code 6 bytes) (Plain (instr.Mul 5 left 6) ∷ []) (number_within 6 bytes) (record { is = omega arith })
+times_within (Some exponent) left bytes = record { is = omega arith }
+
 element_within : (u : Surroundings) (to p i bytes : ℕ) → IsWithin 40 (element_code u to p i bytes)
 element_within u to p i bytes =
-    let times : List Line = Plain (instr.Mul 5 (has_operand u 5 i) 6) ∷ [] in
-    let product = operand u 5 i ++ number_code 6 bytes ++ times in
+    let product = operand u 5 i ++ times_code (exponent_of bytes) (has_operand u 5 i) bytes in
     if_within 40 (nat_eq bytes 1) _ _
     (less_within 28 40 _ (omega arith)
     (both_within 24 4 (operand u 5 i ++ operand u 6 p) (Plain (instr.Add to (has_operand u 5 i) (has_operand u 6 p)) ∷ []) (operands_within u i p)
     (record { is = omega arith })))
     (both_within 36 4 (product ++ operand u 6 p) (Plain (instr.Add to 5 (has_operand u 6 p)) ∷ [])
     (both_within 24 12 product (operand u 6 p)
-    (both_within 20 4 (operand u 5 i ++ number_code 6 bytes) times (with_within 8 u 5 i (number_code 6 bytes) (number_within 6 bytes))
-    (record { is = omega arith })) (of_within u 6 p)) (record { is = omega arith }))
+    (with_within 12 u 5 i (times_code (exponent_of bytes) (has_operand u 5 i) bytes) (times_within (exponent_of bytes) (has_operand u 5 i) bytes))
+    (of_within u 6 p)) (record { is = omega arith }))
 
 copy_within : (b : Bool) → IsWithin 20 (copy_loop b)
 copy_within true = record { is = omega arith }
@@ -269,13 +272,17 @@ about_within u t number =
     less_within (12 + 8) 64 _ (omega arith)
     (both_within 12 8 (from_temp u 10 t) (environment_code number) (from_within u 10 t) (environment_within number))
 
+narrow_within : (keeps : Bool) (u : Surroundings) (t x : ℕ) (known : Option ℕ) → IsWithin 64 (narrow_kept keeps u t x known)
+narrow_within keeps u t x None =
+    let line : List Line = Plain (instr.Andi (result_register t) (has_operand u 5 x) (pos 255)) ∷ [] in
+    result_within 16 keeps u t (operand u 5 x ++ line) (omega arith) (with_within 4 u 5 x line (record { is = omega arith }))
+narrow_within keeps u t x (Some w) = number_kept_within keeps u.passed t (w % 256)
+
 pub operation_within : (keeps : Bool) (u : Surroundings) (o : Operation) → IsWithin (64 * operation_count o) (operation_code keeps u o)
 operation_within keeps u (Constant t w) = number_kept_within keeps u.passed t (w % 2 ^ 32)
 operation_within keeps u (NullPointer t) = less_within 12 64 _ (omega arith) (keep_within keeps u.passed 0 t)
 operation_within keeps u (Move t x) = move_within keeps u.passed (result_register t) t x (source_of u.held x)
-operation_within keeps u (Narrow t x) =
-    let line : List Line = Plain (instr.Andi (result_register t) (has_operand u 5 x) (pos 255)) ∷ [] in
-    result_within 16 keeps u t (operand u 5 x ++ line) (omega arith) (with_within 4 u 5 x line (record { is = omega arith }))
+operation_within keeps u (Narrow t x) = narrow_within keeps u t x (number_in (source_of u.held x))
 operation_within keeps u (Apply o t x y) = applied_within keeps u o t x y (same_as o x y (source_of u.held x) (source_of u.held y))
 operation_within keeps u (LocalAddress t out local) =
     let offset = local_offset u out local in

@@ -1,6 +1,5 @@
 -- When the lines of a statement do as it means: they go on by each of its ways out. And what tests and jumps do.
-use Rattle.std.specs.Prelude.{Bool}
-use Rattle.std.proofs.Common.{◌≡◌, ℕ, ◌+◌, ◌%◌, ◌<◌, ◌≤◌, List, [], ◌∷◌}
+use Rattle.std.proofs.Common.{◌≡◌, ℕ, ◌+◌, ◌%◌, ◌<◌, ◌≤◌, Bool, true, false, List, [], ◌∷◌}
 use Rattle.core_meaning.specs.Memory.{Content}
 use Rattle.core_meaning.specs.Meaning as core
 use Rattle.core_meaning.specs.Steps.{Config, Step, Exit, Falls, Breaks, Continues, Returns}
@@ -22,49 +21,62 @@ pub record Needs : Type 0 where
   pub out : List Bool
   pub again : List Bool
 
--- the ways out of a statement: each goes on, behind the statement with what is known of temporaries there
-pub record WaysOut (w : World) (x : Waiting) (outer : List Waiting) (most end : ℕ) (held : List Holding) (needs : Needs) (out again : ℕ)
-    (next : Exit → Config → Step) : Type 0 where
-  pub falls : GoesHolding w (keeping needs.after x) outer most end held (next Falls)
+-- the ways out of a statement: each goes on, behind the statement with what is known of temporaries there, if it can complete
+pub record WaysOut (w : World) (x : Waiting) (outer : List Waiting) (most : ℕ) (completes : Bool) (end : ℕ) (held : List Holding) (needs : Needs)
+    (out again : ℕ) (next : Exit → Config → Step) : Type 0 where
+  pub falls : completes ≡ true → GoesHolding w (keeping needs.after x) outer most end held (next Falls)
   pub breaks : GoesFrom w (keeping needs.out x) outer most (w.places out) (next Breaks)
   pub continues : GoesFrom w (keeping needs.again x) outer most (w.places again) (next Continues)
   pub returns : GoesReturning w (keeping [] x) outer most next
 
-pub fewer_ways : (w : World) (x : Waiting) (outer : List Waiting) (most less end : ℕ) (held : List Holding) (needs : Needs) (out again : ℕ)
-    (next : Exit → Config → Step) → less ≤ most
-    → WaysOut w x outer most end held needs out again next → WaysOut w x outer less end held needs out again next
-fewer_ways w x outer most less end held needs out again next le ways = record {
-  falls = λ c is. fewer w (AtHolding w (with_config (keeping needs.after x) c) outer c.memory end held) (active_of w (x ∷ outer)) most less (next Falls c) le
-      (ways.falls c is);
+pub fewer_ways : (w : World) (x : Waiting) (outer : List Waiting) (most less : ℕ) (completes : Bool) (end : ℕ) (held : List Holding) (needs : Needs)
+    (out again : ℕ) (next : Exit → Config → Step) → less ≤ most
+    → WaysOut w x outer most completes end held needs out again next → WaysOut w x outer less completes end held needs out again next
+fewer_ways w x outer most less completes end held needs out again next le ways = record {
+  falls = λ e c is. fewer w (AtHolding w (with_config (keeping needs.after x) c) outer c.memory end held) (active_of w (x ∷ outer)) most less (next Falls c) le
+      (ways.falls e c is);
   breaks = λ c is. fewer w _ _ most less (next Breaks c) le (ways.breaks c is);
   continues = λ c is. fewer w _ _ most less (next Continues c) le (ways.continues c is);
   returns = λ c values is. fewer w _ _ most less (next (Returns values) c) le (ways.returns c values is);
 }
 
 -- A statement's lines do as it means, wherever they stand, and whatever comes after it, where this is known of temporaries before it and behind it. These
--- temporaries' slots show their words where it begins.
-pub record Does (w : World) (x : Waiting) (outer : List Waiting) (most : ℕ) (held behind : List Holding) (start : List Bool) (needs : Needs)
+-- temporaries' slots show their words where it begins. Where it can't complete, nothing has to go on behind it.
+pub record Does (w : World) (x : Waiting) (outer : List Waiting) (most : ℕ) (completes : Bool) (held behind : List Holding) (start : List Bool) (needs : Needs)
     (lines : List Line) (out again : ℕ) (means : (Exit → Config → Step) → Config → Step) : Type 0 where
-  pub goes : (place fuel : ℕ) → fuel ≤ most → (next : Exit → Config → Step) → place % 4 ≡ 0 → Has w place lines → WaysOut w x outer fuel
+  pub goes : (place fuel : ℕ) → fuel ≤ most → (next : Exit → Config → Step) → place % 4 ≡ 0 → Has w place lines → WaysOut w x outer fuel completes
       (place + code_length lines) behind needs out again next
       → GoesHolding w (keeping start x) outer fuel place held (means next)
 
 -- what is known before it isn't needed
-pub does_any : (w : World) (x : Waiting) (outer : List Waiting) (most : ℕ) (held behind : List Holding) (start : List Bool) (needs : Needs)
+pub does_any : (w : World) (x : Waiting) (outer : List Waiting) (most : ℕ) (completes : Bool) (held behind : List Holding) (start : List Bool) (needs : Needs)
     (lines : List Line) (out again : ℕ) (means : (Exit → Config → Step) → Config → Step)
-    → Does w x outer most [] behind start needs lines out again means → Does w x outer most held behind start needs lines out again means
-does_any w x outer most held behind start needs lines out again means d = record {
+    → Does w x outer most completes [] behind start needs lines out again means → Does w x outer most completes held behind start needs lines out again means
+does_any w x outer most completes held behind start needs lines out again means d = record {
   goes = λ place fuel le next aligned has ways.
       goes_any w (keeping start x) outer fuel place held (means next) (d.goes place fuel le next aligned has ways);
 }
 
 -- nor what is known behind it
-pub does_less : (w : World) (x : Waiting) (outer : List Waiting) (most : ℕ) (held behind : List Holding) (start : List Bool) (needs : Needs)
+pub does_less : (w : World) (x : Waiting) (outer : List Waiting) (most : ℕ) (completes : Bool) (held behind : List Holding) (start : List Bool) (needs : Needs)
     (lines : List Line) (out again : ℕ) (means : (Exit → Config → Step) → Config → Step)
-    → Does w x outer most held behind start needs lines out again means → Does w x outer most held [] start needs lines out again means
-does_less w x outer most held behind start needs lines out again means d = record {
+    → Does w x outer most completes held behind start needs lines out again means → Does w x outer most completes held [] start needs lines out again means
+does_less w x outer most completes held behind start needs lines out again means d = record {
   goes = λ place fuel le next aligned has ways. d.goes place fuel le next aligned has (record {
-    falls = goes_any w (keeping needs.after x) outer fuel (place + code_length lines) behind (next Falls) ways.falls;
+    falls = λ e. goes_any w (keeping needs.after x) outer fuel (place + code_length lines) behind (next Falls) (ways.falls e);
+    breaks = ways.breaks;
+    continues = ways.continues;
+    returns = ways.returns;
+  });
+}
+
+-- where it can't complete, anything is known behind it
+pub does_ends : (w : World) (x : Waiting) (outer : List Waiting) (most : ℕ) (completes : Bool) (held behind other : List Holding) (start : List Bool)
+    (needs : Needs) (lines : List Line) (out again : ℕ) (means : (Exit → Config → Step) → Config → Step) → completes ≡ false
+    → Does w x outer most completes held behind start needs lines out again means → Does w x outer most completes held other start needs lines out again means
+does_ends w x outer most completes held behind other start needs lines out again means never d = record {
+  goes = λ place fuel le next aligned has ways. d.goes place fuel le next aligned has (record {
+    falls = λ e. absurd (cc (e, never));
     breaks = ways.breaks;
     continues = ways.continues;
     returns = ways.returns;
@@ -72,10 +84,10 @@ does_less w x outer most held behind start needs lines out again means d = recor
 }
 
 -- more slots may show their words before it
-pub does_fewer : (w : World) (x : Waiting) (outer : List Waiting) (most : ℕ) (held behind : List Holding) (more start : List Bool) (needs : Needs)
-    (lines : List Line) (out again : ℕ) (means : (Exit → Config → Step) → Config → Step) → Covers more start
-    → Does w x outer most held behind start needs lines out again means → Does w x outer most held behind more needs lines out again means
-does_fewer w x outer most held behind more start needs lines out again means covers d = record {
+pub does_fewer : (w : World) (x : Waiting) (outer : List Waiting) (most : ℕ) (completes : Bool) (held behind : List Holding) (more start : List Bool)
+    (needs : Needs) (lines : List Line) (out again : ℕ) (means : (Exit → Config → Step) → Config → Step) → Covers more start
+    → Does w x outer most completes held behind start needs lines out again means → Does w x outer most completes held behind more needs lines out again means
+does_fewer w x outer most completes held behind more start needs lines out again means covers d = record {
   goes = λ place fuel le next aligned has ways.
       goes_fewer w x outer fuel place held (means next) more start covers (d.goes place fuel le next aligned has ways);
 }

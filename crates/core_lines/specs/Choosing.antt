@@ -1,7 +1,8 @@
--- How a choice tests a temporary.
+-- How a choice tests a temporary, and what stands between its ways and behind them.
 use Rattle.std.specs.Prelude.{ℕ, Bool, true, List, [], ◌∷◌, ◌++◌, if◌then◌else◌}
+use Rattle.core_meaning.specs.Core.{Statements, NoStatements, MoreStatements}
 use Rattle.core_lines.specs.declared.line.Line.{Line}
-use Rattle.core_lines.specs.declared.line.Line.TheVariants.{JumpIfZero, BranchIfZero}
+use Rattle.core_lines.specs.declared.line.Line.TheVariants.{Label, Jump, JumpIfZero, BranchIfZero}
 use Rattle.core_lines.specs.Held.{Holding}
 use Rattle.core_lines.specs.Operands.{operand_in, operand_code}
 
@@ -16,3 +17,18 @@ jump_if_zero wide register label = (if wide label then JumpIfZero register label
 -- Goes on where a temporary is neither 0 nor NULL, and at a label where it is.
 abbrev pub choice_code : (ℕ → Bool) → (passed : ℕ) → List Holding → (t label : ℕ) → List Line
 choice_code wide passed hs t label = operand_code passed hs 5 t ++ (jump_if_zero wide (operand_in hs 5 t) label ∷ [])
+
+-- a jump to a label, where code is reached
+abbrev pub jump_code : Bool → ℕ → List Line
+jump_code reached label = (if reached then Jump label ∷ [] else [])
+
+-- Between the ways of a choice: a jump over the second one, if the first one can complete, and the label of the second one. There is no jump where the second
+-- one is empty.
+abbrev pub between_code : Bool → Statements → (behind next : ℕ) → List Line
+between_code completes NoStatements behind next = Label next ∷ []
+between_code completes (MoreStatements s ss) behind next = jump_code completes behind ++ (Label next ∷ [])
+
+-- behind both, where that jump goes
+abbrev pub behind_code : Statements → ℕ → List Line
+behind_code NoStatements behind = []
+behind_code (MoreStatements s ss) behind = Label behind ∷ []

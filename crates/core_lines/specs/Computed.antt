@@ -8,7 +8,7 @@ use Rattle.core_lines.specs.declared.line.Line.TheVariants.{Plain}
 use Rattle.core_lines.specs.Frames.{upper_of, lower_of, is_short, word_code, load_code, save_code, slot_of}
 use Rattle.core_lines.specs.Held.{nth, nth_block, Source, Register, Number, Holding, source_of, result_register}
 use Rattle.core_lines.specs.Operands.{number_code, operand_in, operand_code, into_code, keep_code}
-use Rattle.core_lines.specs.Operands.{move_kept}
+use Rattle.core_lines.specs.Operands.{number_kept, move_kept}
 
 -- ---- operations
 
@@ -164,6 +164,12 @@ abbrev pub applied_kept : Bool → Surroundings → Binary → (t x y : ℕ) →
 applied_kept keeps u o t x y None = apply_code u o (result_register t) x y ++ keep_result keeps u t
 applied_kept keeps u o t x y (Some z) = move_kept keeps u.passed (result_register t) t z (source_of u.held z)
 
+-- the lowest byte of a word, which may be known to be a number
+abbrev pub narrow_kept : Bool → Surroundings → (t x : ℕ) → Option ℕ → List Line
+narrow_kept keeps u t x None =
+    operand u 5 x ++ (Plain (instr.Andi (result_register t) (has_operand u 5 x) (pos 255)) ∷ []) ++ keep_result keeps u t
+narrow_kept keeps u t x (Some w) = number_kept keeps u.passed t (w % 256)
+
 -- a local into a temporary, and back: where it lies in the frame, or in its register, of which a byte is kept as the word that it is
 abbrev pub get_code : Bool → Surroundings → ℕ → ℕ → ℕ → ℕ → List Line
 get_code keeps u zero t width offset = read_code (result_register t) width 2 offset ++ keep_result keeps u t
@@ -176,9 +182,19 @@ abbrev pub put_code : Surroundings → ℕ → ℕ → ℕ → ℕ → List Line
 put_code u zero width offset x = operand u 6 x ++ write_code (has_operand u 6 x) width 2 offset
 put_code u (suc h) width offset x = (if nat_eq width 1 then byte_code u (suc h) x else into_code u.passed u.held (suc h) x)
 
+-- the exponent of an element's bytes, where they are a small power of two
+abbrev pub exponent_of : ℕ → Option ℕ
+exponent_of bytes =
+    (if nat_eq bytes 2 then Some 1 else (if nat_eq bytes 4 then Some 2 else (if nat_eq bytes 8 then Some 3 else (if nat_eq bytes 16 then Some 4 else None))))
+
+-- as many times an element's bytes as a register says, into x5: by a shift where that does it
+abbrev pub times_code : Option ℕ → (left bytes : ℕ) → List Line
+times_code None left bytes = number_code 6 bytes ++ (Plain (instr.Mul 5 left 6) ∷ [])
+times_code (Some exponent) left bytes = Plain (instr.Slli 5 left exponent) ∷ []
+
 -- the address of an element of so many bytes
 abbrev pub element_code : Surroundings → (to p i bytes : ℕ) → List Line
 element_code u to p i bytes =
     (if nat_eq bytes 1 then operand u 5 i ++ operand u 6 p ++ (Plain (instr.Add to (has_operand u 5 i) (has_operand u 6 p)) ∷ []) else
-    operand u 5 i ++ number_code 6 bytes ++ (Plain (instr.Mul 5 (has_operand u 5 i) 6) ∷ []) ++ operand u 6 p ++
+    operand u 5 i ++ times_code (exponent_of bytes) (has_operand u 5 i) bytes ++ operand u 6 p ++
     (Plain (instr.Add to 5 (has_operand u 6 p)) ∷ []))

@@ -115,6 +115,19 @@ abbrev pub with_moved : ℕ → Option Source → List Holding → List Holding
 with_moved t None hs = with_result t hs
 with_moved t (Some s) hs = with_source t s hs
 
+-- ---- numbers
+
+-- the number that a word is known to be
+abbrev pub number_in : Option Source → Option ℕ
+number_in None = None
+number_in (Some (Register r)) = None
+number_in (Some (Number w)) = Some w
+
+-- a temporary gets the lowest byte of a word, which may be known to be a number
+abbrev pub with_narrowed : ℕ → Option ℕ → List Holding → List Holding
+with_narrowed t None hs = with_result t hs
+with_narrowed t (Some w) hs = with_source t (Number (w % 256)) hs
+
 -- ---- sums with 0
 
 abbrev pub is_zero : Option Source → Bool
@@ -162,7 +175,7 @@ abbrev pub held_behind_operation : List (List ℕ) → List ℕ → List Holding
 held_behind_operation homes statics hs (Constant t w) = with_source t (Number (w % 2 ^ 32)) hs
 held_behind_operation homes statics hs (NullPointer t) = with_source t (Number 0) hs
 held_behind_operation homes statics hs (Move t x) = with_moved t (source_of hs x) hs
-held_behind_operation homes statics hs (Narrow t x) = with_result t hs
+held_behind_operation homes statics hs (Narrow t x) = with_narrowed t (number_in (source_of hs x)) hs
 held_behind_operation homes statics hs (Apply o t x y) = with_applied t (same_as o x y (source_of hs x) (source_of hs y)) hs
 held_behind_operation homes statics hs (LocalAddress t out local) = with_result t hs
 held_behind_operation homes statics hs (OwnAddress t object) = with_result t hs

@@ -107,7 +107,7 @@ abbrev mutual
       ++ loads_of homes statics (names_after_all these names) hs those
   loads_in homes statics names hs (While test t body) = loads_of homes statics names [] test
       ++ unknown_in (held_behind_all homes statics [] test) (t ∷ []) ++ loads_of homes statics (names_after_all test names) [] body
-  loads_in homes statics names hs (Block locals body) = loads_of (homes_here locals names ∷ homes) statics (homes_after locals names) [] body
+  loads_in homes statics names hs (Block locals body) = loads_of (homes_here locals names ∷ homes) statics (homes_after locals names) hs body
   loads_in homes statics names hs (Leave body) = loads_of homes statics names hs body
   loads_in homes statics names hs Break = []
   loads_in homes statics names hs Continue = []

@@ -144,7 +144,7 @@ abbrev mutual
       (live_of homes statics names hs after out again these) (live_of homes statics (names_after_all these names) hs after out again those))
   live_in homes statics names hs after out again (While test t body) = at_loop homes statics names after out again (While test t body)
   live_in homes statics names hs after out again (Block locals body) =
-      live_of (homes_here locals names ∷ homes) statics (homes_after locals names) [] after out again body
+      live_of (homes_here locals names ∷ homes) statics (homes_after locals names) hs after out again body
   live_in homes statics names hs after out again (Leave body) = live_of homes statics names hs after after again body
   live_in homes statics names hs after out again Break = out
   live_in homes statics names hs after out again Continue = again
@@ -174,7 +174,7 @@ abbrev mutual
       saves_of homes statics names [] (behind_test homes statics names after head test t body) out again test
       ++ saves_of homes statics (names_after_all test names) [] head after head body
   saves_in homes statics names hs after out again (Block locals body) =
-      saves_of (homes_here locals names ∷ homes) statics (homes_after locals names) [] after out again body
+      saves_of (homes_here locals names ∷ homes) statics (homes_after locals names) hs after out again body
   saves_in homes statics names hs after out again (Leave body) = saves_of homes statics names hs after after again body
   saves_in homes statics names hs after out again Break = []
   saves_in homes statics names hs after out again Continue = []

@@ -13,10 +13,11 @@ use Rattle.core_lines.specs.declared.line.Line.TheVariants.{Plain, Label, Jump, 
 use Rattle.core_lines.specs.Frames.{word_code, epilogue_code, environment_code, raise_code}
 use Rattle.core_lines.specs.Loops.{are_words, copy_loop, clear_loop}
 use Rattle.core_lines.specs.Homes.{homes_in, saved_slot, saved_by, flag_at}
-pub use Rattle.core_lines.specs.Held.{nth, nth_block, Source, Register, Number, Holding, held_behind, held_behind_all, source_of, result_register, same_as}
+pub use Rattle.core_lines.specs.Held.{nth, nth_block, Source, Register, Number, Holding, held_behind, held_behind_all, source_of, number_in, result_register, same_as}
 use Rattle.core_lines.specs.Operands.{keep_code}
 use Rattle.core_lines.specs.Operands.{number_kept, move_kept, call_code, return_code, prologue_code}
-use Rattle.core_lines.specs.Choosing.{choice_code}
+use Rattle.core_lines.specs.Choosing.{choice_code, between_code, behind_code}
+use Rattle.core_lines.specs.Completing.{can_complete, can_complete_all}
 use Rattle.core_lines.specs.Saved.{results_in, results_all, taken_in, live_at_start, saves_at}
 pub use Rattle.core_lines.specs.LocalPlaces.{rounded, bytes_of, offsets_from, end_from, first_of, rest_of, shrink, shrunk, homes_here, homes_after, names_after}
 pub use Rattle.core_lines.specs.LocalPlaces.{names_after_all, shrunk_in, shrunk_of, placed_body, greater, highest, highest_of, slots_of, own_end, too_many}
@@ -24,7 +25,7 @@ pub use Rattle.core_lines.specs.LocalPlaces.{frame_bytes, datum_local, datum_loc
 pub use Rattle.core_lines.specs.Computed.{Surroundings, local_offset, local_home, from_temp, to_temp, far_code, read_line, read_code, write_line, write_code}
 pub use Rattle.core_lines.specs.Computed.{inverted, binary_code, short_code, shift_code, turned, difference_code, immediate_code, immediate_for, address_code}
 pub use Rattle.core_lines.specs.Computed.{further_code, operand, has_operand, both_code, apply_code, keep_result, applied_kept, get_code, byte_code, put_code}
-pub use Rattle.core_lines.specs.Computed.{element_code}
+pub use Rattle.core_lines.specs.Computed.{exponent_of, times_code, element_code, narrow_kept}
 
 -- ---- whole objects
 
@@ -52,8 +53,7 @@ abbrev pub operation_code : Bool → Surroundings → Operation → List Line
 operation_code keeps u (Constant t w) = number_kept keeps u.passed t (w % 2 ^ 32)
 operation_code keeps u (NullPointer t) = keep_code keeps u.passed 0 t
 operation_code keeps u (Move t x) = move_kept keeps u.passed (result_register t) t x (source_of u.held x)
-operation_code keeps u (Narrow t x) =
-    operand u 5 x ++ (Plain (instr.Andi (result_register t) (has_operand u 5 x) (pos 255)) ∷ []) ++ keep_result keeps u t
+operation_code keeps u (Narrow t x) = narrow_kept keeps u t x (number_in (source_of u.held x))
 operation_code keeps u (Apply o t x y) = applied_kept keeps u o t x y (same_as o x y (source_of u.held x) (source_of u.held y))
 operation_code keeps u (LocalAddress t out local) = address_code (result_register t) (local_offset u out local) ++ keep_result keeps u t
 operation_code keeps u (OwnAddress t object) = address_code (result_register t) (nth u.own object) ++ keep_result keeps u t
@@ -86,7 +86,7 @@ operation_code keeps u (KeyFree k) = from_temp u 10 k ++ environment_code 12
 
 -- ---- statements
 
--- how many labels the code of a statement places
+-- how many labels are kept for the code of a statement
 abbrev mutual
   pub labels_in : Statement → ℕ
   labels_in (Do operation) = 0
@@ -114,7 +114,6 @@ within_block locals u =
       homes = hs ∷ u.homes;
       names = homes_after locals u.names;
       low = end_from u.low ls;
-      held = [];
     }
 
 -- the same place, where these are the homes of the names to come
@@ -128,13 +127,15 @@ holding held u = record u { held = held }
 -- The code of a statement, of whose results these flags say in turn which are saved. The labels that it places are numbered from `next` on; a `break` goes
 -- to the label `out`, and a `continue` to `again`. A choice: the test, the first statements and a jump over the others; a label, the others, and a label. A
 -- loop: a label, its test, its body and a jump back; and a label behind it. What a `break` leaves without a loop: its statements, and a label behind them.
--- What is known of temporaries is known from one statement to the next, on both ways of a choice, and from the test of a loop to its choice.
+-- What stands behind a statement that can't complete has no code.
+-- What is known of temporaries is known from one statement to the next, within a block, on both ways of a choice, and from the test of a loop to its choice.
 abbrev mutual
   pub statement_code : (flags : List Bool) → Surroundings → (next out again : ℕ) → Statement → List Line
   statement_code flags u next out again (Do operation) = operation_code (flag_at flags 0) u operation
   statement_code flags u next out again (If t these those) = let behind = next + 1 + labels_of these in
-      choice_code u.wide u.passed u.held t next ++ statements_code flags u (next + 1) out again these ++ (Jump behind ∷ Label next ∷ []) ++
-      statements_code (drop (results_all these) flags) (naming (names_after_all these u.names) u) (behind + 1) out again those ++ (Label behind ∷ [])
+      choice_code u.wide u.passed u.held t next ++ statements_code flags u (next + 1) out again these ++
+      between_code (can_complete_all these) those behind next ++
+      statements_code (drop (results_all these) flags) (naming (names_after_all these u.names) u) (behind + 1) out again those ++ behind_code those behind
   statement_code flags u next out again (While test t body) = let behind = next + 1 + labels_of test in
       (Label next ∷ []) ++ statements_code flags (holding [] u) (next + 1) out again test ++
       choice_code u.wide u.passed (held_behind_all u.homes u.statics [] test) t behind ++
@@ -151,8 +152,8 @@ abbrev mutual
   pub statements_code : (flags : List Bool) → Surroundings → (next out again : ℕ) → Statements → List Line
   statements_code flags u next out again NoStatements = []
   statements_code flags u next out again (MoreStatements s ss) =
-      statement_code flags u next out again s ++ statements_code (drop (results_in s) flags)
-      (holding (held_behind u.homes u.statics u.held s) (naming (names_after s u.names) u)) (next + labels_in s) out again ss
+      statement_code flags u next out again s ++ (if can_complete s then statements_code (drop (results_in s) flags)
+      (holding (held_behind u.homes u.statics u.held s) (naming (names_after s u.names) u)) (next + labels_in s) out again ss else [])
 
 -- ---- functions and programs
 

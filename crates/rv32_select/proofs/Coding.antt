@@ -2,7 +2,8 @@
 use Rattle.std.proofs.Common.{◌≡◌, ℕ, ◌+◌, Bool, List, [], ◌∷◌, ◌++◌, drop, ap, ◌∙◌}
 use Rattle.std.proofs.lemmas.List.{append_assoc}
 use Rattle.core_meaning.specs.Core.{Statements, If, While, Leave}
-use Rattle.core_lines.specs.Choosing.{choice_code}
+use Rattle.core_lines.specs.Choosing.{choice_code, between_code, behind_code}
+use Rattle.core_lines.specs.Completing.{can_complete_all}
 use Rattle.core_lines.specs.declared.line.Line.{Line}
 use Rattle.core_lines.specs.declared.line.Line.TheVariants.{Jump, Label}
 use Rattle.core_lines.specs.Held.{held_behind_all}
@@ -22,24 +23,24 @@ module _ (u first second : Surroundings) (t : ℕ) (these those : Statements)
 
   pub choice_lines : (old tested one turned two new : List Line) (kept left : List Bool) (next inside past other out loop : ℕ)
       → tested ≡ old ++ choice_code u.wide u.passed u.held t next → inside ≡ next + 1 → one ≡ tested ++ statements_code kept u inside out loop these
-      → past ≡ inside + labels_of these → turned ≡ one ++ Jump past ∷ Label next ∷ [] → other ≡ past + 1 → left ≡ drop (results_all these) kept
-      → two ≡ turned ++ statements_code left second other out loop those → new ≡ two ++ Label past ∷ []
+      → past ≡ inside + labels_of these → turned ≡ one ++ between_code (can_complete_all these) those past next → other ≡ past + 1 → left ≡ drop (results_all these) kept
+      → two ≡ turned ++ statements_code left second other out loop those → new ≡ two ++ behind_code those past
       → new ≡ old ++ statement_code kept u next out loop (If t these those)
   choice_lines old tested one turned two new kept left next inside past other out loop test_is inside_is one_is past_is turn_is other_is left_is two_is new_is =
       let test = choice_code u.wide u.passed u.held t next in
       let these_code = statements_code kept u (next + 1) out loop these in
       let behind = next + 1 + labels_of these in
-      let turn = Jump behind ∷ Label next ∷ [] in
+      let turn = between_code (can_complete_all these) those behind next in
       let those_code = statements_code (drop (results_all these) kept) (naming (names_after_all these u.names) u) (behind + 1) out loop those in
       let past_at : past ≡ behind = past_is ∙ ap (λ n. n + labels_of these) inside_is in
       let other_at : other ≡ behind + 1 = other_is ∙ ap (λ n. n + 1) past_at in
-      joined old (test ++ these_code ++ turn ++ those_code) (Label behind ∷ []) two new
+      joined old (test ++ these_code ++ turn ++ those_code) (behind_code those behind) two new
       (joined old (test ++ these_code ++ turn) those_code turned two
       (joined old (test ++ these_code) turn one turned
       (joined old test these_code tested one test_is (one_is ∙ ap (λ n. tested ++ statements_code kept u n out loop these) inside_is))
-      (turn_is ∙ ap (λ n. one ++ Jump n ∷ Label next ∷ []) past_at))
+      (turn_is ∙ ap (λ n. one ++ between_code (can_complete_all these) those n next) past_at))
       (two_is ∙ (λ i. turned ++ statements_code (left_is i) (second_is i) (other_at i) out loop those)))
-      (new_is ∙ ap (λ n. two ++ Label n ∷ []) past_at)
+      (new_is ∙ ap (λ n. two ++ behind_code those n) past_at)
 
 -- and behind a loop's test
 module _ (u empty first second : Surroundings) (t : ℕ) (test body : Statements)

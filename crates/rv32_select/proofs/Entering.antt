@@ -38,13 +38,13 @@ settled f statics own names blocks homes exit first low held a o l n b h e =
       held = e i;
     }
 
-pub entered : (u : Surroundings) (ls : List Local) (here offsets later : List ℕ) (end : ℕ) (blocks homes : List (List ℕ)) (held : List Holding)
+pub entered : (u : Surroundings) (ls : List Local) (here offsets later : List ℕ) (end : ℕ) (blocks homes : List (List ℕ))
     → here ≡ homes_here ls u.names → offsets ≡ offsets_from u.low (shrunk ls here) → end ≡ end_from u.low (shrunk ls here)
     → later ≡ homes_after ls u.names → blocks ≡ offsets ∷ u.blocks → homes ≡ here ∷ u.homes
-    → held ≡ [] → record u { blocks = blocks; homes = homes; names = later; low = end; held = held } ≡ within_block ls u
-entered u ls here offsets later end blocks homes held h o e n b k f =
+    → record u { blocks = blocks; homes = homes; names = later; low = end } ≡ within_block ls u
+entered u ls here offsets later end blocks homes h o e n b k =
     let offsets' = o ∙ ap (λ hs. offsets_from u.low (shrunk ls hs)) h in
     let end' = e ∙ ap (λ hs. end_from u.low (shrunk ls hs)) h in
     let blocks' = b ∙ ap (λ os. os ∷ u.blocks) offsets' in
     let homes' = k ∙ ap (λ hs. hs ∷ u.homes) h in
-    λ i. record u { blocks = blocks' i; homes = homes' i; names = n i; low = end' i; held = f i }
+    λ i. record u { blocks = blocks' i; homes = homes' i; names = n i; low = end' i }

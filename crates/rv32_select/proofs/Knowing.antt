@@ -1,10 +1,11 @@
 -- What is known of temporaries, as the code's list has it.
 use Rattle.std.specs.Prelude.{filter, not, nat_eq, if◌then◌else◌}
-use Rattle.std.proofs.Common.{◌≡◌, ℕ, zero, suc, ◌+◌, ◌-◌, ◌<◌, Bool, true, false, List, [], ◌∷◌, Option, Some, None, map, refl, sym, ap, ◌∙◌, arith}
+use Rattle.std.proofs.Common.{◌≡◌, ℕ, zero, suc, ◌+◌, ◌-◌, ◌<◌, Bool, true, false, List, [], ◌∷◌, ◌%◌, Option, Some, None, map, refl, sym, ap, ◌∙◌, arith}
 use Rattle.std.proofs.lemmas.Bool.{ne_eqb}
 use Rattle.core_lines.specs.Held as lines
 use Rattle.core_lines.specs.Held.{source_of, some_source, is_in, without_register, without_temporary}
 use Rattle.core_lines.specs.Held.{with_moved, with_source, with_result, with_taken, with_local, without_local, is_zero, with_applied}
+use Rattle.core_lines.specs.Held.{number_in, with_narrowed}
 use Rattle.rv32_select.specs.declared.held.Holding.{Holding}
 use Rattle.rv32_select.specs.Known.{source_tree, holding_tree}
 
@@ -53,6 +54,14 @@ module _ (hs : List lines.Holding) where
       → after ≡ with_moved t (source_of hs x) hs
   moved_some t x s after is e = e ∙ ap (λ k. with_moved t k hs) is
 
+  -- by whether a word is known to be a number
+  pub narrowed_none : (t : ℕ) (known : Option ℕ) (after : List lines.Holding) → None ≡ known → after ≡ with_result t hs → after ≡ with_narrowed t known hs
+  narrowed_none t known after is e = e ∙ ap (λ k. with_narrowed t k hs) is
+
+  pub narrowed_some : (t w : ℕ) (known : Option ℕ) (after : List lines.Holding) → Some w ≡ known → after ≡ with_source t (lines.Number (w % 256)) hs
+      → after ≡ with_narrowed t known hs
+  narrowed_some t w known after is e = e ∙ ap (λ k. with_narrowed t k hs) is
+
   -- by which of two words their sum is
   pub applied_none : (t : ℕ) (same : Option ℕ) (after : List lines.Holding) → None ≡ same → after ≡ with_result t hs → after ≡ with_applied t same hs
   applied_none t same after is e = e ∙ ap (λ k. with_applied t k hs) is
@@ -72,6 +81,15 @@ module _ (hs : List lines.Holding) where
 zero_is : (w : ℕ) → nat_eq w 0 ≡ is_zero (Some (lines.Number w))
 zero_is zero = refl
 zero_is (suc w) = ne_eqb (suc w) 0 (λ e. absurd (omega (arith, e)))
+
+pub number_number : (w : ℕ) (s : Option lines.Source) → Some (lines.Number w) ≡ s → Some w ≡ number_in s
+number_number w s is = ap number_in is
+
+pub number_register : (r : ℕ) (s : Option lines.Source) → Some (lines.Register r) ≡ s → None ≡ number_in s
+number_register r s is = ap number_in is
+
+pub number_none : (s : Option lines.Source) → None ≡ s → None ≡ number_in s
+number_none s is = ap number_in is
 
 pub zero_number : (w : ℕ) (s : Option lines.Source) (b : Bool) → Some (lines.Number w) ≡ s → b ≡ nat_eq w 0 → b ≡ is_zero s
 zero_number w s b is e = e ∙ zero_is w ∙ ap is_zero is

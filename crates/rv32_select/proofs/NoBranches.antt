@@ -1,6 +1,6 @@
 -- In the lines of a program in which each label may be out of a branch's reach, no jump on zero is a branch alone.
-use Rattle.std.proofs.Common.{◌≡◌, ℕ, ◌+◌, Bool, true, List, [], ◌∷◌, ◌++◌, length, refl, sym, subst}
-use Rattle.std.specs.Prelude.{drop}
+use Rattle.std.proofs.Common.{◌≡◌, ℕ, ◌+◌, Bool, true, false, List, [], ◌∷◌, ◌++◌, length, refl, sym, subst}
+use Rattle.std.specs.Prelude.{drop, if◌then◌else◌}
 use Rattle.std.proofs.lemmas.Bool.{false≢true}
 use Rattle.core_meaning.specs.Core.{
   Statement,
@@ -27,12 +27,14 @@ use Rattle.core_lines.specs.Frames.{epilogue_code}
 use Rattle.core_lines.specs.Homes.{saved_by, saved_slot, flag_at}
 use Rattle.core_lines.specs.Held.{Holding, held_behind, held_behind_all}
 use Rattle.core_lines.specs.Operands.{operand_in, operand_code, call_code, return_code, prologue_code}
-use Rattle.core_lines.specs.Choosing.{far, choice_code}
+use Rattle.core_lines.specs.Choosing.{far, choice_code, between_code, behind_code}
+use Rattle.core_lines.specs.Completing.{can_complete, can_complete_all}
 use Rattle.core_lines.specs.Saved.{results_in, results_all, live_at_start, saves_at}
 use Rattle.core_lines.specs.Selected.{Surroundings, operation_code, labels_in, labels_of, labels_within, holding, naming, names_after, names_after_all}
 use Rattle.core_lines.specs.Selected.{within_block, statement_code, statements_code, frame_bytes, around, function_code, functions_code, program_code}
 use Rattle.core_lines.specs.Selected.{offsets_from, datum_locals}
-use Rattle.core_lines.proofs.labels.NoTargets.{operation_none, operand_none, call_none, return_none, prologue_none, epilogue_none}
+use Rattle.core_lines.proofs.labels.NoTargets.{operation_none, operand_none, between_none, behind_none, call_none, return_none}
+use Rattle.core_lines.proofs.labels.NoTargets.{prologue_none, epilogue_none}
 use Rattle.rv32_select.specs.Beginning.{are_long}
 
 both : (first second : List Line) → are_long first ≡ true → are_long second ≡ true → are_long (first ++ second) ≡ true
@@ -67,6 +69,10 @@ choice_long wide passed hs t label all =
     subst (λ w. are_long (choice_code w passed hs t label) ≡ true) (sym all)
     (both operand (JumpIfZero (operand_in hs 5 t) label ∷ []) (none_long operand (operand_none passed hs 5 t)) refl)
 
+if_long : (reached : Bool) (lines : List Line) → are_long lines ≡ true → are_long (if reached then lines else []) ≡ true
+if_long true lines is = is
+if_long false lines is = refl
+
 mutual
   code_long : (flags : List Bool) (u : Surroundings) (next out again : ℕ) (s : Statement) → u.wide ≡ far
       → are_long (statement_code flags u next out again s) ≡ true
@@ -75,9 +81,11 @@ mutual
       let left = drop (results_all these) flags in
       let behind = next + 1 + labels_of these in
       let later = naming (names_after_all these u.names) u in
-      five (choice_code u.wide u.passed u.held t next) (statements_code flags u (next + 1) out again these) (Jump behind ∷ Label next ∷ [])
-      (statements_code left later (behind + 1) out again those) (Label behind ∷ []) (choice_long u.wide u.passed u.held t next all)
-      (codes_long flags u (next + 1) out again these all) refl (codes_long left later (behind + 1) out again those all) refl
+      five (choice_code u.wide u.passed u.held t next) (statements_code flags u (next + 1) out again these)
+      (between_code (can_complete_all these) those behind next) (statements_code left later (behind + 1) out again those) (behind_code those behind)
+      (choice_long u.wide u.passed u.held t next all) (codes_long flags u (next + 1) out again these all)
+      (none_long (between_code (can_complete_all these) those behind next) (between_none (can_complete_all these) those behind next))
+      (codes_long left later (behind + 1) out again those all) (none_long (behind_code those behind) (behind_none those behind))
   code_long flags u next out again (While test t body) all =
       let left = drop (results_all test) flags in
       let behind = next + 1 + labels_of test in
@@ -103,8 +111,9 @@ mutual
   codes_long flags u next out again (MoreStatements s ss) all =
       let left = drop (results_in s) flags in
       let later = holding (held_behind u.homes u.statics u.held s) (naming (names_after s u.names) u) in
-      both (statement_code flags u next out again s) (statements_code left later (next + labels_in s) out again ss) (code_long flags u next out again s all)
-      (codes_long left later (next + labels_in s) out again ss all)
+      let others = statements_code left later (next + labels_in s) out again ss in
+      both (statement_code flags u next out again s) (if can_complete s then others else []) (code_long flags u next out again s all)
+      (if_long (can_complete s) others (codes_long left later (next + labels_in s) out again ss all))
 
 function_long : (statics : List ℕ) (number next : ℕ) (f : Function) → are_long (function_code far statics number next f) ≡ true
 function_long statics number next f =

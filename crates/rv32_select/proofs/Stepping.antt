@@ -1,9 +1,12 @@
 -- One statement more: its lines and labels, what it loads, and the place behind it.
-use Rattle.std.proofs.Common.{◌≡◌, ℕ, ◌+◌, Bool, true, List, [], ◌∷◌, ◌++◌, drop, sym, ap, ◌∙◌}
+use Rattle.std.specs.Prelude.{◌&&◌, if◌then◌else◌, take, length}
+use Rattle.std.proofs.Common.{◌≡◌, ℕ, ◌+◌, Bool, true, false, List, [], ◌∷◌, ◌++◌, drop, sym, ap, ◌∙◌}
+use Rattle.std.proofs.Math.Seq.{take-append_seam}
 use Rattle.std.proofs.lemmas.List.{append_assoc, drop-drop}
 use Rattle.core_meaning.specs.Core.{Statement, Statements, If, While, MoreStatements}
 use Rattle.core_lines.specs.declared.line.Line.{Line}
 use Rattle.core_lines.specs.Held.{held_behind, held_behind_all}
+use Rattle.core_lines.specs.Completing.{can_complete}
 use Rattle.core_lines.specs.Loaded.{unknown_in, loads_in, loads_of}
 use Rattle.core_lines.specs.Saved.{all_flagged, results_in, results_all}
 use Rattle.core_lines.specs.Selected.{Surroundings, statement_code, statements_code, labels_in, names_after, names_after_all, holding, naming}
@@ -65,14 +68,21 @@ module _ (start before behind : Surroundings) (s : Statement) (ss all : Statemen
   flags_left kept now k =
       ap (drop (results_all ss)) k ∙ drop-drop (results_all ss) (results_in s) kept ∙ ap (λ more. drop (results_all more) kept) (sym is)
 
-  pub code_behind : (old new : List Line) (kept now : List Bool) (next free out again : ℕ) → new ≡ old ++ statement_code kept before next out again s
+  -- what is appended is kept where it is reached
+  pub code_behind : (reached : Bool) (old put new : List Line) (kept now : List Bool) (next free out again : ℕ)
+      → put ≡ old ++ statement_code kept before next out again s → new ≡ (if reached then put else take (length old) put)
       → now ≡ drop (results_in s) kept → free ≡ next + labels_in s
-      → new ++ statements_code now behind free out again ss ≡ old ++ statements_code kept before next out again all
-  code_behind old new kept now next free out again e k f =
+      → new ++ (if reached && can_complete s then statements_code now behind free out again ss else [])
+      ≡ old ++ (if reached then statements_code kept before next out again all else [])
+  code_behind true old put new kept now next free out again e n k f =
       let later = holding (held_behind before.homes before.statics before.held s) (naming (names_after s before.names) before) in
-      (λ i. e i ++ statements_code (k i) (step i) (f i) out again ss) ∙
-      append_assoc old (statement_code kept before next out again s) (statements_code (drop (results_in s) kept) later (next + labels_in s) out again ss) ∙
+      let first = n ∙ e in
+      (λ i. first i ++ (if can_complete s then statements_code (k i) (step i) (f i) out again ss else [])) ∙
+      append_assoc old (statement_code kept before next out again s)
+      (if can_complete s then statements_code (drop (results_in s) kept) later (next + labels_in s) out again ss else []) ∙
       ap (λ more. old ++ statements_code kept before next out again more) (sym is)
+  code_behind false old put new kept now next free out again e n k f =
+      ap (λ ls. ls ++ []) (n ∙ ap (take (length old)) e ∙ take-append_seam old (statement_code kept before next out again s))
 
 -- the place behind a choice: where its second statements begin, the same is known as where its first do
 module _ (u first second : Surroundings) (t : ℕ) (these those : Statements)

@@ -41,8 +41,8 @@ pub fn hold_behind(place: &mut Place, operation: Operation) -> Result<(), AllocE
         Operation::Apply(binary, to, left, right) => {
             place.held.hold_applied(binary, to, left, right)
         }
-        Operation::Narrow(to, _)
-        | Operation::LocalAddress(to, _)
+        Operation::Narrow(to, from) => place.held.hold_narrowed(to, from),
+        Operation::LocalAddress(to, _)
         | Operation::OwnAddress(to, _)
         | Operation::Offset(to, _, _, _)
         | Operation::Element(to, _, _, _, _)

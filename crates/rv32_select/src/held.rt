@@ -4,7 +4,7 @@ ghost use Rattle.std.specs.Prelude.{◌≡◌, [], map, IfOk, OnOk, option_map};
 ghost use Rattle.core_lines.specs.Held.{some_source, source_of, is_in, without_register, without_temporary, with_source};
 ghost use Rattle.core_lines.specs.Held.{Register as in_register};
 ghost use Rattle.core_lines.specs.Held.{result_register, with_result, with_taken, with_moved, with_local, without_local, with_results};
-ghost use Rattle.core_lines.specs.Held.{is_zero, same_as, with_applied};
+ghost use Rattle.core_lines.specs.Held.{number_in, with_narrowed, is_zero, same_as, with_applied};
 ghost use Rattle.core_meaning.specs.Core.{Add};
 ghost use Rattle.cyc_core.specs.Trees.{binary_tree, optional_tree, temporary_tree};
 ghost use Rattle.rv32_select.specs.Known.{source_tree, holding_tree};
@@ -182,6 +182,29 @@ impl Known {
     {
         match self.source(from) {
             Some(source) => self.hold(temporary, source),
+            None => self.hold_result(temporary),
+        }
+    }
+
+    /// The number that a temporary's word is known to be.
+    #[tactic(auto, using(crate::proofs::Knowing::number_number, crate::proofs::Knowing::number_register, crate::proofs::Knowing::number_none))]
+    pub fn number(&self, temporary: Temporary) -> Option<u64>
+        ensures { result ≡ number_in (source_of self.now temporary.0) }
+    {
+        match self.source(temporary) {
+            Some(Source::Number(word)) => Some(word),
+            Some(Source::Register(_)) => None,
+            None => None,
+        }
+    }
+
+    /// A temporary gets the lowest byte of another one.
+    #[tactic(auto, using(crate::proofs::Knowing::narrowed_some, crate::proofs::Knowing::narrowed_none))]
+    pub fn hold_narrowed(&mut self, temporary: Temporary, from: Temporary) -> Result<(), AllocError>
+        ensures { OnOk result (self.new ≡ with_narrowed temporary.0 (number_in (source_of self.old from.0)) self.old) }
+    {
+        match self.number(from) {
+            Some(word) => self.hold(temporary, Source::Number(word % 256)),
             None => self.hold_result(temporary),
         }
     }

@@ -14,6 +14,7 @@
 
 mod behind;
 mod calls;
+mod completing;
 mod emit;
 mod flags;
 mod function;

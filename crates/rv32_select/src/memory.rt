@@ -1,10 +1,10 @@
 // Instructions for operations on pointers and on memory.
 
-ghost use Rattle.std.specs.Prelude.{◌≡◌, ◌+◌, true, ◌++◌, OnOk};
+ghost use Rattle.std.specs.Prelude.{◌≡◌, ◌+◌, ◌<◌, true, ◌++◌, Some, None, OnOk};
 ghost use Rattle.core_meaning.specs.Core as core;
 ghost use Rattle.core_lines.specs.Held.{result_register};
 ghost use Rattle.core_lines.specs.Operands.{number_kept};
-ghost use Rattle.core_lines.specs.Selected.{element_code, further_code, operation_code, operand, has_operand, keep_result, nth};
+ghost use Rattle.core_lines.specs.Selected.{exponent_of, times_code, element_code, further_code, operation_code, operand, has_operand, keep_result, nth};
 ghost use Rattle.cyc_core.specs.Trees.{distance_tree};
 ghost use Rattle.rv32_machine.specs.State.{data_base};
 ghost use Rattle.rv32_select.specs.Places.{surroundings};
@@ -16,7 +16,7 @@ use crate::place::Place;
 use crate::words::put_binary;
 use core_lines::Line;
 use cyc_core::{Binary, Distance, Temporary};
-use rv32_isa::{Instr, Register, Signed12};
+use rv32_isa::{Instr, Register, ShiftAmount, Signed12};
 use std::alloc::AllocError;
 
 /// Appends what gives a temporary the address so many bytes behind that in another one.
@@ -51,6 +51,35 @@ fn put_byte_element(
     put(lines, Instr::Add(to, count, from))
 }
 
+/// Appends a multiplication of a register by an element's bytes.
+fn put_product(lines: &mut Vec<Line>, left: Register, bytes: u32) -> Result<(), AllocError>
+    ensures { OnOk result (lines.new.items ≡ lines.old.items ++ times_code None left bytes) }
+{
+    put_number(lines, SECOND, u64::from(bytes))?;
+    put(lines, Instr::Mul(FIRST, left, SECOND))
+}
+
+/// Appends a shift of a register.
+fn put_shift(lines: &mut Vec<Line>, left: Register, exponent: u8) -> Result<(), AllocError>
+    requires { exponent < 32 }
+    ensures { OnOk result (lines.new.items ≡ lines.old.items ++ times_code (Some exponent) left 0) }
+{
+    put(lines, Instr::Slli(FIRST, left, ShiftAmount::new(exponent)))
+}
+
+/// Appends what multiplies a register by an element's bytes: a shift where that does it.
+fn put_times(lines: &mut Vec<Line>, left: Register, bytes: u32) -> Result<(), AllocError>
+    ensures { OnOk result (lines.new.items ≡ lines.old.items ++ times_code (exponent_of bytes) left bytes) }
+{
+    match bytes {
+        2 => put_shift(lines, left, 1),
+        4 => put_shift(lines, left, 2),
+        8 => put_shift(lines, left, 3),
+        16 => put_shift(lines, left, 4),
+        _ => put_product(lines, left, bytes),
+    }
+}
+
 /// Appends what puts the address of an element of so many bytes, which are not one, into a register.
 fn put_long_element(
     lines: &mut Vec<Line>,
@@ -64,8 +93,7 @@ fn put_long_element(
     ensures { OnOk result (lines.new.items ≡ lines.old.items ++ element_code (surroundings place.now) to pointer.0 index.0 bytes) }
 {
     let count = put_operand(lines, place, FIRST, index)?;
-    put_number(lines, SECOND, u64::from(bytes))?;
-    put(lines, Instr::Mul(FIRST, count, SECOND))?;
+    put_times(lines, count, bytes)?;
     let from = put_operand(lines, place, SECOND, pointer)?;
     put(lines, Instr::Add(to, FIRST, from))
 }

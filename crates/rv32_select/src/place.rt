@@ -281,7 +281,6 @@ impl Place {
         self.blocks.insert(0, Scope { offsets, homes })?;
         self.named = named;
         self.low = end;
-        self.held.forget();
         Ok(low)
     }
 

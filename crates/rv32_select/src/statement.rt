@@ -5,7 +5,7 @@ ghost use Rattle.core_meaning.specs.Core as core;
 ghost use Rattle.core_lines.specs.declared.line.Line.TheVariants.{Jump, Label};
 ghost use Rattle.cyc_core.specs.Trees.{operation_tree, optional_tree, temporary_tree, statement_tree, body_tree, local_tree};
 ghost use Rattle.core_lines.specs.Frames.{kind_number, raise_code};
-ghost use Rattle.core_lines.specs.Choosing.{far, choice_code};
+ghost use Rattle.core_lines.specs.Choosing.{far, choice_code, jump_code, between_code, behind_code};
 ghost use Rattle.core_lines.specs.Held.{held_behind_operation, held_behind, held_behind_all, with_results};
 ghost use Rattle.core_lines.specs.Homes.{flag_at};
 ghost use Rattle.core_lines.specs.Operands.{call_code};
@@ -16,6 +16,7 @@ ghost use Rattle.rv32_select.specs.Places.{surroundings, saves_left};
 
 use crate::behind::hold_behind;
 use crate::calls::{hold_called, put_call, put_return};
+use crate::completing::{can_complete, can_complete_all, keep_reached};
 use crate::emit::{FIRST, put, put_environment, put_lines};
 use crate::operands::put_operand;
 use crate::operation::put_operation;
@@ -56,13 +57,48 @@ fn put_label(lines: &mut Vec<Line>, label: usize) -> Result<usize, AllocError>
     following(label)
 }
 
-/// Appends a jump over what is behind another label, and that label. Answers the label after the one that the jump goes to.
-fn put_turn(lines: &mut Vec<Line>, behind: usize, other: usize) -> Result<usize, AllocError>
-    ensures code { OnOk result (lines.new.items ≡ lines.old.items ++ Jump behind ∷ Label other ∷ []) }
-    ensures next { IfOk result (λ n. n ≡ behind + 1) }
+/// Appends a jump, where code is reached, and a label.
+fn put_over(
+    lines: &mut Vec<Line>,
+    reached: bool,
+    behind: usize,
+    next: usize,
+) -> Result<(), AllocError>
+    ensures { OnOk result (lines.new.items ≡ lines.old.items ++ (jump_code reached behind ++ Label next ∷ [])) }
 {
-    put_lines(lines, &[Line::Jump(behind), Line::Label(other)])?;
-    following(behind)
+    if reached {
+        put_lines(lines, &[Line::Jump(behind), Line::Label(next)])
+    } else {
+        put_lines(lines, &[Line::Label(next)])
+    }
+}
+
+/// Appends what stands between the ways of a choice, of which the first may be able to complete.
+fn put_between(
+    lines: &mut Vec<Line>,
+    completes: bool,
+    those: &[Statement],
+    behind: usize,
+    next: usize,
+) -> Result<(), AllocError>
+    ensures { OnOk result (lines.new.items ≡ lines.old.items ++ between_code completes (body_tree those.now) behind next) }
+{
+    if those.is_empty() {
+        put_lines(lines, &[Line::Label(next)])
+    } else {
+        put_over(lines, completes, behind, next)
+    }
+}
+
+/// Appends the label behind both ways of a choice, if there is a second one.
+fn put_behind(lines: &mut Vec<Line>, those: &[Statement], behind: usize) -> Result<(), AllocError>
+    ensures { OnOk result (lines.new.items ≡ lines.old.items ++ behind_code (body_tree those.now) behind) }
+{
+    if those.is_empty() {
+        Ok(())
+    } else {
+        put_lines(lines, &[Line::Label(behind)])
+    }
 }
 
 /// Appends what goes on where a temporary isn't 0, and at a label where it is. Answers the next label.
@@ -195,7 +231,8 @@ fn put_statement(
     Ok(next)
 }
 
-/// Appends the instructions of statements, one after the other. Answers the next free label.
+/// Appends the instructions of statements, one after the other, but for those behind one that can't complete: what these append is dropped. Answers
+/// the next free label.
 #[cycle(statement)]
 pub fn put_statements(
     lines: &mut Vec<Line>,
@@ -212,8 +249,12 @@ pub fn put_statements(
     ensures saves { OnOk result (saves_left place.new ≡ drop (results_all (body_tree statements.now)) (saves_left place.old)) }
 {
     let mut free = next;
+    let mut reached = true;
     'each: for statement in statements {
+        let kept = lines.len();
         free = put_statement(lines, place, free, ways, statement)?;
+        keep_reached(lines, kept, reached);
+        reached = reached && can_complete(statement);
     }
     Ok(free)
 }
@@ -241,10 +282,11 @@ fn put_if(
     let inside = put_choice(lines, place, test, next)?;
     let known = place.known()?;
     let behind = put_statements(lines, place, inside, ways, these)?;
-    let other = put_turn(lines, behind, next)?;
+    put_between(lines, can_complete_all(these), those, behind, next)?;
+    let other = following(behind)?;
     let first = place.exchange(known);
     let free = put_statements(lines, place, other, ways, those)?;
-    put_lines(lines, &[Line::Label(behind)])?;
+    put_behind(lines, those, behind)?;
     place.join(first, those);
     Ok(free)
 }

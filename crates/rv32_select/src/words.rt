@@ -1,9 +1,9 @@
 // Instructions for operations on words.
 
-ghost use Rattle.std.specs.Prelude.{◌≡◌, ◌++◌, OnOk, Some, option_map};
+ghost use Rattle.std.specs.Prelude.{◌≡◌, ◌++◌, OnOk, Some, None, option_map};
 ghost use Rattle.core_meaning.specs.Core as core;
 ghost use Rattle.core_lines.specs.Held.{result_register, source_of};
-ghost use Rattle.core_lines.specs.Selected.{binary_code, operation_code, immediate_for, apply_code};
+ghost use Rattle.core_lines.specs.Selected.{binary_code, narrow_kept, operation_code, immediate_for, apply_code};
 ghost use Rattle.cyc_core.specs.Trees.{binary_tree};
 ghost use Rattle.rv32_select.specs.Immediates.{instruction_lines, with_code};
 ghost use Rattle.rv32_select.specs.Places.{surroundings};
@@ -11,7 +11,7 @@ ghost use Rattle.rv32_select.specs.Places.{surroundings};
 use crate::emit::{FIRST, SECOND, put, put_two};
 use crate::held::{Source, result_register};
 use crate::immediates::{Instructions, immediate_of};
-use crate::operands::{put_moved, put_operand, put_result};
+use crate::operands::{put_moved, put_number_kept, put_operand, put_result};
 use crate::place::Place;
 use core_lines::Line;
 use cyc_core::{Binary, Temporary};
@@ -149,6 +149,22 @@ pub fn put_apply(
     }
 }
 
+/// Appends what gives a temporary the lowest byte of another one, whose word isn't known to be a number.
+fn put_masked(
+    lines: &mut Vec<Line>,
+    place: &Place,
+    keeps: bool,
+    to: Temporary,
+    from: Temporary,
+) -> Result<(), AllocError>
+    ensures { OnOk result (lines.new.items ≡ lines.old.items ++ narrow_kept keeps (surroundings place.now) to.0 from.0 None) }
+{
+    let register = put_operand(lines, place, FIRST, from)?;
+    let byte = Signed12::new(255);
+    put(lines, Instr::Andi(result_register(to), register, byte))?;
+    put_result(lines, place, keeps, to)
+}
+
 /// Appends what gives a temporary the lowest byte of another one.
 pub fn put_narrow(
     lines: &mut Vec<Line>,
@@ -160,8 +176,8 @@ pub fn put_narrow(
     ensures { OnOk result (lines.new.items ≡ lines.old.items
         ++ operation_code keeps (surroundings place.now) (core.Narrow to.0 from.0)) }
 {
-    let register = put_operand(lines, place, FIRST, from)?;
-    let byte = Signed12::new(255);
-    put(lines, Instr::Andi(result_register(to), register, byte))?;
-    put_result(lines, place, keeps, to)
+    match place.held.number(from) {
+        Some(word) => put_number_kept(lines, place, keeps, to, word % 256),
+        None => put_masked(lines, place, keeps, to, from),
+    }
 }

@@ -25,7 +25,7 @@ use Rattle.core_lines.specs.Operands.{pass_code, result_code, call_code, values_
 use Rattle.core_lines.specs.Selected.{Surroundings, local_offset, local_home, nth, from_temp, to_temp, far_code, read_line, read_code, write_line, write_code}
 use Rattle.core_lines.specs.Selected.{binary_code, turned, immediate_code, immediate_for, address_code, further_code}
 use Rattle.core_lines.specs.Selected.{operand, has_operand, both_code, apply_code, keep_result, applied_kept, get_code, byte_code, put_code}
-use Rattle.core_lines.specs.Selected.{element_code, copy_code, clear_code, bytes_in, bytes_code, operation_code}
+use Rattle.core_lines.specs.Selected.{number_in, narrow_kept, exponent_of, times_code, element_code, copy_code, clear_code, bytes_in, bytes_code, operation_code}
 
 abbrev pub are_bare : List Line → Bool
 are_bare [] = true
@@ -260,14 +260,18 @@ module _ (u : Surroundings) where
       either (nat_eq width 1) (byte_code u (suc h) x) (into_code u.passed u.held (suc h) x)
       (two (operand u 6 x) (Plain (instr.Andi (suc h) (has_operand u 6 x) (pos 255)) ∷ []) (of_bare 6 x) refl) (into_bare u.passed u.held (suc h) x)
 
+  times_bare : (exponent : Option ℕ) (left bytes : ℕ) → are_bare (times_code exponent left bytes) ≡ true
+  times_bare None left bytes = two (number_code 6 bytes) (Plain (instr.Mul 5 left 6) ∷ []) (number_bare 6 bytes) refl
+  times_bare (Some exponent) left bytes = refl
+
   element_bare : (to p i bytes : ℕ) → are_bare (element_code u to p i bytes) ≡ true
   element_bare to p i bytes =
-      let times : List Line = Plain (instr.Mul 5 (has_operand u 5 i) 6) ∷ [] in
+      let times = times_code (exponent_of bytes) (has_operand u 5 i) bytes in
       let plus : List Line = Plain (instr.Add to 5 (has_operand u 6 p)) ∷ [] in
       either (nat_eq bytes 1) _ _
       (three (operand u 5 i) (operand u 6 p) (Plain (instr.Add to (has_operand u 5 i) (has_operand u 6 p)) ∷ []) (of_bare 5 i) (of_bare 6 p) refl)
-      (three (operand u 5 i ++ number_code 6 bytes ++ times) (operand u 6 p) plus
-      (three (operand u 5 i) (number_code 6 bytes) times (of_bare 5 i) (number_bare 6 bytes) refl) (of_bare 6 p) refl)
+      (three (operand u 5 i ++ times) (operand u 6 p) plus
+      (two (operand u 5 i) times (of_bare 5 i) (times_bare (exponent_of bytes) (has_operand u 5 i) bytes)) (of_bare 6 p) refl)
 
   copies_bare : (to from : ℕ) (l : Layout) → are_bare (copy_code u to from l) ≡ true
   copies_bare to from l =
@@ -294,13 +298,17 @@ module _ (u : Surroundings) where
     get_bare zero t width w = kept_bare t (read_code (result_register t) width 2 w) (read_bare (result_register t) width 2 w)
     get_bare (suc h) t width w = keep_bare u.passed keeps (suc h) t
 
+    narrow_bare : (t x : ℕ) (known : Option ℕ) → are_bare (narrow_kept keeps u t x known) ≡ true
+    narrow_bare t x None =
+        let line : List Line = Plain (instr.Andi (result_register t) (has_operand u 5 x) (pos 255)) ∷ [] in
+        kept_bare t (operand u 5 x ++ line) (two (operand u 5 x) line (of_bare 5 x) refl)
+    narrow_bare t x (Some w) = number_kept_bare u.passed keeps t (w % 256)
+
     pub operation_bare : (o : Operation) → are_bare (operation_code keeps u o) ≡ true
     operation_bare (Constant t w) = number_kept_bare u.passed keeps t (w % 2 ^ 32)
     operation_bare (NullPointer t) = keep_bare u.passed keeps 0 t
     operation_bare (Move t x) = move_bare u.passed keeps (result_register t) t x (source_of u.held x)
-    operation_bare (Narrow t x) =
-        let line : List Line = Plain (instr.Andi (result_register t) (has_operand u 5 x) (pos 255)) ∷ [] in
-        kept_bare t (operand u 5 x ++ line) (two (operand u 5 x) line (of_bare 5 x) refl)
+    operation_bare (Narrow t x) = narrow_bare t x (number_in (source_of u.held x))
     operation_bare (Apply o t x y) = applied_bare o t x y (same_as o x y (source_of u.held x) (source_of u.held y))
     operation_bare (LocalAddress t out local) =
         kept_bare t (address_code (result_register t) (local_offset u out local)) (address_bare (result_register t) (local_offset u out local))

@@ -1,7 +1,7 @@
 -- Each label of a program's code is placed once: functions have the first labels, and the statements of each function those behind the statements before.
-use Rattle.std.proofs.Common.{Bool, ◌≡◌, ℕ, ◌+◌, ◌≤◌, ◌<◌, ◌⊎◌, inl, inr, false, nat_eq, List, [], ◌∷◌, ◌++◌, refl}
+use Rattle.std.proofs.Common.{Bool, ◌≡◌, ℕ, ◌+◌, ◌≤◌, ◌<◌, ◌⊎◌, inl, inr, true, false, nat_eq, List, [], ◌∷◌, ◌++◌, refl}
 use Rattle.std.proofs.Common.{sym, ap, subst, ◌∙◌, arith, append_assoc, append-nil}
-use Rattle.std.specs.Prelude.{length, drop}
+use Rattle.std.specs.Prelude.{length, drop, if◌then◌else◌}
 use Rattle.std.specs.List.{All}
 use Rattle.std.proofs.lemmas.List.Elements.{All-nil, All-cons, All-head, All-tail, All-same, All-append, All-weaker}
 use Rattle.std.proofs.lemmas.Bool.{ne_eqb}
@@ -15,7 +15,8 @@ use Rattle.core_lines.specs.Frames.{raise_code, epilogue_code}
 use Rattle.core_lines.specs.Selected.{frame_bytes, Surroundings}
 use Rattle.core_lines.specs.Held.{held_behind, held_behind_all}
 use Rattle.core_lines.specs.Operands.{call_code, return_code, prologue_code}
-use Rattle.core_lines.specs.Choosing.{choice_code}
+use Rattle.core_lines.specs.Choosing.{choice_code, between_code, behind_code}
+use Rattle.core_lines.specs.Completing.{can_complete, can_complete_all}
 use Rattle.core_lines.specs.Saved.{results_in, results_all, live_at_start, saves_at}
 use Rattle.core_lines.specs.Selected.{operation_code, labels_in, labels_of, labels_within, holding, naming, names_after, names_after_all, within_block}
 use Rattle.core_lines.specs.Selected.{statement_code, statements_code, around, function_code, functions_code, program_code}
@@ -72,6 +73,21 @@ one_from label lines one = record {
   once = subst AreOnce (sym one) (All-nil (λ other. nat_eq label other ≡ false), tt);
 }
 
+-- what stands between the ways of a choice places one, and what stands behind them another one, or none
+
+between_one : (completes : Bool) (those : Statements) (behind next : ℕ) → labels_placed (between_code completes those behind next) ≡ next ∷ []
+between_one completes NoStatements behind next = refl
+between_one true (MoreStatements s ss) behind next = refl
+between_one false (MoreStatements s ss) behind next = refl
+
+behind_from : (those : Statements) (behind : ℕ) → PlacesFrom behind (behind + 1) (behind_code those behind)
+behind_from NoStatements behind = none_from behind (behind + 1) [] refl
+behind_from (MoreStatements s ss) behind = one_from behind (Label behind ∷ []) refl
+
+either_from : (low high : ℕ) (reached : Bool) (lines : List Line) → PlacesFrom low high lines → PlacesFrom low high (if reached then lines else [])
+either_from low high true lines from = from
+either_from low high false lines from = none_from low high [] refl
+
 -- ---- statements
 
 -- The labels of a statement's code are numbered from `next` on. A choice and a loop have two of their own: `next`, and the one behind those of the first part;
@@ -86,18 +102,18 @@ mutual
       let behind = next + 1 + labels_of these in
       let end = next + labels_in (If t these those) in
       let front = choice_code u.wide u.passed u.held t next ++ statements_code flags u (next + 1) out again these in
-      let over : List Line = Jump behind ∷ Label next ∷ [] in
+      let over = between_code (can_complete_all these) those behind next in
       let second = statements_code left (naming (names_after_all these u.names) u) (behind + 1) out again those in
-      let last : List Line = Label behind ∷ [] in
+      let last = behind_code those behind in
       let first : PlacesFrom (next + 1) behind front =
       join (next + 1) behind (none_from (next + 1) (next + 1) (choice_code u.wide u.passed u.held t next) (choice_code_none u.wide u.passed u.held t next))
       (statements_places flags u (next + 1) out again these)
       (omega arith) (omega arith) (omega arith) (omega arith) (inl (omega arith)) in
       let choice : PlacesFrom next behind (front ++ over) =
-      join next behind first (one_from next over refl) (omega arith) (omega arith) (omega arith) (omega arith) (inr (omega arith)) in
+      join next behind first (one_from next over (between_one (can_complete_all these) those behind next)) (omega arith) (omega arith) (omega arith) (omega arith) (inr (omega arith)) in
       let others : PlacesFrom behind end (second ++ last) =
       join behind end (statements_places left (naming (names_after_all these u.names) u) (behind + 1) out again those)
-      (one_from behind last refl) (omega arith) (omega arith) (omega arith) (omega arith) (inr (omega arith)) in
+      (behind_from those behind) (omega arith) (omega arith) (omega arith) (omega arith) (inr (omega arith)) in
       subst (PlacesFrom next end) (sym (append_assoc (front ++ over) second last))
       (join next end choice others (omega arith) (omega arith) (omega arith) (omega arith) (inl (omega arith)))
   statement_places flags u next out again (While test t body) =
@@ -140,8 +156,10 @@ mutual
   statements_places flags u next out again NoStatements = none_from next (next + 0) [] refl
   statements_places flags u next out again (MoreStatements s ss) =
       let left = drop (results_in s) flags in
+      let free = next + labels_in s in
+      let v = holding (held_behind u.homes u.statics u.held s) (naming (names_after s u.names) u) in
       join next (next + labels_of (MoreStatements s ss)) (statement_places flags u next out again s)
-      (statements_places left (holding (held_behind u.homes u.statics u.held s) (naming (names_after s u.names) u)) (next + labels_in s) out again ss)
+      (either_from free (free + labels_of ss) (can_complete s) (statements_code left v free out again ss) (statements_places left v free out again ss))
       (omega arith) (omega arith) (omega arith) (omega arith) (inl (omega arith))
 
 -- ---- functions

@@ -1,14 +1,14 @@
 -- Operations, calls, returns, first and last lines have no jumps on zero, and a choice has one.
 use Rattle.std.proofs.Common.{◌≡◌, ℕ, Bool, true, false, List, [], ◌∷◌, ◌++◌, refl, ap, ◌∙◌}
 use Rattle.std.specs.Prelude.{if◌then◌else◌}
-use Rattle.core_meaning.specs.Core.{Operation}
+use Rattle.core_meaning.specs.Core.{Operation, Statements, NoStatements, MoreStatements}
 use Rattle.core_lines.specs.declared.line.Line.{Line}
 use Rattle.core_lines.specs.declared.line.Line.TheVariants.{Plain, Label, Jump, JumpIfZero, BranchIfZero, CallTo}
 use Rattle.core_lines.specs.Relaxed.{targets}
 use Rattle.core_lines.specs.Frames.{epilogue_code}
 use Rattle.core_lines.specs.Held.{Holding}
 use Rattle.core_lines.specs.Operands.{operand_in, operand_code, call_code, return_code, prologue_code}
-use Rattle.core_lines.specs.Choosing.{jump_if_zero, choice_code}
+use Rattle.core_lines.specs.Choosing.{jump_if_zero, choice_code, between_code, behind_code}
 use Rattle.core_lines.specs.Selected.{Surroundings, operation_code}
 use Rattle.core_lines.proofs.labels.Bare.{bare_targets, operand_bare, operation_bare, call_bare, return_bare, epilogue_bare, prologue_bare}
 
@@ -35,6 +35,15 @@ choice_one wide passed hs t label =
     by : (b : Bool) → targets ((if b then JumpIfZero (operand_in hs 5 t) label else BranchIfZero (operand_in hs 5 t) label) ∷ []) ≡ label ∷ []
     by true = refl
     by false = refl
+
+pub between_none : (completes : Bool) (those : Statements) (behind next : ℕ) → targets (between_code completes those behind next) ≡ []
+between_none completes NoStatements behind next = refl
+between_none true (MoreStatements s ss) behind next = refl
+between_none false (MoreStatements s ss) behind next = refl
+
+pub behind_none : (those : Statements) (behind : ℕ) → targets (behind_code those behind) ≡ []
+behind_none NoStatements behind = refl
+behind_none (MoreStatements s ss) behind = refl
 
 pub call_none : (flags : List Bool) (passed : ℕ) (hs : List Holding) (results : List ℕ) (f : ℕ) (arguments : List ℕ)
     → targets (call_code flags passed hs results f arguments) ≡ []

@@ -2,7 +2,7 @@
 -- are out of reach. So a machine that has them does what the program does.
 use Rattle.std.specs.Prelude.{nat_eq, length, drop, if◌then◌else◌}
 use Rattle.std.specs.List.{All}
-use Rattle.std.proofs.Common.{◌≡◌, ℕ, zero, suc, ◌+◌, Bool, false, List, [], ◌∷◌, ◌++◌, Option, Some, None, refl, sym, ap, ◌∙◌, subst, arith}
+use Rattle.std.proofs.Common.{◌≡◌, ℕ, zero, suc, ◌+◌, Bool, true, false, List, [], ◌∷◌, ◌++◌, Option, Some, None, refl, sym, ap, ◌∙◌, subst, arith}
 use Rattle.std.proofs.lemmas.Bool.{eq-eqb}
 use Rattle.std.proofs.lemmas.List.Elements.{All-head, All-tail}
 use Rattle.core_meaning.specs.Core.{Operation, Statement, Do, If, While, Block, Leave, Break, Continue, Call, Return, Raise, Statements, NoStatements}
@@ -46,15 +46,16 @@ use Rattle.core_lines.specs.Frames.{environment_code, raise_code, epilogue_code}
 use Rattle.core_lines.specs.Homes.{saved_by, saved_slot, flag_at}
 use Rattle.core_lines.specs.Held.{Holding, held_behind, held_behind_all, source_of, result_register, same_as}
 use Rattle.core_lines.specs.Operands.{operand_in, operand_code, call_code, return_code, prologue_code}
-use Rattle.core_lines.specs.Choosing.{far, jump_if_zero, choice_code}
+use Rattle.core_lines.specs.Choosing.{far, jump_if_zero, choice_code, between_code, behind_code}
+use Rattle.core_lines.specs.Completing.{can_complete, can_complete_all}
 use Rattle.core_lines.specs.Saved.{results_in, results_all, live_at_start, saves_at}
 use Rattle.core_lines.specs.Selected.{Surroundings, frame_bytes, offsets_from, datum_locals, local_home, local_offset, immediate_for, has_operand, both_code}
-use Rattle.core_lines.specs.Selected.{keep_result, applied_kept, get_code, put_code, operation_code, labels_in, labels_of}
+use Rattle.core_lines.specs.Selected.{number_in, keep_result, narrow_kept, applied_kept, get_code, put_code, operation_code, labels_in, labels_of}
 use Rattle.core_lines.specs.Selected.{labels_within, holding, naming, names_after, names_after_all, within_block, statement_code, statements_code, around}
 use Rattle.core_lines.specs.Selected.{function_code, functions_code, program_code}
 use Rattle.core_meaning.specs.Selectable.{IsSelectable}
 use Rattle.core_lines.specs.Running.{DoesAsCore}
-use Rattle.core_lines.proofs.labels.NoTargets.{operand_none, operation_none, call_none, return_none, epilogue_none, prologue_none}
+use Rattle.core_lines.proofs.labels.NoTargets.{operand_none, operation_none, between_none, behind_none, call_none, return_none, epilogue_none, prologue_none}
 use Rattle.core_lines.proofs.labels.TargetsOnce.{program_targets_once}
 use Rattle.core_lines.proofs.DoesAsCore.{lines_do_as_core}
 use Rattle.core_lines.specs.Relaxed.{shortened, shorten_to, shortened_to, wide_to, targets}
@@ -119,7 +120,11 @@ operation_same : (f g : ℕ → Bool) (keeps : Bool) (u : Surroundings) (o : Ope
 operation_same f g keeps u (Constant t w) = refl
 operation_same f g keeps u (NullPointer t) = refl
 operation_same f g keeps u (Move t x) = refl
-operation_same f g keeps u (Narrow t x) = refl
+operation_same f g keeps u (Narrow t x) = by (number_in (source_of u.held x))
+  where
+    by : (known : Option ℕ) → narrow_kept keeps (with_wide f u) t x known ≡ narrow_kept keeps (with_wide g u) t x known
+    by None = refl
+    by (Some w) = refl
 operation_same f g keeps u (Apply o t x y) = by (same_as o x y (source_of u.held x) (source_of u.held y))
   where
     in_both : (lines : Option (List Line))
@@ -168,6 +173,11 @@ module _ (wide : ℕ → Bool) where
   both : (a b c d : List Line) → shortened_to wide a ≡ c → shortened_to wide b ≡ d → shortened_to wide (a ++ b) ≡ c ++ d
   both a b c d first second = append_short wide a b ∙ ap (λ ls. ls ++ shortened_to wide b) first ∙ ap (λ ls. c ++ ls) second
 
+  if_short : (reached : Bool) (lines short : List Line) → shortened_to wide lines ≡ short
+      → shortened_to wide (if reached then lines else []) ≡ (if reached then short else [])
+  if_short true lines short is = is
+  if_short false lines short is = refl
+
   choice_short : (passed : ℕ) (hs : List Holding) (t label : ℕ) → shortened_to wide (choice_code far passed hs t label) ≡ choice_code wide passed hs t label
   choice_short passed hs t label =
       let operand = operand_code passed hs 5 t in
@@ -185,8 +195,8 @@ module _ (wide : ℕ → Bool) where
         let left = drop (results_all these) flags in
         let behind = next + 1 + labels_of these in
         let v = naming (names_after_all these u.names) u in
-        let over : List Line = Jump behind ∷ Label next ∷ [] in
-        let last : List Line = Label behind ∷ [] in
+        let over = between_code (can_complete_all these) those behind next in
+        let last = behind_code those behind in
         let a = choice_code far u.passed u.held t next in
         let a' = choice_code wide u.passed u.held t next in
         let b = statements_code flags (with_wide far u) (next + 1) out again these in
@@ -196,8 +206,9 @@ module _ (wide : ℕ → Bool) where
         both (((a ++ b) ++ over) ++ c) last (((a' ++ b') ++ over) ++ c') last
         (both ((a ++ b) ++ over) c ((a' ++ b') ++ over) c'
         (both (a ++ b) over (a' ++ b') over
-        (both a b a' b' (choice_short u.passed u.held t next) (statements_short flags u (next + 1) out again these)) refl)
-        (statements_short left v (behind + 1) out again those)) refl
+        (both a b a' b' (choice_short u.passed u.held t next) (statements_short flags u (next + 1) out again these))
+        (no_targets_stay wide over (between_none (can_complete_all these) those behind next)))
+        (statements_short left v (behind + 1) out again those)) (no_targets_stay wide last (behind_none those behind))
     statement_short flags u next out again (While test t body) =
         let left = drop (results_all test) flags in
         let behind = next + 1 + labels_of test in
@@ -236,9 +247,12 @@ module _ (wide : ℕ → Bool) where
     statements_short flags u next out again (MoreStatements s ss) =
         let left = drop (results_in s) flags in
         let v = holding (held_behind u.homes u.statics u.held s) (naming (names_after s u.names) u) in
-        both (statement_code flags (with_wide far u) next out again s) (statements_code left (with_wide far v) (next + labels_in s) out again ss)
-        (statement_code flags (with_wide wide u) next out again s) (statements_code left (with_wide wide v) (next + labels_in s) out again ss)
-        (statement_short flags u next out again s) (statements_short left v (next + labels_in s) out again ss)
+        let others = statements_code left (with_wide far v) (next + labels_in s) out again ss in
+        let others' = statements_code left (with_wide wide v) (next + labels_in s) out again ss in
+        both (statement_code flags (with_wide far u) next out again s) (if can_complete s then others else [])
+        (statement_code flags (with_wide wide u) next out again s) (if can_complete s then others' else [])
+        (statement_short flags u next out again s)
+        (if_short (can_complete s) others others' (statements_short left v (next + labels_in s) out again ss))
 
   function_short : (statics : List ℕ) (number next : ℕ) (f : Function)
       → shortened_to wide (function_code far statics number next f) ≡ function_code wide statics number next f

@@ -1,7 +1,7 @@
 -- No two jumps on zero of a program go to one label.
-use Rattle.std.proofs.Common.{Bool, ◌≡◌, ℕ, ◌+◌, ◌≤◌, ◌<◌, ◌⊎◌, inl, false, nat_eq, List, [], ◌∷◌, ◌++◌, refl}
+use Rattle.std.proofs.Common.{Bool, ◌≡◌, ℕ, ◌+◌, ◌≤◌, ◌<◌, ◌⊎◌, inl, true, false, nat_eq, List, [], ◌∷◌, ◌++◌, refl}
 use Rattle.std.proofs.Common.{sym, subst, arith}
-use Rattle.std.specs.Prelude.{length, drop}
+use Rattle.std.specs.Prelude.{length, drop, if◌then◌else◌}
 use Rattle.std.specs.List.{All}
 use Rattle.std.proofs.lemmas.List.Elements.{All-nil, All-cons, All-head, All-tail, All-same, All-append, All-weaker}
 use Rattle.std.proofs.lemmas.Bool.Decides.{nat_tests}
@@ -15,13 +15,15 @@ use Rattle.core_lines.specs.Frames.{raise_code, epilogue_code}
 use Rattle.core_lines.specs.Selected.{frame_bytes, Surroundings}
 use Rattle.core_lines.specs.Held.{held_behind, held_behind_all}
 use Rattle.core_lines.specs.Operands.{call_code, return_code, prologue_code}
-use Rattle.core_lines.specs.Choosing.{choice_code}
+use Rattle.core_lines.specs.Choosing.{choice_code, between_code, behind_code}
+use Rattle.core_lines.specs.Completing.{can_complete, can_complete_all}
 use Rattle.core_lines.specs.Saved.{results_in, results_all, live_at_start, saves_at}
 use Rattle.core_lines.specs.Selected.{operation_code, labels_in, labels_of, labels_within, holding, naming, names_after, names_after_all, within_block}
 use Rattle.core_lines.specs.Selected.{statement_code, statements_code, around, function_code, functions_code, program_code}
 use Rattle.core_lines.specs.Running.{data_offsets}
 use Rattle.core_lines.specs.Homes.{saved_by, saved_slot, flag_at}
-use Rattle.core_lines.proofs.labels.NoTargets.{targets_append, operation_none, choice_one, call_none, return_none, epilogue_none, prologue_none}
+use Rattle.core_lines.proofs.labels.NoTargets.{targets_append, operation_none, choice_one, between_none, behind_none, call_none, return_none}
+use Rattle.core_lines.proofs.labels.NoTargets.{epilogue_none, prologue_none}
 
 -- ---- lists of labels
 
@@ -72,6 +74,10 @@ one_from label lines one = record {
   once = subst AreOnce (sym one) (All-nil (λ other. nat_eq label other ≡ false), tt);
 }
 
+either_from : (low high : ℕ) (reached : Bool) (lines : List Line) → TargetsFrom low high lines → TargetsFrom low high (if reached then lines else [])
+either_from low high true lines from = from
+either_from low high false lines from = none_from low high [] refl
+
 -- ---- statements
 
 -- The labels of a statement's code are numbered from `next` on. A choice and a loop have two of their own: `next`, and the one behind those of the first part.
@@ -87,17 +93,17 @@ mutual
       let v = naming (names_after_all these u.names) u in
       let choice = choice_code u.wide u.passed u.held t next in
       let first = statements_code flags u (next + 1) out again these in
-      let over : List Line = Jump behind ∷ Label next ∷ [] in
+      let over = between_code (can_complete_all these) those behind next in
       let second = statements_code left v (behind + 1) out again those in
-      let last : List Line = Label behind ∷ [] in
+      let last = behind_code those behind in
       let a : TargetsFrom next behind (choice ++ first) =
       join next behind (one_from next choice (choice_one u.wide u.passed u.held t next)) (statements_targets flags u (next + 1) out again these)
       (omega arith) (omega arith) (omega arith) (omega arith) (inl (omega arith)) in
       let b : TargetsFrom next behind ((choice ++ first) ++ over) =
-      join next behind a (none_from behind behind over refl) (omega arith) (omega arith) (omega arith) (omega arith) (inl (omega arith)) in
+      join next behind a (none_from behind behind over (between_none (can_complete_all these) those behind next)) (omega arith) (omega arith) (omega arith) (omega arith) (inl (omega arith)) in
       let c : TargetsFrom next end (((choice ++ first) ++ over) ++ second) =
       join next end b (statements_targets left v (behind + 1) out again those) (omega arith) (omega arith) (omega arith) (omega arith) (inl (omega arith)) in
-      join next end c (none_from end end last refl) (omega arith) (omega arith) (omega arith) (omega arith) (inl (omega arith))
+      join next end c (none_from end end last (behind_none those behind)) (omega arith) (omega arith) (omega arith) (omega arith) (inl (omega arith))
   statement_targets flags u next out again (While test t body) =
       let left = drop (results_all test) flags in
       let behind = next + 1 + labels_of test in
@@ -136,8 +142,10 @@ mutual
   statements_targets flags u next out again NoStatements = none_from next (next + 0) [] refl
   statements_targets flags u next out again (MoreStatements s ss) =
       let left = drop (results_in s) flags in
+      let free = next + labels_in s in
+      let v = holding (held_behind u.homes u.statics u.held s) (naming (names_after s u.names) u) in
       join next (next + labels_of (MoreStatements s ss)) (statement_targets flags u next out again s)
-      (statements_targets left (holding (held_behind u.homes u.statics u.held s) (naming (names_after s u.names) u)) (next + labels_in s) out again ss)
+      (either_from free (free + labels_of ss) (can_complete s) (statements_code left v free out again ss) (statements_targets left v free out again ss))
       (omega arith) (omega arith) (omega arith) (omega arith) (inl (omega arith))
 
 -- ---- functions

@@ -7,7 +7,7 @@ use Rattle.core_meaning.specs.Core.{Local}
 use Rattle.core_meaning.specs.Meaning.{with_objects}
 use Rattle.core_lines.specs.Machines.{Store, Machine}
 use Rattle.rv32_machine.specs.State.{data_base, Areas}
-use Rattle.core_lines.specs.Lies.{HasNone, HomesLie, HomeLies, Maps, Zone, Activation, Cell, Among, InFrame, InBlockOf, InOwn, CellGround, Fits, Zoned, Stacked}
+use Rattle.core_lines.specs.Lies.{HasNone, HomesLie, HomeLies, Maps, Extends, Zone, Activation, Cell, Among, InFrame, InBlockOf, InOwn, CellGround, Fits, Zoned, Stacked}
 use Rattle.core_lines.specs.Homes.{is_among}
 use Rattle.core_lines.specs.Selected.{shrunk}
 use Rattle.core_lines.proofs.homes.Homes.{Spares, spares_standing, spares_then, home_spared, homes_spared}
@@ -107,13 +107,18 @@ none_yet m mem k none [] registers h = tt
 none_yet m mem k none (a ∷ fs) registers h =
     ((λ o r e. let made = (h.0.lie k o r e).made in omega (arith, made, none)), none_yet m mem k none fs a.callers h.2)
 
+-- where more addresses are known than before
+pub record AtMore (w : World) (x : Waiting) (outer : List Waiting) (mem : Memory) (place : ℕ) (s : Machine) (m : Maps) : Type 0 where
+  pub at : At w x outer mem place s
+  pub extends : Extends m at.maps
+
 -- A block is entered: no instruction is needed.
 pub enters_block : (w : World) (order : IsInOrder w) (x : Waiting) (outer : List Waiting) (p : Place) (ls : List Local) (mem : Memory) (place : ℕ) (s : Machine)
     → LaidOut (shrunk ls p.homes) p.offsets p.low p.high → p.high ≤ w.frame_bytes x.function → NestFits x.own_high p.low x.nest
     → AreTiny ls p.homes → HomesFit x.fn (length ls) p.homes x.nest → x.phase ≡ Inside
-    → At w x outer mem place s
-    → At w (record x { nest = p ∷ x.nest; config = record x.config { blocks = mem.activations ∷ x.config.blocks } }) outer
-    (with_objects (Frame mem.activations) ls (record (with_standing mem (Frame mem.activations) Live) { activations = mem.activations + 1 })) place s
+    → (a : At w x outer mem place s)
+    → AtMore w (record x { nest = p ∷ x.nest; config = record x.config { blocks = mem.activations ∷ x.config.blocks } }) outer
+    (with_objects (Frame mem.activations) ls (record (with_standing mem (Frame mem.activations) Live) { activations = mem.activations + 1 })) place s a.maps
 enters_block w order x outer p ls mem place s laid_out room nest tiny homes_fit inside a =
     let n = w.areas in
     let fs = a.others in
@@ -162,87 +167,90 @@ enters_block w order x outer p ls mem place s laid_out room nest tiny homes_fit 
     let none : mem.objects (Frame q) ≡ 0 = ap (λ i. mem.objects (Frame i)) same ∙ u.1 in omega (arith, made, none)) in
     let f = frame_extends w a.maps l.maps x (back_of w outer) fr l.extends a.shows in
     record {
-      maps = l.maps;
-      frame = after1;
-      others = fs;
-      sp = a.sp;
-      stands = record {
-        runs = a.stands.runs;
-        there = a.stands.there;
-        aligned = a.stands.aligned;
-        pointer = a.stands.pointer;
-        small = a.stands.small;
-        kept = a.stands.kept;
-        stacked = (laid_homed a.sp zoned1 with1 fr.saves fr.callers l.stacked.0, l.stacked.1);
-        fits = homed_fits n l.maps zoned1 fs with1 fr.saves fr.callers mem2 s.bytes s.store l.fits;
-        homes = (
-          record {
-            small = h.small;
-            lie = λ q o r e. ⊎_elim
-                (λ (new : (q ≡ k) × (home_of p.homes o ≡ Some r)).
-                let there : 0 + o ≡ o = omega arith in
-                subst (λ i. HomeLies l.maps mem2 i o (s.registers r)) (sym new.0)
-                (subst (λ i. HomeLies l.maps mem2 k i (s.registers r)) there (l.homes o r (s.registers r) new.1 (homes_fit.within o r new.1))))
-                (λ (old : fr.homes q o ≡ Some r). home_spared a.maps mem l.maps mem2 q o (s.registers r) spares (h.lie q o r old))
-                (with_some k p.homes fr.homes q o r e);
-            apart = λ q o q' o' r e e'. ⊎_elim
-                (λ (new : (q ≡ k) × (home_of p.homes o ≡ Some r)). ⊎_elim
-                (λ (new' : (q' ≡ k) × (home_of p.homes o' ≡ Some r)). (new.0 ∙ sym new'.0, homes_fit.once o o' r new.1 new'.1))
-                (λ (old' : fr.homes q' o' ≡ Some r). absurd (clash o r new.1 (are.1 q' o' r old')))
-                (with_some k p.homes fr.homes q' o' r e'))
-                (λ (old : fr.homes q o ≡ Some r). ⊎_elim
-                (λ (new' : (q' ≡ k) × (home_of p.homes o' ≡ Some r)). absurd (clash o' r new'.1 (are.1 q o r old)))
-                (λ (old' : fr.homes q' o' ≡ Some r). h.apart q o q' o' r old old')
-                (with_some k p.homes fr.homes q' o' r e'))
-                (with_some k p.homes fr.homes q o r e);
-            saved = λ q o r e. ⊎_elim
-                (λ (new : (q ≡ k) × (home_of p.homes o ≡ Some r)). let it = homes_fit.saved o r new.1 in
-                (it.0, a.shows.changed r ∙ ap (λ (i : Phase). is_among r (changed_in i x.fn)) inside ∙ it.1))
-                (λ (old : fr.homes q o ≡ Some r). h.saved q o r old)
-                (with_some k p.homes fr.homes q o r e);
-            others = h.others;
-          },
-          (λ q o r e. ⊎_elim
-              (λ (new : (q ≡ k) × (home_of p.homes o ≡ Some r)). subst (λ i. HasNone i fs) (sym new.0)
-              (none_yet a.maps mem k u.1 fs fr.callers a.stands.homes.2))
-              (λ (old : fr.homes q o ≡ Some r). a.stands.homes.1 q o r old)
-              (with_some k p.homes fr.homes q o r e)),
-          homes_spared a.maps mem l.maps mem2 fs fr.callers spares a.stands.homes.2,
-        );
-        known = l.known;
-        holds_blocks = a.stands.holds_blocks;
-        data_based = λ o y e. l.extends.base (Born 0) o (data_base + y) (a.stands.data_based o y e);
+      at = record {
+        maps = l.maps;
+        frame = after1;
+        others = fs;
+        sp = a.sp;
+        stands = record {
+          runs = a.stands.runs;
+          there = a.stands.there;
+          aligned = a.stands.aligned;
+          pointer = a.stands.pointer;
+          small = a.stands.small;
+          kept = a.stands.kept;
+          stacked = (laid_homed a.sp zoned1 with1 fr.saves fr.callers l.stacked.0, l.stacked.1);
+          fits = homed_fits n l.maps zoned1 fs with1 fr.saves fr.callers mem2 s.bytes s.store l.fits;
+          homes = (
+            record {
+              small = h.small;
+              lie = λ q o r e. ⊎_elim
+                  (λ (new : (q ≡ k) × (home_of p.homes o ≡ Some r)).
+                  let there : 0 + o ≡ o = omega arith in
+                  subst (λ i. HomeLies l.maps mem2 i o (s.registers r)) (sym new.0)
+                  (subst (λ i. HomeLies l.maps mem2 k i (s.registers r)) there (l.homes o r (s.registers r) new.1 (homes_fit.within o r new.1))))
+                  (λ (old : fr.homes q o ≡ Some r). home_spared a.maps mem l.maps mem2 q o (s.registers r) spares (h.lie q o r old))
+                  (with_some k p.homes fr.homes q o r e);
+              apart = λ q o q' o' r e e'. ⊎_elim
+                  (λ (new : (q ≡ k) × (home_of p.homes o ≡ Some r)). ⊎_elim
+                  (λ (new' : (q' ≡ k) × (home_of p.homes o' ≡ Some r)). (new.0 ∙ sym new'.0, homes_fit.once o o' r new.1 new'.1))
+                  (λ (old' : fr.homes q' o' ≡ Some r). absurd (clash o r new.1 (are.1 q' o' r old')))
+                  (with_some k p.homes fr.homes q' o' r e'))
+                  (λ (old : fr.homes q o ≡ Some r). ⊎_elim
+                  (λ (new' : (q' ≡ k) × (home_of p.homes o' ≡ Some r)). absurd (clash o' r new'.1 (are.1 q o r old)))
+                  (λ (old' : fr.homes q' o' ≡ Some r). h.apart q o q' o' r old old')
+                  (with_some k p.homes fr.homes q' o' r e'))
+                  (with_some k p.homes fr.homes q o r e);
+              saved = λ q o r e. ⊎_elim
+                  (λ (new : (q ≡ k) × (home_of p.homes o ≡ Some r)). let it = homes_fit.saved o r new.1 in
+                  (it.0, a.shows.changed r ∙ ap (λ (i : Phase). is_among r (changed_in i x.fn)) inside ∙ it.1))
+                  (λ (old : fr.homes q o ≡ Some r). h.saved q o r old)
+                  (with_some k p.homes fr.homes q o r e);
+              others = h.others;
+            },
+            (λ q o r e. ⊎_elim
+                (λ (new : (q ≡ k) × (home_of p.homes o ≡ Some r)). subst (λ i. HasNone i fs) (sym new.0)
+                (none_yet a.maps mem k u.1 fs fr.callers a.stands.homes.2))
+                (λ (old : fr.homes q o ≡ Some r). a.stands.homes.1 q o r old)
+                (with_some k p.homes fr.homes q o r e)),
+            homes_spared a.maps mem l.maps mem2 fs fr.callers spares a.stands.homes.2,
+          );
+          known = l.known;
+          holds_blocks = a.stands.holds_blocks;
+          data_based = λ o y e. l.extends.base (Born 0) o (data_base + y) (a.stands.data_based o y e);
+        };
+        shows = record {
+          function = f.function;
+          bytes = f.bytes;
+          size = f.size;
+          is = f.is;
+          back_place = f.back_place;
+          returns_to = f.returns_to;
+          temps = f.temps;
+          blocks = (
+            (λ i. record { region = k; low = p.low; high = l.ends i }),
+            (λ o y h none. let e : 0 + o ≡ o = omega arith in subst (λ q. l.maps.base (Frame k) q ≡ Some (fr.at + y)) e (l.based o y h none)),
+            f.blocks,
+          );
+          own = f.own;
+          own_high = f.own_high;
+          own_based = f.own_based;
+          saved = f.saved;
+          changed = f.changed;
+          homes = subst (λ (q : Phase). AreHomes q (p ∷ x.nest) (k ∷ x.config.blocks) with1) (sym inside) (
+            (
+              λ o r e. ap (λ c. if c then home_of p.homes o else fr.homes k o) (eq-eqb k k refl) ∙ e,
+              have_with k p.homes x.nest x.config.blocks fr.homes not_yet are.0,
+            ),
+            λ q o r e. ⊎_elim
+                (λ (new : (q ≡ k) × (home_of p.homes o ≡ Some r)). inl (home_among p.homes o r new.1))
+                (λ (old : fr.homes q o ≡ Some r). inr (are.1 q o r old))
+                (with_some k p.homes fr.homes q o r e),
+          );
+        };
+        stack = stack_extends w a.maps l.maps outer fs l.extends a.stack;
       };
-      shows = record {
-        function = f.function;
-        bytes = f.bytes;
-        size = f.size;
-        is = f.is;
-        back_place = f.back_place;
-        returns_to = f.returns_to;
-        temps = f.temps;
-        blocks = (
-          (λ i. record { region = k; low = p.low; high = l.ends i }),
-          (λ o y h none. let e : 0 + o ≡ o = omega arith in subst (λ q. l.maps.base (Frame k) q ≡ Some (fr.at + y)) e (l.based o y h none)),
-          f.blocks,
-        );
-        own = f.own;
-        own_high = f.own_high;
-        own_based = f.own_based;
-        saved = f.saved;
-        changed = f.changed;
-        homes = subst (λ (q : Phase). AreHomes q (p ∷ x.nest) (k ∷ x.config.blocks) with1) (sym inside) (
-          (
-            λ o r e. ap (λ c. if c then home_of p.homes o else fr.homes k o) (eq-eqb k k refl) ∙ e,
-            have_with k p.homes x.nest x.config.blocks fr.homes not_yet are.0,
-          ),
-          λ q o r e. ⊎_elim
-              (λ (new : (q ≡ k) × (home_of p.homes o ≡ Some r)). inl (home_among p.homes o r new.1))
-              (λ (old : fr.homes q o ≡ Some r). inr (are.1 q o r old))
-              (with_some k p.homes fr.homes q o r e),
-        );
-      };
-      stack = stack_extends w a.maps l.maps outer fs l.extends a.stack;
+      extends = l.extends;
     }
   where
     clash : (o r : ℕ) → home_of p.homes o ≡ Some r → IsHomeIn r x.nest → ⊥

@@ -58,7 +58,7 @@ use Rattle.core_lines.proofs.frames.Bodies.{with_config, IsIn, GoesHolding, goes
 use Rattle.core_lines.proofs.operations.Registers.{having, AtHolding, fewer_holding, served_one, served_two, follows_none, number_into}
 use Rattle.core_lines.proofs.homes.Nests.{BlocksAre, nth_is}
 use Rattle.core_lines.proofs.homes.Fine.{IsFineOperation}
-use Rattle.core_lines.proofs.operations.Operations.{constant, heap_handle, move, narrow, null_is, pointer_is}
+use Rattle.core_lines.proofs.operations.Operations.{constant, heap_handle, move, lowest, null_is, pointer_is}
 use Rattle.core_lines.proofs.operations.Applying.{applied}
 use Rattle.core_lines.proofs.memory.Zero.{null_pointer}
 use Rattle.core_lines.proofs.operations.Parts.{object_address}
@@ -173,7 +173,7 @@ module _ (w : World) (order : IsInOrder w) (x : Waiting) (outer : List Waiting) 
   operation_goes (Narrow t y) keeps after named kept follows fine has ends c is =
       word_goes w (At_first c) active fuel (c.temps y) (λ n. next (with_temp t (Word (n % 256)) c)) (λ n e.
       gives (Narrow t y) keeps after c t (Word (n % 256)) is
-      (narrow w order (with_config x c) outer c.memory keeps after t named.0 follows y n place held named.1 (served_one w x held y kept) e has) ends)
+      (lowest w order (with_config x c) outer c.memory keeps after t named.0 follows y n place held named.1 (served_one w x held y kept) e has) ends)
   operation_goes (Apply o t y z) keeps after named kept follows fine has ends c is =
       let served = served_two w x held y z kept in
       word_goes w (At_first c) active fuel (c.temps y) (λ a. word_of (c.temps z) (λ b. next (with_temp t (Word (two o a b)) c))) (λ a e.

@@ -1,8 +1,8 @@
 -- What the code of an element does: it lies so many times an element's bytes on from where the first one lies.
 use Rattle.std.specs.Prelude.{nat_eq, if◌then◌else◌}
-use Rattle.std.proofs.Common.{◌≡◌, ℕ, suc, ◌+◌, ◌*◌, ◌%◌, ◌^◌, ◌<◌, Bool, true, false, List, [], ◌∷◌, ◌++◌, refl, sym, ap, subst, ◌∙◌, arith}
+use Rattle.std.proofs.Common.{◌≡◌, ℕ, suc, ◌+◌, ◌*◌, ◌%◌, ◌^◌, ◌<◌, Bool, true, false, List, [], ◌∷◌, ◌++◌, Option, Some, None, refl, sym, ap, subst, ◌∙◌, arith}
 use Rattle.std.proofs.lemmas.Bool.{eqb-true}
-use Rattle.cyc_words.specs.Words.{sum_of, product_of}
+use Rattle.cyc_words.specs.Words.{sum_of, product_of, shifted_left}
 use Rattle.rv32_isa.specs.declared.instruction.Instr.TheVariants as instr
 use Rattle.rv32_machine.specs.State.{set_register, register_of}
 use Rattle.rv32_machine.specs.Step.{gives}
@@ -14,6 +14,7 @@ use Rattle.core_lines.specs.Lines.{code_length}
 use Rattle.core_lines.specs.Machines.{Machine, state_of}
 use Rattle.core_lines.specs.Held.{Holding, without_register, result_index, result_register, with_result}
 use Rattle.core_lines.specs.Operands.{number_code, operand_in, operand_code, keep_code}
+use Rattle.core_lines.specs.Computed.{exponent_of, times_code}
 use Rattle.core_lines.specs.Lies.{Maps, Shows, Points}
 use Rattle.core_lines.proofs.memory.Relations.{World, IsInOrder, Has, Waiting, Follows, keeping}
 use Rattle.core_lines.proofs.memory.Moving.{Comes, comes_then, comes_as}
@@ -142,12 +143,39 @@ module _ (w : World) (order : IsInOrder w) (x : Waiting) (outer : List Waiting) 
 
   -- ---- one of more bytes
 
+  -- its bytes are a power of two
+
+  shifts : (exponent : ℕ) → exponent_of (bytes % 2 ^ 32) ≡ Some exponent → shifted_left n exponent ≡ n * bytes
+  shifts exponent is =
+      let whole : bytes % 2 ^ 32 ≡ bytes = omega (arith, few) in
+      by (bytes % 2 ^ 32) whole (nat_eq (bytes % 2 ^ 32) 2) refl (nat_eq (bytes % 2 ^ 32) 4) refl (nat_eq (bytes % 2 ^ 32) 8) refl
+      (nat_eq (bytes % 2 ^ 32) 16) refl is
+    where
+      of : (k : ℕ) → bytes ≡ 2 ^ (k % 32) → Some k ≡ Some exponent → shifted_left n exponent ≡ n * bytes
+      of k power same =
+          let e : k ≡ exponent = ap (λ o. or_zero o) same in
+          ap (λ q. shifted_left n q) (sym e) ∙ ap (λ q. n * q % 2 ^ 32) (sym power) ∙ omega (arith, near)
+        where
+          or_zero : Option ℕ → ℕ
+          or_zero None = 0
+          or_zero (Some q) = q
+
+      by : (k : ℕ) → k ≡ bytes → (two : Bool) → nat_eq k 2 ≡ two → (four : Bool) → nat_eq k 4 ≡ four → (eight : Bool) → nat_eq k 8 ≡ eight
+          → (sixteen : Bool) → nat_eq k 16 ≡ sixteen
+          → (if two then Some 1 else (if four then Some 2 else (if eight then Some 3 else (if sixteen then Some 4 else None)))) ≡ Some exponent
+          → shifted_left n exponent ≡ n * bytes
+      by k whole true a four b eight c sixteen d is = let e = eqb-true k 2 a in of 1 (omega (arith, e, whole)) is
+      by k whole false a true b eight c sixteen d is = let e = eqb-true k 4 b in of 2 (omega (arith, e, whole)) is
+      by k whole false a false b true c sixteen d is = let e = eqb-true k 8 c in of 3 (omega (arith, e, whole)) is
+      by k whole false a false b false c true d is = let e = eqb-true k 16 d in of 4 (omega (arith, e, whole)) is
+      by k whole false a false b false c false d is = absurd (cc is)
+
+  -- x6 has an element's bytes
   abbrev multiplied : List Line
   multiplied = Plain (instr.Mul 5 index_in 6) ∷ []
 
-  -- x6 has an element's bytes
-  abbrev factor_lines : List Line
-  factor_lines = load 5 i ++ number_code 6 (bytes % 2 ^ 32)
+  abbrev factor : List Line
+  factor = number_code 6 (bytes % 2 ^ 32)
 
   abbrev Indexed : Maps → (ℕ → ℕ) → Type 0
   Indexed m registers = InOperand 5 index_in (x.config.temps i) m registers × Known m registers
@@ -155,45 +183,65 @@ module _ (w : World) (order : IsInOrder w) (x : Waiting) (outer : List Waiting) 
   abbrev Factors : Maps → (ℕ → ℕ) → Type 0
   Factors m registers = (registers index_in ≡ n) × (registers 6 ≡ bytes) × Known m registers
 
-  factors : (place : ℕ) → Has w place factor_lines → Comes w (Now Known place) (Now Factors (place + code_length factor_lines))
+  factors : (place : ℕ) → Has w place factor → Comes w (Now Indexed place) (Now Factors (place + code_length factor))
   factors place has =
       let whole : bytes % 2 ^ 32 ≡ bytes = omega (arith, few) in
-      let second = number_code 6 (bytes % 2 ^ 32) in
-      in_turn w (Now Known place) (Now Indexed) (Now Factors) place (load 5 i) second
-      (brings w order x outer mem 4 i place hs named' served' refl (has_first w place (load 5 i) second has))
-      (puts_number w order x outer mem 5 (bytes % 2 ^ 32) (place + code_length (load 5 i)) Indexed Factors (λ m registers h. omega arith) refl
-      (has_second w place (load 5 i) second has)
+      puts_number w order x outer mem 5 (bytes % 2 ^ 32) place Indexed Factors (λ m registers h. omega arith) refl has
       (λ m new old is kept h. (
         subst (λ u. Shows m u (new index_in)) index (operand_stays 5 index_in 6 (x.config.temps i) refl refl refl m new old kept h.0).0.0,
         is ∙ whole,
         there_kept 5 hs x.config.temps refl m new old kept h.1,
-      )))
+      ))
 
   -- x5 has how many bytes the element lies on
-  abbrev product_lines : List Line
-  product_lines = factor_lines ++ multiplied
-
   abbrev Further : Maps → (ℕ → ℕ) → Type 0
   Further m registers = registers 5 ≡ n * bytes
 
   abbrev Product : Maps → (ℕ → ℕ) → Type 0
   Product m registers = Known m registers × Further m registers
 
-  product : (place : ℕ) → Has w place product_lines → Comes w (Now Known place) (Now Product (place + code_length product_lines))
-  product place has =
-      in_turn w (Now Known place) (Now Factors) (Now Product) place factor_lines multiplied
-      (factors place (has_first w place factor_lines multiplied has))
-      (puts w order x outer mem 4 (place + code_length factor_lines) Factors Product (instr.Mul 5 index_in 6)
-      (λ registers. product_of (registers index_in) (registers 6)) refl (has_second w place factor_lines multiplied has).0.0
+  multiplies : (place : ℕ) → Has w place multiplied → Comes w (Now Factors place) (Now Product (place + 4))
+  multiplies place has =
+      puts w order x outer mem 4 place Factors Product (instr.Mul 5 index_in 6)
+      (λ registers. product_of (registers index_in) (registers 6)) refl has.0.0
       (λ registers q st answer.
-      let m = state_of (state_at (place + code_length factor_lines) registers q st) in
-      ap (λ a. gives 5 (product_of a (registers 6)) m) (register_is (place + code_length factor_lines) registers q st index_in (operand_some hs 4 i)))
+      let m = state_of (state_at place registers q st) in
+      ap (λ a. gives 5 (product_of a (registers 6)) m) (register_is place registers q st index_in (operand_some hs 4 i)))
       (λ _. tt)
       (λ m registers h.
       let value = product_of (registers index_in) (registers 6) in (
         there_kept 4 hs x.config.temps refl m (set_register 5 value registers) registers (set_kept 4 value registers) h.2,
         ap (λ u. product_of u (registers 6)) h.0 ∙ ap (λ u. product_of n u) h.1 ∙ omega (arith, near),
-      )))
+      ))
+
+  -- by a multiplication or a shift
+  times : (exponent : Option ℕ) → exponent_of (bytes % 2 ^ 32) ≡ exponent → (place : ℕ) → Has w place (times_code exponent index_in (bytes % 2 ^ 32))
+      → Comes w (Now Indexed place) (Now Product (place + code_length (times_code exponent index_in (bytes % 2 ^ 32))))
+  times None is place has =
+      in_turn w (Now Indexed place) (Now Factors) (Now Product) place factor multiplied (factors place (has_first w place factor multiplied has))
+      (multiplies (place + code_length factor) (has_second w place factor multiplied has))
+  times (Some exponent) is place has =
+      puts w order x outer mem 4 place Indexed Product (instr.Slli 5 index_in exponent) (λ registers. shifted_left (registers index_in) exponent) refl has.0.0
+      (λ registers q st answer.
+      let m = state_of (state_at place registers q st) in
+      ap (λ a. gives 5 (shifted_left a exponent) m) (register_is place registers q st index_in (operand_some hs 4 i)))
+      (λ _. tt)
+      (λ m registers h.
+      let value = shifted_left (registers index_in) exponent in
+      let same : registers index_in ≡ n = subst (λ u. Shows m u (registers index_in)) index h.0.0.0 in (
+        there_kept 4 hs x.config.temps refl m (set_register 5 value registers) registers (set_kept 4 value registers) h.1,
+        ap (λ u. shifted_left u exponent) same ∙ shifts exponent is,
+      ))
+
+  abbrev product_lines : List Line
+  product_lines = load 5 i ++ times_code (exponent_of (bytes % 2 ^ 32)) index_in (bytes % 2 ^ 32)
+
+  product : (place : ℕ) → Has w place product_lines → Comes w (Now Known place) (Now Product (place + code_length product_lines))
+  product place has =
+      let second = times_code (exponent_of (bytes % 2 ^ 32)) index_in (bytes % 2 ^ 32) in
+      in_turn w (Now Known place) (Now Indexed) (Now Product) place (load 5 i) second
+      (brings w order x outer mem 4 i place hs named' served' refl (has_first w place (load 5 i) second has))
+      (times (exponent_of (bytes % 2 ^ 32)) refl (place + code_length (load 5 i)) (has_second w place (load 5 i) second has))
 
   abbrev many_lines : List Line
   many_lines = product_lines ++ load 6 p

@@ -46,11 +46,12 @@ use Rattle.core_lines.specs.Held.{
   result_register,
 }
 use Rattle.core_lines.specs.Homes.{flag_at, stays}
-use Rattle.core_lines.specs.Lies.{Maps, Shows}
+use Rattle.core_lines.specs.Lies.{Maps, Extends, Shows}
 use Rattle.core_lines.specs.Loaded.{if_unknown, unknown_in}
 use Rattle.core_lines.specs.Operands.{register_for, operand_in}
 use Rattle.core_lines.proofs.memory.Relations.{World, Waiting, Covers, Follows, IsKept, AreKept}
 use Rattle.core_lines.proofs.memory.Slots.{Kept}
+use Rattle.core_lines.proofs.memory.Alike.{shows_on}
 
 -- an activation with a temporary set
 abbrev pub having : ℕ → Content → Waiting → Waiting
@@ -131,6 +132,18 @@ IsThere (Number n) v m registers = Shows m v n × (n < 2 ^ 32)
 abbrev pub AreThere : List Holding → (ℕ → Content) → Maps → (ℕ → ℕ) → Type 0
 AreThere [] temps m registers = Unit {0}
 AreThere (h ∷ hs) temps m registers = IsThere h.source (temps h.temporary) m registers × AreThere hs temps m registers
+
+-- also where more addresses are known
+source_extends : (s : Source) (v : Content) (m n : Maps) (registers : ℕ → ℕ) → Extends m n → IsThere s v m registers → IsThere s v n registers
+source_extends (Register zero) v m n registers e a = tt
+source_extends (Register (suc r)) v m n registers e a = ((shows_on m n v (registers (suc r)) e a.0.0, a.0.1), a.1)
+source_extends (Number k) v m n registers e a = (shows_on m n v k e a.0, a.1)
+
+pub there_extends : (hs : List Holding) (temps : ℕ → Content) (m n : Maps) (registers : ℕ → ℕ) → Extends m n → AreThere hs temps m registers
+    → AreThere hs temps n registers
+there_extends [] temps m n registers e h = tt
+there_extends (h ∷ hs) temps m n registers e a =
+    (source_extends h.source (temps h.temporary) m n registers e a.0, there_extends hs temps m n registers e a.1)
 
 -- what is looked up is there
 

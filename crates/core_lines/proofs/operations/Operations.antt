@@ -58,9 +58,11 @@ use Rattle.core_lines.specs.Held.{
   Number,
   Holding,
   source_of,
+  number_in,
   with_source,
   with_result,
   with_moved,
+  with_narrowed,
   result_index,
   result_register,
 }
@@ -284,6 +286,29 @@ module _ (w : World) (order : IsInOrder w) (x : Waiting) (outer : List Waiting) 
         let same : k ≡ n = subst (λ v. Shows m v k) is shows in
         let masked : bit_and k 255 ≡ k % 256 = and_mask k 8 in
         (masked ∙ ap (λ j. j % 256) same, omega (arith, masked)))
+
+    -- where the word is known to be a number, its lowest byte is one
+    abbrev lowest_lines : List Holding → ℕ → Option ℕ → List Line
+    lowest_lines hs y None = narrow_lines hs y
+    lowest_lines hs y (Some k) = number_kept keeps x.fn.passed t (k % 256)
+
+    pub lowest : (y n place : ℕ) (hs : List Holding) → y < x.fn.temporaries → IsServed w x hs y → x.config.temps y ≡ Word n
+        → Has w place (lowest_lines hs y (number_in (source_of hs y)))
+        → Comes w (AtHolding w x outer mem place hs) (AtHolding w (with_value (Word (n % 256))) outer mem
+        (place + code_length (lowest_lines hs y (number_in (source_of hs y)))) (with_narrowed t (number_in (source_of hs y)) hs))
+    lowest y n place hs named' served is has = by (source_of hs y) refl has
+      where
+        by : (s : Option Source) → source_of hs y ≡ s → Has w place (lowest_lines hs y (number_in s))
+            → Comes w (AtHolding w x outer mem place hs) (AtHolding w (with_value (Word (n % 256))) outer mem
+            (place + code_length (lowest_lines hs y (number_in s))) (with_narrowed t (number_in s) hs))
+        by None e has = narrow y n place hs named' served is has
+        by (Some (Register q)) e has = narrow y n place hs named' served is has
+        by (Some (Number k)) e has =
+            number_into w order x outer mem keeps after t (k % 256) place (Word (n % 256)) hs named follows (omega arith)
+            (λ s a.
+            let found = there_found hs y (Number k) x.config.temps a.maps s.registers a.holds e in
+            let same : k ≡ n = subst (λ v. Shows a.maps v k) is found.0 in
+            ap (λ j. j % 256) same) has
 
     -- a pointer, or none
     abbrev null_lines : List Holding → ℕ → List Line

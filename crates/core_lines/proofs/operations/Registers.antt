@@ -68,6 +68,7 @@ pub use Rattle.core_lines.proofs.operations.Holding.{
   IsThere,
   AreThere,
   source_not_zero,
+  there_extends,
   there_found,
   operand_some,
   there_kept,

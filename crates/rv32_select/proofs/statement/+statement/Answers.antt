@@ -1,5 +1,5 @@
-use Rattle.std.proofs.Common.{◌≡◌, ◌∙◌, ◌+◌, ◌++◌, ℕ, Bool, List, [], ◌∷◌, arith, rules, sym, ap, ap₂, subst, drop, map, reverse}
-use Rattle.std.specs.Prelude.{IfOk, OnOk, Result}
+use Rattle.std.proofs.Common.{◌≡◌, ◌∙◌, ◌+◌, ◌++◌, ℕ, Bool, true, false, List, [], ◌∷◌, arith, rules, sym, ap, ap₂, subst, drop, map, reverse}
+use Rattle.std.specs.Prelude.{IfOk, OnOk, Result, take, ◌&&◌, if◌then◌else◌}
 use Rattle.std.specs.declared.alloc.AllocError.{AllocError}
 use Rattle.std.specs.declared.alloc.Global.{Global}
 use Rattle.std.specs.declared.vec.Vec.{Vec}
@@ -12,6 +12,8 @@ use Rattle.cyc_core.specs.declared.statement.Statement.TheFolds.{fold-roll-State
 use Rattle.cyc_core.specs.declared.statement.Statement.TheVariants as form
 use Rattle.core_lines.specs.declared.line.Line.{Line}
 use Rattle.core_lines.specs.Held.{Holding, held_behind, held_behind_all}
+use Rattle.core_lines.specs.Choosing.{between_code}
+use Rattle.core_lines.specs.Completing.{can_complete}
 use Rattle.core_lines.specs.Saved.{results_in, results_all}
 use Rattle.core_lines.specs.Selected.{Surroundings, statement_code, statements_code, labels_in, labels_of, homes_after, holding, naming, names_after}
 use Rattle.core_lines.specs.Selected.{names_after_all}
@@ -21,6 +23,7 @@ use Rattle.rv32_select.proofs.Forms.{block_tree, call_tree, do_tree, if_tree, le
 use Rattle.rv32_select.proofs.Sizes.{statement_size, statements_size}
 use Rattle.rv32_select.proofs.Stepping.{same_behind, names_behind, held_there, flags_left, code_behind}
 use Rattle.rv32_select.proofs.statement.+statement.Goals as goal
+use Rattle.rv32_select.proofs.statement.+statement.Goals.{put_statements-then-reached, put_statements-else-reached}
 use Rattle.rv32_select.proofs.statement.+statement.Goals.{put_statement-in-Break+in_ok-put_lines-in-Break, put_statement-in-Clear+in_ok-put_clear-in-Clear}
 use Rattle.rv32_select.proofs.statement.+statement.Goals.{put_statement-in-Continue+in_ok-put_lines-in-Continue, put_statement-in-Copy+in_ok-put_copy-in-Copy}
 use Rattle.rv32_select.proofs.statement.+statement.Goals.{put_statement-in-Raise+in_ok-put_raise-in-Raise}
@@ -82,9 +85,19 @@ put_statements-each-preserved n c =
     let fewer = c.each.invariant.size in
     let labels = ap (λ ss. labels_of (body_tree ss)) e in
     let more = c.each.invariant.free in
+    let appended = c.put_statement.new.lines.items in
+    let kept = c.keep_reached.ensures ∙ ap (λ n. if c.each.reached then appended else take n appended) (c.len-kept.ensures ∙ c.each.lines.ok.0) in
+    let completes = can_complete (statement_tree x) in
+    let goes_on : c.if-reached.reached ≡ (c.each.reached && completes) =
+    elim c.if-reached.branch [
+      | put_statements-then-reached w ↦ w.reached-is ∙ w.can_complete-reached.ensures ∙ ap (λ b. b && completes) (sym w.if-reached.true)
+      | put_statements-else-reached w ↦ w.reached-is ∙ w.if-reached.false ∙ ap (λ b. b && completes) (sym w.if-reached.false)
+    ] in
+    let others = statements_code (saves_left c.put_statement.new.place) behind c.in_ok-free.free c.args.ways.out c.args.ways.again rest in
     record {
-      code = code_behind start before behind (statement_tree x) rest here same put.same is c.each.lines.items _ (saves_left c.each.place) _ c.each.free _
-          c.args.ways.out c.args.ways.again put.code put.saves put.free ∙ c.each.invariant.code;
+      code = ap (λ b. c.keep_reached.new.lines.items ++ (if b then others else [])) goes_on
+          ∙ code_behind start before behind (statement_tree x) rest here same put.same is c.each.reached c.each.lines.items _ _ (saves_left c.each.place) _
+          c.each.free _ c.args.ways.out c.args.ways.again put.code kept put.saves put.free ∙ c.each.invariant.code;
       free = omega (arith, put.free, labels, more);
       same = same_behind start before behind (statement_tree x) rest here same put.same is;
       names = names_behind start before behind (statement_tree x) rest here same put.same is ∙ c.each.invariant.names;
@@ -298,6 +311,10 @@ put_statement-returns t c =
 
 -- ---- statements
 
+nothing_left : (reached : Bool) (lines : List Line) → lines ++ (if reached then [] else []) ≡ lines
+nothing_left true lines = append-nil lines
+nothing_left false lines = append-nil lines
+
 pub put_statements-put_statement-requires : goal.put_statements-put_statement-requires
 put_statements-put_statement-requires t c =
     let xs = c.args.statements.now in
@@ -320,7 +337,8 @@ put_statements-returns t c =
     let names = ap (λ xs. names_after_all (body_tree xs) place.names) (sym none) ∙ before.names in
     record {
       code =
-          sym (append-nil lines) ∙ ap (λ xs. lines ++ statements_code left place c.each.free ways.out ways.again (body_tree xs)) (sym none) ∙ before.code;
+          sym (nothing_left c.each.reached lines) ∙ ap (λ xs. lines ++ (if c.each.reached then
+          statements_code left place c.each.free ways.out ways.again (body_tree xs) else [])) (sym none) ∙ before.code;
       free = none_more c.each.free ∙ ap (λ xs. c.each.free + labels_of (body_tree xs)) (sym none) ∙ before.free;
       same = before.same ∙ (λ i. holding (held i) (naming (names i) start));
       saves = ap (λ xs. drop (results_all (body_tree xs)) left) (sym none) ∙ before.saves;
@@ -332,13 +350,15 @@ pub put_if-returns-clause-code : goal.put_if-returns-clause-code
 put_if-returns-clause-code t c =
     let a = c.args in
     let first = surroundings c.put_statements.new.place in
+    let between = c.in_ok-put_between.ensures
+    ∙ ap (λ b. c.put_statements.new.lines.items ++ between_code b (body_tree a.those.now) c.in_ok-behind.behind a.next) c.can_complete_all.ensures in
     choice_lines (surroundings a.place.now) first (surroundings c.exchange-first.new.self) a.test.0 (body_tree a.these.now) (body_tree a.those.now)
     c.in_ok-behind.ensures.same (c.exchange-first.ensures.place ∙ ap (λ hs. holding hs first) c.in_ok-known.ensures) a.lines.now.items
-    c.put_choice.new.lines.items c.put_statements.new.lines.items c.put_turn.new.lines.items c.put_statements-2.new.lines.items
-    c.put_lines.new.lines.items (saves_left a.place.now) (saves_left c.exchange-first.new.self) a.next c.in_ok-inside.inside c.in_ok-behind.behind
+    c.put_choice.new.lines.items c.put_statements.new.lines.items c.put_between.new.lines.items c.put_statements-2.new.lines.items
+    c.put_behind.new.lines.items (saves_left a.place.now) (saves_left c.exchange-first.new.self) a.next c.in_ok-inside.inside c.in_ok-behind.behind
     c.in_ok-other.other a.ways.out a.ways.again c.in_ok-inside.ensures.code c.in_ok-inside.ensures.next c.in_ok-behind.ensures.code
-    c.in_ok-behind.ensures.free c.in_ok-other.ensures.code c.in_ok-other.ensures.next
-    (ap reverse c.exchange-first.ensures.saves ∙ c.in_ok-behind.ensures.saves) c.in_ok-free.ensures.code c.in_ok-put_lines.ensures
+    c.in_ok-behind.ensures.free between c.in_ok-other.ensures
+    (ap reverse c.exchange-first.ensures.saves ∙ c.in_ok-behind.ensures.saves) c.in_ok-free.ensures.code c.in_ok-put_behind.ensures
 
 pub put_if-returns-clause-saves : goal.put_if-returns-clause-saves
 put_if-returns-clause-saves t c =

@@ -1,4 +1,4 @@
-use Rattle.std.proofs.Common.{◌≡◌, ◌+◌, ◌≤◌, ◌++◌, drop}
+use Rattle.std.proofs.Common.{◌≡◌, ◌+◌, ◌≤◌, ◌++◌, [], drop, if◌then◌else◌}
 use Rattle.cyc_core.specs.Trees.{statement_tree, body_tree}
 use Rattle.core_lines.specs.Held.{held_behind_all}
 use Rattle.core_lines.specs.Selected.{statements_code, labels_of, names_after_all, holding, naming}
@@ -28,8 +28,8 @@ decreases-put_leavable l = statements_size (body_tree l.body.now) + 1
 -- what is appended, and the code of the statements that are left, is the code of all; so with the labels; the place is the same but for names
 abbrev pub invariant-put_statements-each : goal.invariant-put_statements-each
 invariant-put_statements-each l = record {
-  code : l.lines.items ++
-      statements_code (saves_left l.place) (surroundings l.place) l.free l.ways.out l.ways.again (body_tree (drop l.statement-index l.statements)) ≡
+  code : l.lines.items ++ (if l.reached then
+      statements_code (saves_left l.place) (surroundings l.place) l.free l.ways.out l.ways.again (body_tree (drop l.statement-index l.statements)) else []) ≡
       l.initial.lines.items ++
       statements_code (saves_left l.initial.place) (surroundings l.initial.place) l.next l.ways.out l.ways.again (body_tree l.statements);
   free : l.free + labels_of (body_tree (drop l.statement-index l.statements)) ≡ l.next + labels_of (body_tree l.statements);

@@ -23,6 +23,6 @@ returns-clause-place c =
     let homes = ap (map (λ scope. scope.homes.items)) c.in_ok-insert.ensures.items in
     let later = block_names local_tree c.args.locals.now old.homes.items old.named c.in_ok-named.named c.in_ok-named.ensures in (
       refl,
-      entered u ls c.in_ok-homes.homes.items c.in_ok-offsets.offsets.items (drop c.in_ok-named.named old.homes.items) c.in_ok-end.end _ _ _
-          here offsets end later blocks homes c.forget.ensures,
+      entered u ls c.in_ok-homes.homes.items c.in_ok-offsets.offsets.items (drop c.in_ok-named.named old.homes.items) c.in_ok-end.end _ _
+          here offsets end later blocks homes,
     )

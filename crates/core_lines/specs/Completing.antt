@@ -1,0 +1,36 @@
+-- Which statements can complete normally, so that what stands behind them is reached.
+use Rattle.std.specs.Prelude.{Bool, true, false, ◌||◌, ◌&&◌}
+use Rattle.core_meaning.specs.Core.{
+  Statement,
+  Do,
+  If,
+  While,
+  Block,
+  Leave,
+  Break,
+  Continue,
+  Call,
+  Return,
+  Raise,
+  Statements,
+  NoStatements,
+  MoreStatements,
+}
+
+-- A jump, a return and an exception never complete. A loop, and what a `Break` leaves, are taken to complete in any case.
+abbrev mutual
+  pub can_complete : Statement → Bool
+  can_complete (Do operation) = true
+  can_complete (If t these those) = can_complete_all these || can_complete_all those
+  can_complete (While test t body) = true
+  can_complete (Block locals body) = can_complete_all body
+  can_complete (Leave body) = true
+  can_complete Break = false
+  can_complete Continue = false
+  can_complete (Call results f arguments) = true
+  can_complete (Return values) = false
+  can_complete (Raise kind) = false
+
+  pub can_complete_all : Statements → Bool
+  can_complete_all NoStatements = true
+  can_complete_all (MoreStatements s ss) = can_complete s && can_complete_all ss

@@ -1,0 +1,45 @@
+// Which statements can complete normally.
+
+ghost use Rattle.std.specs.Prelude.{◌≡◌, if◌then◌else◌, take, length};
+ghost use Rattle.core_lines.specs.Completing.{can_complete, can_complete_all};
+ghost use Rattle.cyc_core.specs.Trees.{statement_tree, body_tree};
+
+use core_lines::Line;
+use cyc_core::Statement;
+
+/// Whether a statement can complete, so that what stands behind it is reached.
+#[cycle(completing)]
+pub fn can_complete(statement: &Statement) -> bool
+    ensures { result ≡ can_complete (statement_tree statement.now) }
+{
+    match statement {
+        Statement::If(_, these, those) => can_complete_all(these) || can_complete_all(those),
+        Statement::Block(_, body) => can_complete_all(body),
+        Statement::Break | Statement::Continue | Statement::Return(_) | Statement::Raise(_) => {
+            false
+        }
+        _ => true,
+    }
+}
+
+/// Whether statements can, one after the other.
+#[cycle(completing)]
+pub fn can_complete_all(body: &[Statement]) -> bool
+    ensures { result ≡ can_complete_all (body_tree body.now) }
+{
+    'each: for statement in body {
+        if !can_complete(statement) {
+            return false;
+        }
+    }
+    true
+}
+
+/// Keeps the lines behind the first so many, if they are reached.
+pub fn keep_reached(lines: &mut Vec<Line>, kept: usize, reached: bool)
+    ensures { lines.new.items ≡ (if reached then lines.old.items else take kept lines.old.items) }
+{
+    if !reached {
+        lines.truncate(kept);
+    }
+}

@@ -1,6 +1,7 @@
 pub mod Aliases
 pub mod Blocks
 pub mod Bodies
+pub mod ByName
 pub mod Declaring
 pub mod LocalTypes
 pub mod Operands

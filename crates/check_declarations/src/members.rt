@@ -5,7 +5,7 @@ ghost use Rattle.cyc_tree.specs.View.{name_tree, pattern_tree};
 ghost use Rattle.cyc_types.specs.Bases.{base_type};
 ghost use Rattle.cyc_types.specs.Regions.{region_of, regions_of};
 ghost use Rattle.cyc_types.specs.Sameness.{HasTags};
-ghost use Rattle.cyc_types.specs.Tags.{member_of, members_of};
+ghost use Rattle.cyc_types.specs.Tags.{member_of};
 ghost use Rattle.cyc_types.specs.Types.{static_type};
 ghost use Rattle.source_typing.specs.Scope.{Env, block_entered, next_region};
 ghost use Rattle.source_typing.specs.Statements.{bound_what, chosen, clause_scope, part_what, parts_of_chosen};
@@ -19,17 +19,18 @@ ghost use Rattle.check_regions.specs.declared.scope.RegionMark.{RegionMark};
 ghost use Rattle.check_declarations.specs.Contexts.{StandsIn};
 ghost use Rattle.check_declarations.specs.declared.context.Context.{Context};
 ghost use Rattle.check_operators.specs.Values.{value_of};
-ghost use Rattle.check_declarations.specs.Switching.{chosen_in, union_in};
+ghost use Rattle.check_declarations.specs.Switching.{HasParts, chosen_in, member_named, part_named, switched_in, union_in};
 ghost use Rattle.source_typing.specs.Scope as judged;
 ghost use Rattle.source_typing.specs.Statements as statements;
 ghost use Rattle.source_typing.specs.Verdicts as verdict;
 
+use crate::member_names::{MemberNames, by_name};
 use check_faults::Verdict;
 use check_operators::{Seat, Value, renamed_type};
 use check_scopes::{Scope, What};
 use cyc_tree::{Name, Pattern};
 use cyc_types::{BaseType, CType, Member, RegionId, Tables};
-use std::alloc::AllocError;
+use std::alloc::{AllocError, Global};
 
 /// The union of a `switch`.
 #[derive(Clone, Copy)]
@@ -39,13 +40,73 @@ pub struct Chosen<'a> {
     regions: &'a [RegionId],
 }
 
+/// The union of a `switch`, with its members by their names.
+pub struct SwitchedUnion<'a, 'p> {
+    chosen: Chosen<'a>,
+    members: MemberNames<'a, 'p>,
+}
+
+// Written out, so that a caller's proof sees one call and not the drop of each field.
+impl Drop for SwitchedUnion<'_, '_> {
+    fn drop(self) {
+        let SwitchedUnion {
+            chosen: _,
+            members: _members,
+        } = self;
+    }
+}
+
+impl<'a, 'p> SwitchedUnion<'a, 'p> {
+    /// The member of a name.
+    pub fn member(&self, name: &[u8]) -> Option<&'a Member<'p>>
+        ensures { option_map (λ m. member_of m.now) result ≡ part_named (Some self.now) name.now }
+    {
+        self.members.member(name)
+    }
+}
+
 /// The union of a `switch` on what was judged, where it is one's place.
-pub fn union_of<'a>(place: &'a Verdict<Value<'_>>) -> Option<Chosen<'a>>
+fn chosen_of<'a>(place: &'a Verdict<Value<'_>>) -> Option<Chosen<'a>>
     ensures { (v : verdict.Verdict judged.Value) → short_of value_of place.now ≡ shortened v → option_map chosen_in result ≡ chosen v }
 {
     match place {
         Verdict::Of(value) => place_union(value),
         Verdict::Wrong(_) | Verdict::NotJudged => None,
+    }
+}
+
+/// The members of a union by their names. Fails only where no host memory is left.
+fn names_in<'a, 'p>(
+    tables: &'a Tables<'p>,
+    alloc: Global,
+    chosen: Chosen<'_>,
+) -> Result<MemberNames<'a, 'p>, AllocError>
+    ensures { (g : Env) → HasTags tables.entry.now g.tables
+        → IfOk result (λ names. (x : List ℕ) → member_named names x ≡ part_in (parts_of_chosen g (Some (chosen_in chosen.entry))) x) }
+{
+    match tables.tag(chosen.tag) {
+        Some(tag) => by_name(alloc, &tag.members),
+        None => Ok(MemberNames::new(alloc)),
+    }
+}
+
+/// The union of a `switch` on what was judged, with its members by their names, where it is one's place. Fails only where no host memory
+/// is left.
+pub fn union_of<'a, 'p>(
+    tables: &'a Tables<'p>,
+    alloc: Global,
+    place: &'a Verdict<Value<'_>>,
+) -> Result<Option<SwitchedUnion<'a, 'p>>, AllocError>
+    ensures union { (v : verdict.Verdict judged.Value) → short_of value_of place.entry.now ≡ shortened v
+        → IfOk result (λ u. option_map switched_in u ≡ chosen v) }
+    ensures parts { (g : Env) → HasTags tables.entry.now g.tables → IfOk result (HasParts g) }
+{
+    match chosen_of(place) {
+        Some(chosen) => {
+            let members = names_in(tables, alloc, chosen)?;
+            Ok(Some(SwitchedUnion { chosen, members }))
+        }
+        None => Ok(None),
     }
 }
 
@@ -85,61 +146,32 @@ fn base_union<'a>(of: &'a BaseType<'_>) -> Option<Chosen<'a>>
     }
 }
 
-/// The member of a name.
-fn named<'a, 'p>(members: &'a [Member<'p>], name: &[u8]) -> Option<&'a Member<'p>>
-    ensures { option_map (λ m. member_of m.now) result ≡ part_in (members_of members.now) name.now }
-{
-    'each: for member in members {
-        if member.name == name {
-            return Some(member);
-        }
-    }
-    None
-}
-
-/// The member of a name, of the union of a `switch`.
-pub fn member<'a, 'p>(
-    tables: &'a Tables<'p>,
-    union: Chosen<'_>,
-    name: &[u8],
-) -> Option<&'a Member<'p>>
-    ensures { (g : Env) → HasTags tables.now g.tables
-        → option_map (λ m. member_of m.now) result ≡ part_in (parts_of_chosen g (Some (chosen_in union.entry))) name.now }
-{
-    match tables.tag(union.tag) {
-        Some(tag) => named(&tag.members, name),
-        None => None,
-    }
-}
-
 /// What the name of a clause stands for: a copy of the member, in the clause's stack region. Fails only where no host memory is left.
 fn bound_what<'p>(
-    tables: &Tables<'p>,
-    chosen: Option<Chosen<'_>>,
+    union: &Option<SwitchedUnion<'_, 'p>>,
     frame: RegionId,
     field: &Name,
 ) -> Result<What<'p>, AllocError>
-    ensures { (g : Env) → HasTags tables.now g.tables → let c = option_map chosen_in chosen.entry in
+    ensures { (g : Env) → HasParts g union.now → let c = option_map switched_in union.now in
         IfOk result (WhatIs (bound_what (region_of frame) c (part_in (parts_of_chosen g c) (name_tree field.now).text))) }
 {
-    match chosen {
-        Some(union) => bound_member(tables, union, frame, field),
+    match union {
+        Some(union) => bound_member(union, frame, field),
         None => Ok(What::NotKnown),
     }
 }
 
 /// The same of a union that is known.
 fn bound_member<'p>(
-    tables: &Tables<'p>,
-    union: Chosen<'_>,
+    union: &SwitchedUnion<'_, 'p>,
     frame: RegionId,
     field: &Name,
 ) -> Result<What<'p>, AllocError>
-    ensures { (g : Env) → HasTags tables.now g.tables → let c = Some (chosen_in union.entry) in
+    ensures { (g : Env) → HasParts g (Some union.now) → let c = Some (switched_in union.now) in
         IfOk result (WhatIs (bound_what (region_of frame) c (part_in (parts_of_chosen g c) (name_tree field.now).text))) }
 {
-    match member(tables, union, &field.text) {
-        Some(member) => member_what(member, union.regions, frame),
+    match union.member(&field.text) {
+        Some(member) => member_what(member, union.chosen.regions, frame),
         None => Ok(What::NotKnown),
     }
 }
@@ -164,22 +196,22 @@ fn member_what<'p>(
 /// Declares the name of a clause in its block, which has no locals yet. Fails only where no host memory is left.
 pub fn bind<'p>(
     scope: &mut Scope<'_, 'p>,
-    chosen: Option<Chosen<'_>>,
+    union: &Option<SwitchedUnion<'_, 'p>>,
     frame: RegionId,
     pattern: &'p Pattern,
 ) -> Result<(), AllocError>
     ensures stands { (c : Context) (ns : List RegionNamed) (g : Env) → StandsIn c ns (length scope.old.locals) scope.old (block_entered g)
-        → region_of frame ≡ next_region g → OnOk result (StandsIn c ns (length scope.old.locals) scope.new
-        (clause_scope g (option_map chosen_in chosen.entry) (pattern_tree pattern.entry.now))) }
+        → region_of frame ≡ next_region g → HasParts g union.now → OnOk result (StandsIn c ns (length scope.old.locals) scope.new
+        (clause_scope g (option_map switched_in union.now) (pattern_tree pattern.entry.now))) }
     ensures locals { (c : Context) (ns : List RegionNamed) (g : Env) → StandsIn c ns (length scope.old.locals) scope.old (block_entered g)
-        → region_of frame ≡ next_region g → AreLocals scope.old.locals g.locals → OnOk result (AreLocals scope.new.locals
-        (clause_scope g (option_map chosen_in chosen.entry) (pattern_tree pattern.entry.now)).locals) }
+        → region_of frame ≡ next_region g → HasParts g union.now → AreLocals scope.old.locals g.locals → OnOk result (AreLocals scope.new.locals
+        (clause_scope g (option_map switched_in union.now) (pattern_tree pattern.entry.now)).locals) }
     ensures regions { OnOk result (scope.new.regions ≡ scope.old.regions) }
     ensures left { OnOk result ((count : ℕ) (mark : RegionMark) → count ≤ length scope.old.locals → left count mark scope.new ≡ left count mark scope.old) }
 {
     match pattern {
         Pattern::Case(field, name) => {
-            let what = bound_what(scope.tables, chosen, frame, field)?;
+            let what = bound_what(union, frame, field)?;
             scope.locals.declare(&name.text, what)?;
             Ok(())
         }

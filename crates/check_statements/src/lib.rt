@@ -6,6 +6,7 @@
 
 mod acts;
 mod exchange;
+mod name_times;
 mod named_members;
 mod returning;
 mod statement;

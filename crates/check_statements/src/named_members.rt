@@ -1,25 +1,28 @@
 // Whether the clauses of a `switch` name the members of its union.
 
-ghost use Rattle.std.specs.Prelude.{◌≡◌, ◌&&◌, ◌||◌, Some, map, nat_eq, nat_le};
+ghost use Rattle.std.specs.Prelude.{◌≡◌, ◌+◌, ◌&&◌, ◌||◌, IfOk, List, OnOk, Some, map, nat_eq, nat_le, ℕ};
 ghost use Rattle.cyc_tree.specs.View.{clause_tree, clauses_of, pattern_tree};
 ghost use Rattle.cyc_types.specs.Sameness.{HasTags};
 ghost use Rattle.cyc_types.specs.Tags.{members_of};
 ghost use Rattle.source_typing.specs.Scope.{Env};
-ghost use Rattle.source_typing.specs.Statements.{all_named, clauses_fit, defaults, named_times, parts_of_chosen};
-ghost use Rattle.check_statements.specs.Switching.{is_default, names_part};
+ghost use Rattle.source_typing.specs.Statements.{all_named, clauses_fit, defaults, named_times, one_if, parts_of_chosen};
+ghost use Rattle.check_statements.specs.Switching.{all_counted, is_default, names_part, times_of};
 ghost use Rattle.check_declarations.specs.Switching.{chosen_in};
 
+use crate::name_times::NameTimes;
 use check_declarations::Chosen;
 use cyc_tree::{Clause, Pattern};
 use cyc_types::{Member, Tables};
+use std::alloc::{AllocError, Global};
 
-/// Whether a clause names a member.
-fn names(clause: &Clause, member: &[u8]) -> bool
-    ensures { result ≡ names_part (pattern_tree clause.now.pattern) member.now }
+/// Counts the member that a clause names, if it names one. Fails only where no host memory is left.
+fn count_named<'c>(times: &mut NameTimes<'c>, clause: &'c Clause) -> Result<(), AllocError>
+    ensures { OnOk result ((x : List ℕ)
+        → times_of times.new x ≡ one_if (names_part (pattern_tree clause.entry.now.pattern) x) + times_of times.old x) }
 {
     match &clause.pattern {
-        Pattern::Case(field, _) => field.text.as_slice() == member,
-        Pattern::Default => false,
+        Pattern::Case(field, _) => times.add(&field.text),
+        Pattern::Default => Ok(()),
     }
 }
 
@@ -33,18 +36,16 @@ fn is_default(clause: &Clause) -> bool
     }
 }
 
-/// How often a member stands in the clauses.
+/// How often each member stands in the clauses. Fails only where no host memory is left.
 #[tactic(auto, using(crate::proofs::Clauses::times_more))]
-fn named_times(member: &[u8], clauses: &[Clause]) -> usize
-    ensures { result ≡ named_times member.now (clauses_of (map clause_tree clauses.now)) }
+fn clause_times<'c>(alloc: Global, clauses: &'c [Clause]) -> Result<NameTimes<'c>, AllocError>
+    ensures { IfOk result (λ times. (x : List ℕ) → times_of times x ≡ named_times x (clauses_of (map clause_tree clauses.entry.now))) }
 {
-    let mut times = 0;
+    let mut times = NameTimes::new(alloc);
     'each: for clause in clauses {
-        if names(clause, member) {
-            times += 1;
-        }
+        count_named(&mut times, clause)?;
     }
-    times
+    Ok(times)
 }
 
 /// How often `default` stands in the clauses.
@@ -68,39 +69,61 @@ fn is_well_named(times: usize, has_default: bool) -> bool
     times <= 1 && (has_default || times == 1)
 }
 
-/// Whether each member stands in the clauses once, or where there is a `default`, at most once.
-fn all_named(members: &[Member], clauses: &[Clause], has_default: bool) -> bool
-    ensures { result ≡ all_named (members_of members.now) (clauses_of (map clause_tree clauses.now)) has_default }
+/// Whether each member stands so often once, or where there is a `default`, at most once.
+fn all_counted(members: &[Member], times: &NameTimes<'_>, has_default: bool) -> bool
+    ensures { result ≡ all_counted (times_of times.now) (members_of members.now) has_default }
 {
     'each: for member in members {
-        let times = named_times(member.name, clauses);
-        if !is_well_named(times, has_default) {
+        if !is_well_named(times.of(member.name), has_default) {
             return false;
         }
     }
     true
 }
 
-/// Whether the clauses name the members of a union, each once, or where there is a `default`, at most once.
+/// Whether each member stands in the clauses once, or where there is a `default`, at most once. Fails only where no host memory is left.
+#[tactic(auto, using(crate::proofs::Clauses::counted_named))]
+fn all_named(
+    alloc: Global,
+    members: &[Member],
+    clauses: &[Clause],
+    has_default: bool,
+) -> Result<bool, AllocError>
+    ensures { IfOk result (λ all. all ≡ all_named (members_of members.now) (clauses_of (map clause_tree clauses.now)) has_default) }
+{
+    let times = clause_times(alloc, clauses)?;
+    Ok(all_counted(members, &times, has_default))
+}
+
+/// Whether the clauses name the members of a union, each once, or where there is a `default`, at most once. Fails only where no host memory
+/// is left.
 fn union_named(
     tables: &Tables<'_>,
+    alloc: Global,
     union: Chosen<'_>,
     clauses: &[Clause],
     has_default: bool,
-) -> bool
-    ensures { (g : Env) → HasTags tables.now g.tables
-        → result ≡ all_named (parts_of_chosen g (Some (chosen_in union.entry))) (clauses_of (map clause_tree clauses.now)) has_default }
+) -> Result<bool, AllocError>
+    ensures { (g : Env) → HasTags tables.now g.tables → IfOk result (λ all. all
+        ≡ all_named (parts_of_chosen g (Some (chosen_in union.entry))) (clauses_of (map clause_tree clauses.now)) has_default) }
 {
     match tables.tag(union.tag) {
-        Some(tag) => all_named(&tag.members, clauses, has_default),
-        None => true,
+        Some(tag) => all_named(alloc, &tag.members, clauses, has_default),
+        None => Ok(true),
     }
 }
 
-/// Whether the clauses fit a union.
-pub(crate) fn clauses_fit(tables: &Tables<'_>, union: Chosen<'_>, clauses: &[Clause]) -> bool
-    ensures { (g : Env) → HasTags tables.now g.tables → result ≡ clauses_fit g (chosen_in union.entry) (clauses_of (map clause_tree clauses.now)) }
+/// Whether the clauses fit a union. Fails only where no host memory is left.
+pub(crate) fn clauses_fit(
+    tables: &Tables<'_>,
+    alloc: Global,
+    union: Chosen<'_>,
+    clauses: &[Clause],
+) -> Result<bool, AllocError>
+    ensures { (g : Env) → HasTags tables.now g.tables
+        → IfOk result (λ fit. fit ≡ clauses_fit g (chosen_in union.entry) (clauses_of (map clause_tree clauses.now))) }
 {
     let count = defaults(clauses);
-    count <= 1 && union_named(tables, union, clauses, count == 1)
+    let all = union_named(tables, alloc, union, clauses, count == 1)?;
+    Ok(count <= 1 && all)
 }

@@ -12,7 +12,7 @@ ghost use Rattle.check_scopes.specs.Knows.{Knows};
 ghost use Rattle.check_regions.specs.declared.scope.RegionMark.{RegionMark};
 ghost use Rattle.check_declarations.specs.Contexts.{StandsIn, Suits, kept_to};
 ghost use Rattle.check_statements.specs.Plain.{is_plain};
-ghost use Rattle.check_declarations.specs.Switching.{chosen_in};
+ghost use Rattle.check_declarations.specs.Switching.{HasParts, switched_in};
 ghost use Rattle.check_statements.specs.Switching.{clause_faults};
 
 use crate::exchange::exchange_fault;
@@ -20,7 +20,7 @@ use crate::returning::{condition_fault, expression_fault, return_fault, unless};
 use crate::switch::{clause_found, switch_fault};
 use crate::ways::reached_after;
 use check_declarations::{
-    Chosen, Context, Kind, bind, declare, next_region, operand_fault, union_of,
+    Context, Kind, SwitchedUnion, bind, declare, next_region, operand_fault, union_of,
 };
 use check_expressions::judge;
 use check_faults::{Fault, sooner};
@@ -94,16 +94,10 @@ fn statement_fault<'p>(
         }
         Statement::Switch(at, place, clauses) => {
             let place = judge(scope, alloc, place)?;
-            let inside = clauses_fault(
-                scope,
-                names,
-                alloc,
-                context.switching(),
-                reached,
-                union_of(&place),
-                clauses,
-            )?;
-            Ok(switch_fault(scope.tables, *at, &place, clauses, inside))
+            let union = union_of(scope.tables, alloc, &place)?;
+            let inner = context.switching();
+            let inside = clauses_fault(scope, names, alloc, inner, reached, &union, clauses)?;
+            switch_fault(scope.tables, alloc, *at, &place, clauses, inside)
         }
         Statement::Empty(_)
         | Statement::Run(_)
@@ -190,18 +184,18 @@ fn clauses_fault<'p>(
     alloc: Global,
     context: Context<'_, 'p>,
     reached: bool,
-    chosen: Option<Chosen<'_>>,
+    union: &Option<SwitchedUnion<'_, 'p>>,
     clauses: &'p [Clause],
 ) -> Result<Option<Fault>, AllocError>
-    ensures fault { (g : Env) → Knows scope.old g → Suits context.entry names.old g → AllAround g.block g.locals
-        → IfOk result (λ f. faults_of f ≡ earliest (clauses_faults g reached (option_map chosen_in chosen.entry)
+    ensures fault { (g : Env) → Knows scope.old g → Suits context.entry names.old g → AllAround g.block g.locals → HasParts g union.now
+        → IfOk result (λ f. faults_of f ≡ earliest (clauses_faults g reached (option_map switched_in union.now)
         (clauses_of (map clause_tree clauses.entry.now)))) }
     ensures scope { OnOk result (scope.new ≡ scope.old) }
     ensures kept { OnOk result (names.new ≡ names.old) }
 {
     let mut found = None;
     'each: for clause in clauses {
-        let fault = clause_fault(scope, names, alloc, context, reached, chosen, clause)?;
+        let fault = clause_fault(scope, names, alloc, context, reached, union, clause)?;
         found = sooner(found, fault);
     }
     Ok(found)
@@ -216,11 +210,11 @@ fn clause_fault<'p>(
     alloc: Global,
     context: Context<'_, 'p>,
     reached: bool,
-    chosen: Option<Chosen<'_>>,
+    union: &Option<SwitchedUnion<'_, 'p>>,
     clause: &'p Clause,
 ) -> Result<Option<Fault>, AllocError>
-    ensures fault { (g : Env) → Knows scope.old g → Suits context.entry names.old g → AllAround g.block g.locals
-        → IfOk result (λ f. faults_of f ≡ earliest (clause_faults g reached (option_map chosen_in chosen.entry)
+    ensures fault { (g : Env) → Knows scope.old g → Suits context.entry names.old g → AllAround g.block g.locals → HasParts g union.now
+        → IfOk result (λ f. faults_of f ≡ earliest (clause_faults g reached (option_map switched_in union.now)
         (clause_tree clause.entry.now))) }
     ensures scope { OnOk result (scope.new ≡ scope.old) }
     ensures kept { OnOk result (names.new ≡ names.old) }
@@ -230,11 +224,11 @@ fn clause_fault<'p>(
     let mark = scope.regions.mark();
     let frame = next_region(scope.regions.names())?;
     scope.regions.begin_block()?;
-    bind(scope, chosen, frame, &clause.pattern)?;
+    bind(scope, union, frame, &clause.pattern)?;
     let inner = context.in_block(frame);
     let found = items_fault(scope, names, alloc, inner, outer, reached, &clause.body)?;
     scope.regions.leave(mark);
     scope.locals.leave(outer);
     names.leave(known);
-    Ok(clause_found(scope, reached, chosen, clause, found))
+    Ok(clause_found(reached, union, clause, found))
 }

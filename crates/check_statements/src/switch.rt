@@ -1,6 +1,6 @@
 // What a `switch` takes: a union's place, and clauses that fit the union.
 
-ghost use Rattle.std.specs.Prelude.{◌≡◌, ◌++◌, ◌&&◌, List, None, Some, map, not, option_map};
+ghost use Rattle.std.specs.Prelude.{◌≡◌, ◌++◌, ◌&&◌, IfOk, List, None, Some, map, not, option_map};
 ghost use Rattle.cyc_tree.specs.View.{clause_tree, clauses_of, name_tree, pattern_tree};
 ghost use Rattle.cyc_types.specs.Sameness.{HasTags};
 ghost use Rattle.source_typing.specs.Faults.{earliest, own_after, test, type_rule};
@@ -10,7 +10,7 @@ ghost use Rattle.check_faults.specs.Faults.{faults_of};
 ghost use Rattle.check_faults.specs.Verdicts.{short_of, shortened};
 ghost use Rattle.source_typing.specs.Ways.{ways_of_items};
 ghost use Rattle.check_operators.specs.Values.{value_of};
-ghost use Rattle.check_declarations.specs.Switching.{chosen_in};
+ghost use Rattle.check_declarations.specs.Switching.{HasParts, switched_in};
 ghost use Rattle.check_statements.specs.Switching.{clause_faults};
 ghost use Rattle.cyc_tree.specs.Tree as tree;
 ghost use Rattle.source_typing.specs.Faults as rules;
@@ -20,34 +20,30 @@ ghost use Rattle.source_typing.specs.Verdicts as verdict;
 use crate::named_members::clauses_fit;
 use crate::returning::unless;
 use crate::ways::items_fall;
-use check_declarations::{Chosen, member, place_union};
+use check_declarations::{SwitchedUnion, place_union};
 use check_faults::{Fault, FaultKind, Verdict, sooner};
 use check_operators::Value;
-use check_scopes::Scope;
 use cyc_tree::{Clause, Name, Pattern};
 use cyc_types::Tables;
+use std::alloc::{AllocError, Global};
 
 /// The fault of a clause's pattern: an unknown member of the union, where that is known.
-fn pattern_fault(
-    tables: &Tables<'_>,
-    chosen: Option<Chosen<'_>>,
-    pattern: &Pattern,
-) -> Option<Fault>
-    ensures { (g : Env) → HasTags tables.now g.tables
-        → faults_of result ≡ earliest (clause_names g (option_map chosen_in chosen.entry) (pattern_tree pattern.now)) }
+fn pattern_fault(union: &Option<SwitchedUnion<'_, '_>>, pattern: &Pattern) -> Option<Fault>
+    ensures { (g : Env) → HasParts g union.now
+        → faults_of result ≡ earliest (clause_names g (option_map switched_in union.now) (pattern_tree pattern.now)) }
 {
-    match (pattern, chosen) {
-        (Pattern::Case(field, _), Some(union)) => unknown_fault(tables, union, field),
+    match (pattern, union) {
+        (Pattern::Case(field, _), Some(union)) => unknown_fault(union, field),
         _ => None,
     }
 }
 
 /// The fault of an unknown member.
-fn unknown_fault(tables: &Tables<'_>, union: Chosen<'_>, field: &Name) -> Option<Fault>
-    ensures { (g : Env) → HasTags tables.now g.tables
-        → faults_of result ≡ earliest (clause_names g (Some (chosen_in union.entry)) (tree.Case (name_tree field.now) (name_tree field.now))) }
+fn unknown_fault(union: &SwitchedUnion<'_, '_>, field: &Name) -> Option<Fault>
+    ensures { (g : Env) → HasParts g (Some union.now)
+        → faults_of result ≡ earliest (clause_names g (Some (switched_in union.now)) (tree.Case (name_tree field.now) (name_tree field.now))) }
 {
-    if member(tables, union, &field.text).is_some() {
+    if union.member(&field.text).is_some() {
         None
     } else {
         Some(Fault {
@@ -78,65 +74,75 @@ fn first_or(parts: Option<Fault>, own: Option<Fault>) -> Option<Fault>
 
 /// The earliest fault of a clause, by that of its block.
 pub(crate) fn clause_found(
-    scope: &Scope<'_, '_>,
     reached: bool,
-    chosen: Option<Chosen<'_>>,
+    union: &Option<SwitchedUnion<'_, '_>>,
     clause: &Clause,
     inside: Option<Fault>,
 ) -> Option<Fault>
-    ensures { (g : Env) → HasTags scope.now.tables.now g.tables
+    ensures { (g : Env) → HasParts g union.now
         → let c = clause_tree clause.now in
-        let u = option_map chosen_in chosen.entry in
+        let u = option_map switched_in union.now in
         faults_of inside ≡ earliest (items_faults (clause_scope g u c.pattern) reached c.body) → faults_of result ≡ earliest (clause_faults g reached u c) }
 {
-    let pattern = pattern_fault(scope.tables, chosen, &clause.pattern);
+    let pattern = pattern_fault(union, &clause.pattern);
     let end = end_fault(reached, clause);
     first_or(sooner(pattern, inside), end)
 }
 
-/// The fault of a `switch` on what is in order: that is no union's place, or the clauses don't fit.
-fn value_fault(tables: &Tables<'_>, at: u32, value: &Value<'_>, clauses: &[Clause]) -> Option<Fault>
-    ensures { (g : Env) → HasTags tables.now g.tables
-        → faults_of result ≡ earliest (verdict.faults_of (switched g at (clauses_of (map clause_tree clauses.now)) (value_of value.now))) }
+/// The fault of a `switch` on what is in order: that is no union's place, or the clauses don't fit. Fails only where no host memory is left.
+fn value_fault(
+    tables: &Tables<'_>,
+    alloc: Global,
+    at: u32,
+    value: &Value<'_>,
+    clauses: &[Clause],
+) -> Result<Option<Fault>, AllocError>
+    ensures { (g : Env) → HasTags tables.now g.tables → IfOk result (λ f. faults_of f
+        ≡ earliest (verdict.faults_of (switched g at (clauses_of (map clause_tree clauses.now)) (value_of value.now)))) }
 {
     match place_union(value) {
-        Some(union) => unless(clauses_fit(tables, union, clauses), at),
-        None => unless(false, at),
+        Some(union) => {
+            let fit = clauses_fit(tables, alloc, union, clauses)?;
+            Ok(unless(fit, at))
+        }
+        None => Ok(unless(false, at)),
     }
 }
 
-/// The fault of a `switch` whose parts have none.
+/// The fault of a `switch` whose parts have none. Fails only where no host memory is left.
 fn own_fault(
     tables: &Tables<'_>,
+    alloc: Global,
     at: u32,
     place: &Verdict<Value<'_>>,
     clauses: &[Clause],
-) -> Option<Fault>
+) -> Result<Option<Fault>, AllocError>
     ensures { (g : Env) (v : verdict.Verdict judged.Value) → HasTags tables.now g.tables → short_of value_of place.now ≡ shortened v
-        → None ≡ earliest (verdict.faults_of v)
-        → faults_of result ≡ earliest (verdict.faults_of (verdict.after v (switched g at (clauses_of (map clause_tree clauses.now))))) }
+        → None ≡ earliest (verdict.faults_of v) → IfOk result (λ f. faults_of f
+        ≡ earliest (verdict.faults_of (verdict.after v (switched g at (clauses_of (map clause_tree clauses.now)))))) }
 {
     match place {
-        Verdict::Of(value) => value_fault(tables, at, value, clauses),
-        _ => None,
+        Verdict::Of(value) => value_fault(tables, alloc, at, value, clauses),
+        _ => Ok(None),
     }
 }
 
-/// The fault of a `switch`, by what was judged of its place and the earliest fault of its clauses.
+/// The fault of a `switch`, by what was judged of its place and the earliest fault of its clauses. Fails only where no host memory is left.
 pub(crate) fn switch_fault(
     tables: &Tables<'_>,
+    alloc: Global,
     at: u32,
     place: &Verdict<Value<'_>>,
     clauses: &[Clause],
     inside: Option<Fault>,
-) -> Option<Fault>
+) -> Result<Option<Fault>, AllocError>
     ensures { (g : Env) (v : verdict.Verdict judged.Value) (fs : List rules.Fault) → HasTags tables.now g.tables
-        → short_of value_of place.now ≡ shortened v → faults_of inside ≡ earliest fs
-        → faults_of result ≡ earliest (own_after (verdict.faults_of (verdict.after v (switched g at (clauses_of (map clause_tree clauses.now)))))
-        (verdict.faults_of v ++ fs)) }
+        → short_of value_of place.now ≡ shortened v → faults_of inside ≡ earliest fs → IfOk result (λ f. faults_of f
+        ≡ earliest (own_after (verdict.faults_of (verdict.after v (switched g at (clauses_of (map clause_tree clauses.now)))))
+        (verdict.faults_of v ++ fs))) }
 {
     match sooner(place.fault(), inside) {
-        Some(fault) => Some(fault),
-        None => own_fault(tables, at, place, clauses),
+        Some(fault) => Ok(Some(fault)),
+        None => own_fault(tables, alloc, at, place, clauses),
     }
 }

@@ -16,14 +16,14 @@ ghost use Rattle.check_scopes.specs.Knows.{Knows};
 ghost use Rattle.check_scopes.specs.Matching.{AreLocals};
 ghost use Rattle.check_regions.specs.declared.scope.RegionMark.{RegionMark};
 ghost use Rattle.check_declarations.specs.Contexts.{kept_to};
-ghost use Rattle.check_declarations.specs.Switching.{chosen_in};
+ghost use Rattle.check_declarations.specs.Switching.{HasParts, switched_in};
 ghost use Rattle.flow_effects.specs.Exits.{exits_of};
 ghost use Rattle.flow_check.specs.Standing.{Follows, Stands};
 ghost use Rattle.flow_check.specs.Switched.{clause_exits};
 
 use crate::declared::{begun, declared};
 use crate::expressions::{freed, given, looked, result_given};
-use check_declarations::{Chosen, Context, bind, next_region, union_of};
+use check_declarations::{Context, SwitchedUnion, bind, next_region, union_of};
 use check_expressions::judge;
 use check_regions::RegionNames;
 use check_scopes::Scope;
@@ -222,8 +222,8 @@ fn switch_exits<'p>(
     ensures kept { OnOk result (names.new ≡ names.old) }
 {
     let judged = judge(scope, alloc, place)?;
-    let chosen = union_of(&judged);
-    let ways = switched(scope, names, alloc, context.switching(), chosen, clauses)?;
+    let union = union_of(scope.tables, alloc, &judged)?;
+    let ways = switched(scope, names, alloc, context.switching(), &union, clauses)?;
     switch_after(scope, alloc, place, ways)
 }
 
@@ -293,17 +293,17 @@ fn switched<'p>(
     names: &mut RegionNames<'p>,
     alloc: Global,
     context: Context<'_, 'p>,
-    chosen: Option<Chosen<'_>>,
+    union: &Option<SwitchedUnion<'_, 'p>>,
     clauses: &'p [Clause],
 ) -> Result<Exits, AllocError>
-    ensures exits { (g : Env) → Follows context.entry names.old scope.old g → IfOk result (λ w. exits_of w
-        ≡ rules.exits_of_clauses g (option_map chosen_in chosen.entry) (clauses_of (map clause_tree clauses.entry.now))) }
+    ensures exits { (g : Env) → Follows context.entry names.old scope.old g → HasParts g union.now → IfOk result (λ w. exits_of w
+        ≡ rules.exits_of_clauses g (option_map switched_in union.now) (clauses_of (map clause_tree clauses.entry.now))) }
     ensures scope { OnOk result (scope.new ≡ scope.old) }
     ensures kept { OnOk result (names.new ≡ names.old) }
 {
     let mut ways = Vec::new(alloc);
     'each: for clause in clauses {
-        let way = clause_exits(scope, names, alloc, context, chosen, clause)?;
+        let way = clause_exits(scope, names, alloc, context, union, clause)?;
         ways.push(Step::Way(way))?;
     }
     all_before(alloc, ways, Exits::nowhere())
@@ -317,11 +317,11 @@ fn clause_exits<'p>(
     names: &mut RegionNames<'p>,
     alloc: Global,
     context: Context<'_, 'p>,
-    chosen: Option<Chosen<'_>>,
+    union: &Option<SwitchedUnion<'_, 'p>>,
     clause: &'p Clause,
 ) -> Result<Exits, AllocError>
-    ensures exits { (g : Env) → Follows context.entry names.old scope.old g → IfOk result (λ w. exits_of w
-        ≡ clause_exits g (option_map chosen_in chosen.entry) (clause_tree clause.entry.now)) }
+    ensures exits { (g : Env) → Follows context.entry names.old scope.old g → HasParts g union.now → IfOk result (λ w. exits_of w
+        ≡ clause_exits g (option_map switched_in union.now) (clause_tree clause.entry.now)) }
     ensures scope { OnOk result (scope.new ≡ scope.old) }
     ensures kept { OnOk result (names.new ≡ names.old) }
 {
@@ -330,7 +330,7 @@ fn clause_exits<'p>(
     let mark = scope.regions.mark();
     let frame = next_region(scope.regions.names())?;
     scope.regions.begin_block()?;
-    bind(scope, chosen, frame, &clause.pattern)?;
+    bind(scope, union, frame, &clause.pattern)?;
     let begun = match &clause.pattern {
         Pattern::Case(_, name) => begun(scope, outer, &name.text),
         Pattern::Default => None,

@@ -1,4 +1,4 @@
-use Rattle.std.proofs.Common.{◌≡◌, IfOk, OnOk, ap, subst, sym}
+use Rattle.std.proofs.Common.{IfOk, OnOk, ap, subst, sym}
 use Rattle.cyc_tree.specs.Tree as tree
 use Rattle.cyc_tree.specs.View.{declaration_tree, name_tree}
 use Rattle.check_declarations.specs.Contexts.{StandsIn}

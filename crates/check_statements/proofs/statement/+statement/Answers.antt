@@ -26,7 +26,7 @@ use Rattle.check_regions.specs.declared.scope.RegionMark.{RegionMark}
 use Rattle.check_declarations.specs.Contexts.{StandsIn, Suits, kept_to}
 use Rattle.check_statements.specs.Leaving.{item_falls}
 use Rattle.check_statements.specs.Plain.{is_plain}
-use Rattle.check_declarations.specs.Switching.{chosen_in}
+use Rattle.check_declarations.specs.Switching.{switched_in}
 use Rattle.check_statements.specs.Switching.{clause_faults}
 use Rattle.check_declarations.proofs.Blocks.{
   all_kept,
@@ -103,10 +103,10 @@ clause_fault-returns-clause-scope t c =
     ∙ binds (length s.locals) (mark_of s.regions) (grind arith))
 
 pub clause_fault-returns-clause-fault : goal.clause_fault-returns-clause-fault
-clause_fault-returns-clause-fault t c = λ g h suits around.
+clause_fault-returns-clause-fault t c = λ g h suits around has.
     let s = c.args.scope.now in
     let ns = c.args.names.now in
-    let u = option_map chosen_in c.args.chosen in
+    let u = option_map switched_in c.args.union.now in
     let clause = c.args.clause.now in
     let p = pattern_tree clause.pattern in
     let reached = c.args.reached in
@@ -116,7 +116,7 @@ clause_fault-returns-clause-fault t c = λ g h suits around.
     let frame = c.in_ok-frame.ensures ∙ ap Level c.names.ensures in
     let begins = block_stands c.args.context ns s g c.begin_block.new.self c.in_ok-frame.frame outer h suits around c.in_ok-begin_block.ensures.begun frame
     (grind arith) in
-    let binds = c.in_ok-bind.ensures.stands context ns g begins (frame ∙ ap Level h.regions.count) in
+    let binds = c.in_ok-bind.ensures.stands context ns g begins (frame ∙ ap Level h.regions.count) has in
     let stands = subst (λ x. StandsIn x ns c.len-outer.result bound (clause_scope g u p)) (sym c.in_block-inner.ensures)
     (subst (λ n. StandsIn context ns n bound (clause_scope g u p)) (sym c.len-outer.ensures) binds) in
     let inside =
@@ -124,12 +124,7 @@ clause_fault-returns-clause-fault t c = λ g h suits around.
     ∙ ap (λ (is : List BlockItem). earliest (items_faults (clause_scope g u p) reached (items_of (map item_tree is))))
     c.deref.ensures.value
     ∙ ap (λ (o : OneClause). earliest (items_faults (clause_scope g u o.pattern) reached o.body)) (sym (clause_parts clause)) in
-    let result = c.clause_found.result in
-    subst (λ (z : Scope). HasTags z.tables.now g.tables
-    → faults_of c.in_ok-found.found ≡ earliest (items_faults (clause_scope g u (clause_tree clause).pattern) reached
-    (clause_tree clause).body)
-    → faults_of result ≡ earliest (clause_faults g reached u (clause_tree clause)))
-    (clause_fault-returns-clause-scope t c) (c.clause_found.ensures g) h.tags inside
+    c.clause_found.ensures g has inside
 
 pub clause_fault-returns-clause-kept : goal.clause_fault-returns-clause-kept
 clause_fault-returns-clause-kept t c =
@@ -139,13 +134,13 @@ clause_fault-returns-clause-kept t c =
 pub clauses_fault-each-preserved : goal.clauses_fault-each-preserved
 clauses_fault-each-preserved t c =
     let clause = c.clause-item.result in
-    let u = option_map chosen_in c.args.chosen in
+    let u = option_map switched_in c.args.union.now in
     let same = c.in_ok-fault.ensures.scope ∙ c.each.invariant.scope in
     let names = c.in_ok-fault.ensures.kept ∙ c.each.invariant.names in
     record {
       scope = same;
       names = names;
-      each = λ g h suits around.
+      each = λ g h suits around has.
           let known = subst (λ s. Knows s g) (sym c.each.invariant.scope) h in
           let fitting = subst (λ ns. Suits c.args.context ns g) (sym c.each.invariant.names) suits in
           subst (λ o. found.first_of (faults_of o) (earliest (clauses_faults g c.args.reached u (clause_trees (drop (c.each.clause-index + 1)
@@ -153,8 +148,8 @@ clauses_fault-each-preserved t c =
           ≡ earliest (clauses_faults g c.args.reached u (clause_trees c.args.clauses.now))) (sym c.sooner-found.ensures)
           (clause_goes_on g c.args.reached u c.each.found c.in_ok-fault.fault c.args.clauses.now c.each.clause-index clause
           (earliest (clauses_faults g c.args.reached u (clause_trees c.args.clauses.now))) c.each-test.true c.clause-item.is
-          (c.each.invariant.each g h suits around)
-          (c.in_ok-fault.ensures.fault g known fitting around));
+          (c.each.invariant.each g h suits around has)
+          (c.in_ok-fault.ensures.fault g known fitting around has));
     }
 
 -- ---- items
@@ -286,19 +281,21 @@ statement_fault-returns-in_ok-inside-in-Switch-clause-fault t c = λ g h suits a
     let v = judge g (expression_tree x.place) in
     let cs = clauses_of (map clause_tree x.clauses.items) in
     let place = c.in_ok-place-in-Switch.ensures g h in
-    let union = c.union_of.ensures v place in
+    let union = c.in_ok-union-in-Switch.ensures.union v place in
     let inside =
     c.in_ok-inside-in-Switch.ensures.fault (in_a_switch g) (switch_known s g h)
-    (switch_suits c.args.context c.switching.result c.args.names.now g suits c.switching.ensures) around
-    ∙ ap (λ (l : List Clause). earliest (clauses_faults (in_a_switch g) reached (option_map chosen_in c.union_of.result)
+    (switch_suits c.args.context c.switching-inner.result c.args.names.now g suits c.switching-inner.ensures) around
+    (c.in_ok-union-in-Switch.ensures.parts (in_a_switch g) h.tags)
+    ∙ ap (λ (l : List Clause). earliest (clauses_faults (in_a_switch g) reached (option_map switched_in c.in_ok-union-in-Switch.union)
     (clauses_of (map clause_tree l)))) c.deref-in-Switch.ensures.value
     ∙ ap (λ u. earliest (clauses_faults (in_a_switch g) reached u cs)) union in
     let parts = clauses_faults (in_a_switch g) reached (chosen v) cs in
-    c.switch_fault.ensures g v parts
-    (subst (λ (z : Scope). HasTags z.tables.now g.tables) (sym c.in_ok-inside-in-Switch.ensures.scope) h.tags) place inside
-    ∙ ap (λ (l : List Clause). earliest (own_after (verdict.faults_of (verdict.after v (switched g x.at (clauses_of (map clause_tree l)))))
-    (verdict.faults_of v ++ parts))) c.deref-in-Switch-2.ensures.value
-    ∙ ap (λ s. earliest (statement_faults g reached s)) (sym (ap statement_tree x.is ∙ switch_tree x.at x.place x.clauses))
+    subst (λ fs. IfOk c.switch_fault.result (λ f. faults_of f ≡ earliest fs))
+    (ap (λ (l : List Clause). own_after (verdict.faults_of (verdict.after v (switched g x.at (clauses_of (map clause_tree l))))) (verdict.faults_of v ++ parts))
+    c.deref-in-Switch-2.ensures.value
+    ∙ ap (λ s. statement_faults g reached s) (sym (ap statement_tree x.is ∙ switch_tree x.at x.place x.clauses)))
+    (c.switch_fault.ensures g v parts
+    (subst (λ (z : Scope). HasTags z.tables.now g.tables) (sym c.in_ok-inside-in-Switch.ensures.scope) h.tags) place inside)
 
 pub statement_fault-returns-in-Empty-clause-fault : goal.statement_fault-returns-in-Empty-clause-fault
 statement_fault-returns-in-Empty-clause-fault t c = λ g h suits around.

@@ -9,7 +9,7 @@ use Rattle.check_scopes.specs.Knows.{Knows}
 use Rattle.check_regions.specs.declared.scope.RegionMark.{RegionMark}
 use Rattle.check_faults.specs.Faults.{faults_of, first_of}
 use Rattle.check_declarations.specs.Contexts.{StandsIn, Suits, kept_to}
-use Rattle.check_declarations.specs.Switching.{chosen_in}
+use Rattle.check_declarations.specs.Switching.{HasParts, switched_in}
 use Rattle.check_statements.proofs.Blocks.{Going}
 use Rattle.check_statements.proofs.Clauses.{clause_trees}
 use Rattle.check_statements.proofs.statement.+statement.Given as goal
@@ -30,9 +30,9 @@ abbrev pub invariant-clauses_fault-each : goal.invariant-clauses_fault-each
 invariant-clauses_fault-each l = record {
   scope : l.scope ≡ l.fn.scope;
   names : l.names ≡ l.fn.names;
-  each : (g : Env) → Knows l.fn.scope g → Suits l.fn.context l.fn.names g → AllAround g.block g.locals
+  each : (g : Env) → Knows l.fn.scope g → Suits l.fn.context l.fn.names g → AllAround g.block g.locals → HasParts g l.fn.union
       → first_of (faults_of l.found)
-      (earliest (clauses_faults g l.fn.reached (option_map chosen_in l.fn.chosen) (clause_trees
+      (earliest (clauses_faults g l.fn.reached (option_map switched_in l.fn.union) (clause_trees
       (drop l.clause-index l.fn.clauses))))
-      ≡ earliest (clauses_faults g l.fn.reached (option_map chosen_in l.fn.chosen) (clause_trees l.fn.clauses));
+      ≡ earliest (clauses_faults g l.fn.reached (option_map switched_in l.fn.union) (clause_trees l.fn.clauses));
 }

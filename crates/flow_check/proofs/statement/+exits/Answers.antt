@@ -25,7 +25,7 @@ use Rattle.check_regions.specs.Marks.{mark_of}
 use Rattle.check_regions.specs.Scopes.{Scoped, first_of}
 use Rattle.check_regions.specs.declared.scope.RegionMark.{RegionMark}
 use Rattle.check_declarations.specs.Contexts.{StandsIn, kept_to}
-use Rattle.check_declarations.specs.Switching.{chosen_in}
+use Rattle.check_declarations.specs.Switching.{switched_in}
 use Rattle.check_declarations.proofs.Blocks.{
   all_kept,
   begun_longer,
@@ -112,10 +112,10 @@ clause_exits-returns-clause-kept t c =
     c.leave-3.ensures ∙ ap (λ n. kept_to n c.items_exits.new.names) c.len-known.ensures ∙ c.in_ok-found.ensures.kept (length ns) (grind arith) ∙ all_kept ns
 
 pub clause_exits-returns-clause-exits : goal.clause_exits-returns-clause-exits
-clause_exits-returns-clause-exits t c = λ g h.
+clause_exits-returns-clause-exits t c = λ g h has.
     let s = c.args.scope.now in
     let ns = c.args.names.now in
-    let u = option_map chosen_in c.args.chosen in
+    let u = option_map switched_in c.args.union.now in
     let clause = c.args.clause.now in
     let p = pattern_tree clause.pattern in
     let context = record c.args.context { frame = c.in_ok-frame.frame } in
@@ -125,8 +125,8 @@ clause_exits-returns-clause-exits t c = λ g h.
     let begins = block_stands c.args.context ns s g c.begin_block.new.self c.in_ok-frame.frame outer h.known h.suits h.around c.in_ok-begin_block.ensures.begun
     frame (grind arith) in
     let up = frame ∙ ap Level h.known.regions.count in
-    let binds = c.in_ok-bind.ensures.stands context ns g begins up in
-    let locals = c.in_ok-bind.ensures.locals context ns g begins up h.locals in
+    let binds = c.in_ok-bind.ensures.stands context ns g begins up has in
+    let locals = c.in_ok-bind.ensures.locals context ns g begins up has h.locals in
     let stands = subst (λ x. StandsIn x ns c.len-outer.result bound (clause_scope g u p)) (sym c.in_block-inner.ensures)
     (subst (λ n. StandsIn context ns n bound (clause_scope g u p)) (sym c.len-outer.ensures) binds) in
     let inside =
@@ -162,19 +162,19 @@ pub switched-each-preserved : goal.switched-each-preserved
 switched-each-preserved t c =
     let all = c.args.scope.now in
     let clause = c.clause-item.result in
-    let u = option_map chosen_in c.args.chosen in
+    let u = option_map switched_in c.args.union.now in
     let same = c.in_ok-way.ensures.scope ∙ c.each.invariant.scope in
     let names = c.in_ok-way.ensures.kept ∙ c.each.invariant.names in
     record {
       scope = same;
       names = names;
-      each = λ g h.
+      each = λ g h has.
           let follows = still_follows c.args.context c.args.names.now c.each.names all c.each.scope g c.each.invariant.scope c.each.invariant.names h in
           ap (λ ss. all_before ss (exits_of_clauses g u (clauses_of (map clause_tree (drop (c.each.clause-index + 1) c.args.clauses.now)))))
           c.in_ok-push.ensures.items
           ∙ way_goes_on g u c.each.ways.items c.in_ok-way.way c.args.clauses.now c.each.clause-index clause
-          (exits_of_clauses g u (clauses_of (map clause_tree c.args.clauses.now))) c.each-test.true c.clause-item.is (c.each.invariant.each g h)
-          (c.in_ok-way.ensures.exits g follows);
+          (exits_of_clauses g u (clauses_of (map clause_tree c.args.clauses.now))) c.each-test.true c.clause-item.is (c.each.invariant.each g h has)
+          (c.in_ok-way.ensures.exits g follows has);
     }
 
 -- ---- items
@@ -373,8 +373,9 @@ switch_exits-returns-clause-exits t c = λ g h.
     let cs = clauses_of (map clause_tree c.args.clauses.now) in
     let ways = c.in_ok-ways.ensures in
     let after = still_follows c.args.context c.args.names.now c.switched.new.names all c.switched.new.scope g ways.scope ways.kept h in
-    let union = c.union_of-chosen.ensures (judge g e) (c.in_ok-judged.ensures g h.known) in
+    let union = c.in_ok-union.ensures.union (judge g e) (c.in_ok-judged.ensures g h.known) in
     let clauses = ways.exits (in_a_switch g) (switch_follows c.args.context c.switching.result c.args.names.now all g h c.switching.ensures)
+    (c.in_ok-union.ensures.parts (in_a_switch g) h.known.tags)
     ∙ ap (λ u. exits_of_clauses (in_a_switch g) u cs) union in
     answers_as c.switch_after.result _ (with_passage (uses_of g e).look (switch_left (exits_of_clauses (in_a_switch g) (chosen (judge g e)) cs)))
     (ap (λ w. with_passage (uses_of g e).look (switch_left w)) clauses) (c.switch_after.ensures g after.known after.locals)

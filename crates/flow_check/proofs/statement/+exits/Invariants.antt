@@ -6,7 +6,7 @@ use Rattle.source_typing.specs.Scope.{Env}
 use Rattle.check_scopes.specs.Changes.{left}
 use Rattle.check_regions.specs.declared.scope.RegionMark.{RegionMark}
 use Rattle.check_declarations.specs.Contexts.{kept_to}
-use Rattle.check_declarations.specs.Switching.{chosen_in}
+use Rattle.check_declarations.specs.Switching.{HasParts, switched_in}
 use Rattle.flow_effects.specs.Steps.{all_before}
 use Rattle.flow_check.proofs.Blocks.{Going}
 use Rattle.flow_check.specs.Standing.{Follows, Stands}
@@ -28,8 +28,8 @@ abbrev pub invariant-switched-each : goal.invariant-switched-each
 invariant-switched-each l = record {
   scope : l.scope ≡ l.fn.scope;
   names : l.names ≡ l.fn.names;
-  each : (g : Env) → Follows l.fn.context l.fn.names l.fn.scope g
+  each : (g : Env) → Follows l.fn.context l.fn.names l.fn.scope g → HasParts g l.fn.union
       → all_before l.ways.items
-      (exits_of_clauses g (option_map chosen_in l.fn.chosen) (clauses_of (map clause_tree (drop l.clause-index l.fn.clauses))))
-      ≡ exits_of_clauses g (option_map chosen_in l.fn.chosen) (clauses_of (map clause_tree l.fn.clauses));
+      (exits_of_clauses g (option_map switched_in l.fn.union) (clauses_of (map clause_tree (drop l.clause-index l.fn.clauses))))
+      ≡ exits_of_clauses g (option_map switched_in l.fn.union) (clauses_of (map clause_tree l.fn.clauses));
 }

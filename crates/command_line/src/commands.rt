@@ -39,7 +39,7 @@ const IMAGE: Choice = Choice {
 /// The image file that is written.
 const OUTPUT: Choice = Choice {
     name: "output",
-    help: "The image file, written only where the source is accepted",
+    help: "The image file, written only where the source is accepted; of other files an empty one alone is written over",
     takes: Takes::Path("OUT"),
 };
 

@@ -5,7 +5,9 @@
 #![tactic(auto)]
 
 use command_line::status::{FILE_FAULT, MEMORY, SUCCESS, usage_status};
-use command_line::{Command, command_of, is_same_file, shown, shown_error, words_of};
+use command_line::{
+    Command, command_of, is_replaceable, is_same_file, shown, shown_error, words_of,
+};
 use cyc_words::Counted;
 use cycc_answer::{longest_file, printed};
 pub use cycc_answer::{Answer, answer};
@@ -49,9 +51,9 @@ fn file_fault(rt: &HostRuntime, what: &str, path: &str, error: &io::Error) -> u8
     }
 }
 
-/// Writes OUT, and answers the status. Where OUT is the source's file, nothing is written.
+/// Writes OUT, and answers the status. Where OUT is the source's file, or another one that is no image, nothing is written.
 fn written(rt: &HostRuntime, input: &str, output: &str, image: &[u8]) -> u8 {
-    if is_same_file(rt, input, output) {
+    if is_same_file(rt, input, output) || !is_replaceable(rt, output, image) {
         return refused(rt, "write", output);
     }
     match fs::write(rt, output, image) {

@@ -83,7 +83,8 @@ impl Env for Given<'_> {
 fn has_input(alloc: Global, line: &str, input: &str, mark: &str) -> Result<bool, Fail> {
     let words = words_of(&(Given { line }, alloc))?;
     let command = command_of(alloc, words.as_slice())?;
-    Ok(command.input().strip_suffix(mark) == Some(input) && shown(command.input()) == input)
+    let path = command.input().ok_or("no input")?;
+    Ok(path.strip_suffix(mark) == Some(input) && shown(path) == input)
 }
 
 /// Whether the words of a row, which are no text, are a command whose input is marked.
@@ -130,6 +131,9 @@ command cycc eval i -> Eval { input: "i", fuel: 4294967295, shows_ending: false 
 command cycc eval i --steps 7 --ending -> Eval { input: "i", fuel: 7, shows_ending: true }
 command cycc exec i --steps 2 -> Exec { input: "i", steps: 2, shows_ending: false }
 command cycc dump i -> Dump { input: "i" }
+command cycc explain 1 -> Explain { text: "The exit status 1:\nThe run ended with another status.\n" }
+command cycc explain status 1 -> Explain { text: "The exit status 1:\nThe run ended with another status.\n" }
+command cycc explain break -> Explain { text: "Break, a fault of the machine:\nEBREAK.\n\nCode that comes to it:\n    00100073\n" }
 help cycc --help -> 9  the arguments are wrong
 help cycc check --help -> Outlives
 help cycc compile --help -> TooLarge
@@ -137,6 +141,7 @@ help cycc run --help -> TooDeep
 help cycc eval --help -> Consumed
 help cycc exec --help -> Trailing
 help cycc dump --help -> Magic
+help cycc explain --help -> <NAME>...
 marked cycc check f?.cyc -> f�.cyc
 no_text cycc run a --pages=1?
 no_text cycc run a --stack-pages=1?

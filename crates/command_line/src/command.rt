@@ -83,18 +83,23 @@ pub enum Command<'a> {
     Dump {
         input: &'a str,
     },
+    /// Prints what a fault, an ending or a status means.
+    Explain {
+        text: &'static str,
+    },
 }
 
 impl<'a> Command<'a> {
-    /// The path of the file that the command reads.
-    pub fn input(&self) -> &'a str {
+    /// The path of the file that the command reads; none where it reads no file.
+    pub fn input(&self) -> Option<&'a str> {
         match self {
             Command::Check { input }
             | Command::Compile { input, .. }
             | Command::Run { input, .. }
             | Command::Eval { input, .. }
             | Command::Exec { input, .. }
-            | Command::Dump { input } => input,
+            | Command::Dump { input } => Some(input),
+            Command::Explain { .. } => None,
         }
     }
 }

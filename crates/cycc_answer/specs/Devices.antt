@@ -12,6 +12,7 @@ runs (command.Run input pages stack_pages steps shows_ending) = true
 runs (command.Eval input fuel shows_ending) = true
 runs (command.Exec input steps shows_ending) = true
 runs (command.Dump input) = false
+runs (command.Explain text) = false
 
 -- How many calls of a reader and of a writer have failed, before and after: where the status is 6 just one call of one of them did, and at every other
 -- status none.

@@ -5,6 +5,7 @@
 #![tactic(auto)]
 
 mod answering;
+mod explaining;
 mod images;
 mod lines;
 mod result;

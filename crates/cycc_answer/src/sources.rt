@@ -17,7 +17,7 @@ use std::io::Write;
 /// Says whether a source is accepted, and answers the status.
 pub fn checked<W: Output, E: Write>(
     alloc: Global,
-    input: &str,
+    told: Told<'_>,
     file: &[u8],
     writer: &mut W,
     faults: &mut E,
@@ -31,14 +31,14 @@ pub fn checked<W: Output, E: Write>(
             let succeeded = writer.write_all(b"accepted\n").is_ok();
             Ok(printed(succeeded, faults))
         }
-        Err(fault) => refused(alloc, input, fault, faults),
+        Err(fault) => refused(alloc, told.input, fault, faults),
     }
 }
 
 /// Compiles a source, and answers with its image.
 pub fn compiled<E: Write>(
     alloc: Global,
-    input: &str,
+    told: Told<'_>,
     pages: Pages,
     stack_pages: Pages,
     file: &[u8],
@@ -51,7 +51,7 @@ pub fn compiled<E: Write>(
             status: SUCCESS,
             image: Some(image),
         }),
-        Err(fault) => Ok(Answer::plain(refused(alloc, input, fault, faults)?)),
+        Err(fault) => Ok(Answer::plain(refused(alloc, told.input, fault, faults)?)),
     }
 }
 

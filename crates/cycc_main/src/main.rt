@@ -1,4 +1,4 @@
-//! `cycc`: checks, compiles and runs a source file, and runs and prints an image.
+//! `cycc`: checks, compiles and runs a source file, runs and prints an image, and says what a fault means.
 //!
 //! `main` reads the words, the file and the standard streams, and writes OUT. All else is in `answer` of `cycc_answer`:
 //! what is printed, and the exit status. The words are read by `command_line`.
@@ -110,7 +110,9 @@ fn run(rt: &HostRuntime) -> Result<u8, AllocError> {
             return Ok(explained(rt, text.as_str(), status));
         }
     };
-    let path = command.input();
+    let Some(path) = command.input() else {
+        return Ok(answered(rt, &command, &[]));
+    };
     match bytes_of(rt, path, longest_file(&command)) {
         Ok(file) => Ok(answered(rt, &command, &file)),
         Err(error) => Ok(file_fault(rt, "read", path, &error)),

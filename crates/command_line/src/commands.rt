@@ -81,6 +81,13 @@ const ENDING: Choice = Choice {
     takes: Takes::Nothing,
 };
 
+/// Whether a refusal is told in more than its line.
+const WHY: Choice = Choice {
+    name: "why",
+    help: "Shows the source's line of a fault, with a mark below the column, and what the fault means",
+    takes: Takes::Nothing,
+};
+
 /// The name that is explained.
 const NAME: Choice = Choice {
     name: "name",
@@ -102,25 +109,25 @@ pub const COMMANDS: [Words; 7] = [
         name: "check",
         about: "Says whether a source is accepted",
         below: SOURCE_FAULTS,
-        choices: &[SOURCE],
+        choices: &[SOURCE, WHY],
     },
     Words {
         name: "compile",
         about: "Writes the image of a source",
         below: SOURCE_FAULTS,
-        choices: &[SOURCE, OUTPUT, PAGES, STACK_PAGES],
+        choices: &[SOURCE, OUTPUT, PAGES, STACK_PAGES, WHY],
     },
     Words {
         name: "run",
         about: "Compiles a source and runs it",
         below: SOURCE_FAULTS,
-        choices: &[SOURCE, PAGES, STACK_PAGES, STEPS, ENDING],
+        choices: &[SOURCE, PAGES, STACK_PAGES, STEPS, ENDING, WHY],
     },
     Words {
         name: "eval",
         about: "Runs a source by its meaning",
         below: SOURCE_FAULTS,
-        choices: &[SOURCE, FUEL, ENDING],
+        choices: &[SOURCE, FUEL, ENDING, WHY],
     },
     Words {
         name: "exec",

@@ -80,6 +80,7 @@ fn compile<'a>(input: &'a str, matches: &ArgMatches<'a>) -> Option<Command<'a>> 
         output,
         pages: pages_of(matches, "pages")?,
         stack_pages: pages_of(matches, "stack-pages")?,
+        shows_why: matches.get_flag("why"),
     })
 }
 
@@ -87,6 +88,7 @@ fn compile<'a>(input: &'a str, matches: &ArgMatches<'a>) -> Option<Command<'a>> 
 fn bounded<'a>(name: &str, input: &'a str, matches: &ArgMatches<'a>) -> Option<Command<'a>> {
     let steps = matches.get_one("steps")?;
     let shows_ending = matches.get_flag("ending");
+    let shows_why = matches.get_flag("why");
     match name {
         "run" => Some(Command::Run {
             input,
@@ -94,11 +96,13 @@ fn bounded<'a>(name: &str, input: &'a str, matches: &ArgMatches<'a>) -> Option<C
             stack_pages: pages_of(matches, "stack-pages")?,
             steps,
             shows_ending,
+            shows_why,
         }),
         "eval" => Some(Command::Eval {
             input,
             fuel: steps,
             shows_ending,
+            shows_why,
         }),
         "exec" => Some(Command::Exec {
             input,
@@ -113,7 +117,10 @@ fn bounded<'a>(name: &str, input: &'a str, matches: &ArgMatches<'a>) -> Option<C
 fn read<'a>(name: &str, matches: &ArgMatches<'a>) -> Option<Command<'a>> {
     let input = matches.get_str("file")?;
     match name {
-        "check" => Some(Command::Check { input }),
+        "check" => Some(Command::Check {
+            input,
+            shows_why: matches.get_flag("why"),
+        }),
         "dump" => Some(Command::Dump { input }),
         "compile" => compile(input, matches),
         _ => bounded(name, input, matches),

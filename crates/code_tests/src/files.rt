@@ -1,7 +1,7 @@
-// Which paths lead to one file.
+// Which paths lead to one file, and what an image may be written over.
 
 use crate::texts::{parted, refuse};
-use command_line::is_same_file;
+use command_line::{is_replaceable, is_same_file};
 use std::test::Fail;
 
 /// Whether the paths of a row lead to one file, or not, as it says.
@@ -26,6 +26,33 @@ const PATHS: &str = "\
 fn links_lead_to_one_file(rt: HostRuntime) -> Result<(), Fail> {
     for row in PATHS.lines() {
         if !is_so(&rt, row) {
+            return refuse(Some(row));
+        }
+    }
+    Ok(())
+}
+
+/// Whether an image that begins so may be written over a path's file, or not, as a row says.
+fn is_so_of_output(rt: &HostRuntime, row: &str) -> bool {
+    let (path, rest) = parted(row);
+    let (image, answer) = parted(rest);
+    is_replaceable(rt, path, image.as_bytes()) == (answer == "written")
+}
+
+// A path, how an image begins, and whether it may be written over the path's file: the program that runs, which begins as the first image does and
+// as the others don't; a device, an empty file, and a path with nothing there.
+const OUTPUTS: &str = "\
+/proc/self/exe \x7fELF. written
+/proc/self/exe CYI1. kept
+/proc/self/exe \x7fEL kept
+/dev/null CYI1. written
+/proc/self/status CYI1. written
+/proc/self/nothing CYI1. written";
+
+#[test]
+fn other_files_are_kept(rt: HostRuntime) -> Result<(), Fail> {
+    for row in OUTPUTS.lines() {
+        if !is_so_of_output(&rt, row) {
             return refuse(Some(row));
         }
     }

@@ -83,7 +83,8 @@ impl Env for Given<'_> {
 fn has_input(alloc: Global, line: &str, input: &str, mark: &str) -> Result<bool, Fail> {
     let words = words_of(&(Given { line }, alloc))?;
     let command = command_of(alloc, words.as_slice())?;
-    Ok(command.input().strip_suffix(mark) == Some(input) && shown(command.input()) == input)
+    let path = command.input().ok_or("no input")?;
+    Ok(path.strip_suffix(mark) == Some(input) && shown(path) == input)
 }
 
 /// Whether the words of a row, which are no text, are a command whose input is marked.
@@ -119,17 +120,24 @@ fn is_so(alloc: Global, row: &str) -> Result<bool, Fail> {
 }
 
 // Words, and the command that they are; what the help of words has to say; a path that is no text, which is shown and marked; and words that are no text.
-const WORDS: &str = r#"command cycc check a.cyc -> Check { input: "a.cyc" }
-command cycc compile a b --pages 7 -> Compile { input: "a", output: "b", pages: Pages { number: 7 }, stack_pages: Pages { number: 256 } }
-command cycc compile a b -> Compile { input: "a", output: "b", pages: Pages { number: 1024 }, stack_pages: Pages { number: 256 } }
-command cycc compile a b --stack-pages=4096 -> Compile { input: "a", output: "b", pages: Pages { number: 1024 }, stack_pages: Pages { number: 4096 } }
-command cycc run a -> Run { input: "a", pages: Pages { number: 1024 }, stack_pages: Pages { number: 256 }, steps: 4294967295, shows_ending: false }
-command cycc run --ending --pages=4096 a --steps 18446744073709551615 -> Run { input: "a", pages: Pages { number: 4096 }, stack_pages: Pages { number: 256 }, steps: 18446744073709551615, shows_ending: true }
-command cycc run a --pages 2 --stack-pages 1 -> Run { input: "a", pages: Pages { number: 2 }, stack_pages: Pages { number: 1 }, steps: 4294967295, shows_ending: false }
-command cycc eval i -> Eval { input: "i", fuel: 4294967295, shows_ending: false }
-command cycc eval i --steps 7 --ending -> Eval { input: "i", fuel: 7, shows_ending: true }
+const WORDS: &str = r#"command cycc check a.cyc -> Check { input: "a.cyc", shows_why: false }
+command cycc compile a b --pages 7 -> Compile { input: "a", output: "b", pages: Pages { number: 7 }, stack_pages: Pages { number: 256 }, shows_why: false }
+command cycc compile a b -> Compile { input: "a", output: "b", pages: Pages { number: 1024 }, stack_pages: Pages { number: 256 }, shows_why: false }
+command cycc compile a b --stack-pages=4096 -> Compile { input: "a", output: "b", pages: Pages { number: 1024 }, stack_pages: Pages { number: 4096 }, shows_why: false }
+command cycc run a -> Run { input: "a", pages: Pages { number: 1024 }, stack_pages: Pages { number: 256 }, steps: 4294967295, shows_ending: false, shows_why: false }
+command cycc run --ending --pages=4096 a --steps 18446744073709551615 -> Run { input: "a", pages: Pages { number: 4096 }, stack_pages: Pages { number: 256 }, steps: 18446744073709551615, shows_ending: true, shows_why: false }
+command cycc run a --pages 2 --stack-pages 1 -> Run { input: "a", pages: Pages { number: 2 }, stack_pages: Pages { number: 1 }, steps: 4294967295, shows_ending: false, shows_why: false }
+command cycc eval i -> Eval { input: "i", fuel: 4294967295, shows_ending: false, shows_why: false }
+command cycc eval i --steps 7 --ending -> Eval { input: "i", fuel: 7, shows_ending: true, shows_why: false }
 command cycc exec i --steps 2 -> Exec { input: "i", steps: 2, shows_ending: false }
 command cycc dump i -> Dump { input: "i" }
+command cycc check a --why -> Check { input: "a", shows_why: true }
+command cycc compile --why a b -> Compile { input: "a", output: "b", pages: Pages { number: 1024 }, stack_pages: Pages { number: 256 }, shows_why: true }
+command cycc run a --why -> Run { input: "a", pages: Pages { number: 1024 }, stack_pages: Pages { number: 256 }, steps: 4294967295, shows_ending: false, shows_why: true }
+command cycc eval i --why -> Eval { input: "i", fuel: 4294967295, shows_ending: false, shows_why: true }
+command cycc explain 1 -> Explain { text: "The exit status 1:\nThe run ended with another status.\n" }
+command cycc explain status 1 -> Explain { text: "The exit status 1:\nThe run ended with another status.\n" }
+command cycc explain break -> Explain { text: "Break, a fault of the machine:\nEBREAK.\n\nCode that comes to it:\n    00100073\n" }
 help cycc --help -> 9  the arguments are wrong
 help cycc check --help -> Outlives
 help cycc compile --help -> TooLarge
@@ -137,6 +145,7 @@ help cycc run --help -> TooDeep
 help cycc eval --help -> Consumed
 help cycc exec --help -> Trailing
 help cycc dump --help -> Magic
+help cycc explain --help -> <NAME>...
 marked cycc check f?.cyc -> f�.cyc
 no_text cycc run a --pages=1?
 no_text cycc run a --stack-pages=1?

@@ -51,6 +51,7 @@ pub enum Command<'a> {
     /// Says whether a source is accepted.
     Check {
         input: &'a str,
+        shows_why: bool,
     },
     /// Writes a source's image.
     Compile {
@@ -58,6 +59,7 @@ pub enum Command<'a> {
         output: &'a str,
         pages: Pages,
         stack_pages: Pages,
+        shows_why: bool,
     },
     /// Compiles a source and runs it, for at most so many instructions.
     Run {
@@ -66,12 +68,14 @@ pub enum Command<'a> {
         stack_pages: Pages,
         steps: u64,
         shows_ending: bool,
+        shows_why: bool,
     },
     /// Runs a source by its meaning, with so many units of fuel.
     Eval {
         input: &'a str,
         fuel: u64,
         shows_ending: bool,
+        shows_why: bool,
     },
     /// Runs an image, for at most so many instructions.
     Exec {
@@ -83,18 +87,23 @@ pub enum Command<'a> {
     Dump {
         input: &'a str,
     },
+    /// Prints what a fault, an ending or a status means.
+    Explain {
+        text: &'static str,
+    },
 }
 
 impl<'a> Command<'a> {
-    /// The path of the file that the command reads.
-    pub fn input(&self) -> &'a str {
+    /// The path of the file that the command reads; none where it reads no file.
+    pub fn input(&self) -> Option<&'a str> {
         match self {
-            Command::Check { input }
+            Command::Check { input, .. }
             | Command::Compile { input, .. }
             | Command::Run { input, .. }
             | Command::Eval { input, .. }
             | Command::Exec { input, .. }
-            | Command::Dump { input } => input,
+            | Command::Dump { input } => Some(input),
+            Command::Explain { .. } => None,
         }
     }
 }

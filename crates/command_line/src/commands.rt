@@ -2,12 +2,15 @@
 
 use crate::texts::{IMAGE_FAULTS, SOURCE_FAULTS};
 use clap::builder::ValueParser;
+use explanations::NAMES;
 
 /// What a word or an option of a command takes.
 #[derive(Clone, Copy)]
 pub enum Takes {
     /// A path, which has to be given; help calls it so.
     Path(&'static str),
+    /// Words, of which one at least has to be given; help calls them so.
+    Several(&'static str),
     /// A number of such a form, and the one where none is given.
     Number(ValueParser<'static>, &'static str),
     /// Nothing.
@@ -39,7 +42,7 @@ const IMAGE: Choice = Choice {
 /// The image file that is written.
 const OUTPUT: Choice = Choice {
     name: "output",
-    help: "The image file, written only where the source is accepted",
+    help: "The image file, written only if the source is accepted; of existing files only an empty one or an image is replaced",
     takes: Takes::Path("OUT"),
 };
 
@@ -78,50 +81,70 @@ const ENDING: Choice = Choice {
     takes: Takes::Nothing,
 };
 
+/// Whether a refusal is told in more than its line.
+const WHY: Choice = Choice {
+    name: "why",
+    help: "Shows the source's line of a fault, with a mark below the column, and what the fault means",
+    takes: Takes::Nothing,
+};
+
+/// The name that is explained.
+const NAME: Choice = Choice {
+    name: "name",
+    help: "The name of a fault or an ending, or a status, as Lent, step limit or 3",
+    takes: Takes::Several("NAME"),
+};
+
 /// A command: its name, what help says of it and below it, and its words.
 #[derive(Clone, Copy)]
 pub struct Words {
     pub name: &'static str,
     pub about: &'static str,
-    pub faults: &'static str,
+    pub below: &'static str,
     pub choices: &'static [Choice],
 }
 
-pub const COMMANDS: [Words; 6] = [
+pub const COMMANDS: [Words; 7] = [
     Words {
         name: "check",
         about: "Says whether a source is accepted",
-        faults: SOURCE_FAULTS,
-        choices: &[SOURCE],
+        below: SOURCE_FAULTS,
+        choices: &[SOURCE, WHY],
     },
     Words {
         name: "compile",
         about: "Writes the image of a source",
-        faults: SOURCE_FAULTS,
-        choices: &[SOURCE, OUTPUT, PAGES, STACK_PAGES],
+        below: SOURCE_FAULTS,
+        choices: &[SOURCE, OUTPUT, PAGES, STACK_PAGES, WHY],
     },
     Words {
         name: "run",
         about: "Compiles a source and runs it",
-        faults: SOURCE_FAULTS,
-        choices: &[SOURCE, PAGES, STACK_PAGES, STEPS, ENDING],
+        below: SOURCE_FAULTS,
+        choices: &[SOURCE, PAGES, STACK_PAGES, STEPS, ENDING, WHY],
     },
     Words {
         name: "eval",
         about: "Runs a source by its meaning",
-        faults: SOURCE_FAULTS,
-        choices: &[SOURCE, FUEL, ENDING],
+        below: SOURCE_FAULTS,
+        choices: &[SOURCE, FUEL, ENDING, WHY],
     },
     Words {
         name: "exec",
         about: "Runs an image",
-        faults: IMAGE_FAULTS,
+        below: IMAGE_FAULTS,
         choices: &[IMAGE, STEPS, ENDING],
     },
     Words {
         name: "dump",
         about: "Prints an image's header and its instructions",
-        faults: IMAGE_FAULTS,
+        below: IMAGE_FAULTS,
         choices: &[IMAGE],
+    },
+    Words {
+        name: "explain",
+        about: "Says what a fault, an ending or a status means",
+        below: NAMES,
+        choices: &[NAME],
     },
 ];

@@ -6,6 +6,7 @@ use crate::texts::STATUSES_AND_RUNS;
 use clap::builder::ValueParser;
 use clap::error::ErrorKind;
 use clap::{Arg, ArgAction, ArgMatches, Command as Parser, Error};
+use explanations::{NAMES, explain};
 use std::alloc::{AllocError, Global};
 use std::convert::AsStr;
 
@@ -23,6 +24,7 @@ fn arg_of<'a>(alloc: Global, choice: &Choice) -> Arg<'a> {
     let arg = Arg::new(alloc, choice.name).help(choice.help);
     match choice.takes {
         Takes::Path(name) => arg.required(true).value_name(name),
+        Takes::Several(name) => arg.required(true).value_name(name).num_args(1..),
         Takes::Number(form, default) => number(arg, choice.name, form, default),
         Takes::Nothing => arg.long(choice.name).action(ArgAction::SetTrue),
     }
@@ -35,7 +37,7 @@ fn described<'a>(alloc: Global, name: &'a str, about: &'a str, below: &'a str) -
 
 /// The parser of a command's words.
 fn parser_of<'a>(alloc: Global, words: &Words) -> Result<Parser<'a>, AllocError> {
-    let mut parser = described(alloc, words.name, words.about, words.faults);
+    let mut parser = described(alloc, words.name, words.about, words.below);
     for choice in words.choices {
         parser = parser.arg(arg_of(alloc, choice))?;
     }
@@ -78,6 +80,7 @@ fn compile<'a>(input: &'a str, matches: &ArgMatches<'a>) -> Option<Command<'a>> 
         output,
         pages: pages_of(matches, "pages")?,
         stack_pages: pages_of(matches, "stack-pages")?,
+        shows_why: matches.get_flag("why"),
     })
 }
 
@@ -85,6 +88,7 @@ fn compile<'a>(input: &'a str, matches: &ArgMatches<'a>) -> Option<Command<'a>> 
 fn bounded<'a>(name: &str, input: &'a str, matches: &ArgMatches<'a>) -> Option<Command<'a>> {
     let steps = matches.get_one("steps")?;
     let shows_ending = matches.get_flag("ending");
+    let shows_why = matches.get_flag("why");
     match name {
         "run" => Some(Command::Run {
             input,
@@ -92,11 +96,13 @@ fn bounded<'a>(name: &str, input: &'a str, matches: &ArgMatches<'a>) -> Option<C
             stack_pages: pages_of(matches, "stack-pages")?,
             steps,
             shows_ending,
+            shows_why,
         }),
         "eval" => Some(Command::Eval {
             input,
             fuel: steps,
             shows_ending,
+            shows_why,
         }),
         "exec" => Some(Command::Exec {
             input,
@@ -111,7 +117,10 @@ fn bounded<'a>(name: &str, input: &'a str, matches: &ArgMatches<'a>) -> Option<C
 fn read<'a>(name: &str, matches: &ArgMatches<'a>) -> Option<Command<'a>> {
     let input = matches.get_str("file")?;
     match name {
-        "check" => Some(Command::Check { input }),
+        "check" => Some(Command::Check {
+            input,
+            shows_why: matches.get_flag("why"),
+        }),
         "dump" => Some(Command::Dump { input }),
         "compile" => compile(input, matches),
         _ => bounded(name, input, matches),
@@ -124,9 +133,50 @@ fn found<'a>(matches: &ArgMatches<'a>) -> Option<Command<'a>> {
     read(name, words)
 }
 
+/// The words behind `explain`, with a space between them; none of another command.
+fn asked_name(alloc: Global, matches: &ArgMatches<'_>) -> Result<Option<String>, AllocError> {
+    let Some((_, words)) = matches.subcommand() else {
+        return Ok(None);
+    };
+    let Some(words) = words.get_strs("name") else {
+        return Ok(None);
+    };
+    let mut name = String::new(alloc);
+    for word in words {
+        if !name.is_empty() {
+            name.push(' ')?;
+        }
+        name.push_str(word)?;
+    }
+    Ok(Some(name))
+}
+
+/// The command that explains a name, before which `status` or `raised` may stand. An Err has the list of all names.
+fn explaining<'a>(
+    alloc: Global,
+    parser: &mut Parser<'a>,
+    name: &str,
+) -> Result<Command<'a>, Error> {
+    let number = name.strip_prefix("status ").unwrap_or(name);
+    if let Some(explanation) = explain(number.strip_prefix("raised ").unwrap_or(number)) {
+        return Ok(Command::Explain {
+            text: explanation.text,
+        });
+    }
+    let message = format!(in alloc; "nothing is known of '{name}'\n\n{NAMES}")?;
+    Err(parser.error(ErrorKind::InvalidValue, message.as_str())?)
+}
+
 /// The command of the words, by this parser.
-fn parsed<'a, S: AsStr>(parser: &mut Parser<'a>, words: &'a [S]) -> Result<Command<'a>, Error> {
+fn parsed<'a, S: AsStr>(
+    alloc: Global,
+    parser: &mut Parser<'a>,
+    words: &'a [S],
+) -> Result<Command<'a>, Error> {
     let matches = parser.try_get_matches_from_mut(words)?;
+    if let Some(name) = asked_name(alloc, &matches)? {
+        return explaining(alloc, parser, name.as_str());
+    }
     match found(&matches) {
         Some(command) => Ok(command),
         None => Err(parser.error(ErrorKind::MissingSubcommand, "no such command")?),
@@ -137,5 +187,5 @@ fn parsed<'a, S: AsStr>(parser: &mut Parser<'a>, words: &'a [S]) -> Result<Comma
 /// was asked for, else what is wrong with the words, or that no memory is left.
 pub fn command_of<'a, S: AsStr>(alloc: Global, words: &'a [S]) -> Result<Command<'a>, Error> {
     let mut parser = parser(alloc)?;
-    parsed(&mut parser, words)
+    parsed(alloc, &mut parser, words)
 }

@@ -114,3 +114,9 @@ pub record IsPrinted (bytes : List ℕ) (status : ℕ) : Type 0 where
 -- what `dump` says
 abbrev pub IsDumped : List ℕ → ℕ → Type 0
 IsDumped bytes status = IsPrinted bytes status ⊎ IsUnloaded bytes status
+
+-- ---- explanations
+
+-- what `explain` says: the text was printed, or the writer failed
+abbrev pub IsExplained : (text : List ℕ) (writer_old writer_new : Option (List ℕ)) → ℕ → Type 0
+IsExplained text writer_old writer_new status = ((status ≡ 0) × Appends writer_old writer_new text) ⊎ (status ≡ 6)

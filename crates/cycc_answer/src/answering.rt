@@ -7,6 +7,7 @@ ghost use Rattle.cyc_image.specs.Format.{header_length, code_limit, data_limit};
 ghost use Rattle.cycc_answer.specs.Commands.{IsAnswered, longest};
 ghost use Rattle.cycc_answer.specs.Devices.{AreCounted, runs};
 
+use crate::explaining::explained;
 use crate::images::{dump, exec};
 use crate::lines::Told;
 use crate::result::Answer;
@@ -23,7 +24,8 @@ const SOURCE_BYTES: u64 = 1048577;
 /// The most bytes of an image that are read: one more than an image may have.
 const IMAGE_BYTES: u64 = 2097181;
 
-/// The most bytes of a command's file that are read: one more than a text, or an image, may have.
+/// The most bytes of a command's file that are read: one more than a text, or an image, may have. Where it reads no file, none
+/// counts as an empty one.
 pub fn longest_file(command: &Command<'_>) -> u64
     ensures { result ≡ longest command.now + 1 }
 {
@@ -33,6 +35,7 @@ pub fn longest_file(command: &Command<'_>) -> u64
         | Command::Run { .. }
         | Command::Eval { .. } => SOURCE_BYTES,
         Command::Exec { .. } | Command::Dump { .. } => IMAGE_BYTES,
+        Command::Explain { .. } => 1,
     }
 }
 
@@ -56,24 +59,20 @@ pub fn answer<R: Input, W: Output, E: Write>(
     ensures devices { runs command.now ≡ true → IfOk result (λ a. AreCounted a.status
         (R.fault_count reader.old) (R.fault_count reader.new) (W.fault_count writer.old) (W.fault_count writer.new)) }
 {
+    let told = Told::of(command);
     match *command {
-        Command::Check { input } => {
-            Ok(Answer::plain(checked(alloc, input, file, writer, faults)?))
-        }
+        Command::Check { .. } => Ok(Answer::plain(checked(alloc, told, file, writer, faults)?)),
         Command::Compile {
-            input,
             pages,
             stack_pages,
             ..
-        } => compiled(alloc, input, pages, stack_pages, file, faults),
+        } => compiled(alloc, told, pages, stack_pages, file, faults),
         Command::Run {
-            input,
             pages,
             stack_pages,
             steps,
-            shows_ending,
+            ..
         } => {
-            let told = Told::new(input, shows_ending);
             let limits = Limits {
                 pages: pages.number(),
                 steps,
@@ -81,22 +80,13 @@ pub fn answer<R: Input, W: Output, E: Write>(
             };
             Ok(Answer::plain(ran(alloc, told, limits, file, reader, writer, faults)?))
         }
-        Command::Eval {
-            input,
-            fuel,
-            shows_ending,
-        } => {
-            let told = Told::new(input, shows_ending);
+        Command::Eval { fuel, .. } => {
             Ok(Answer::plain(interpreted(alloc, told, fuel, file, reader, writer, faults)?))
         }
-        Command::Exec {
-            input,
-            steps,
-            shows_ending,
-        } => {
-            let told = Told::new(input, shows_ending);
+        Command::Exec { steps, .. } => {
             Ok(Answer::plain(exec(alloc, told, steps, file, reader, writer, faults)?))
         }
         Command::Dump { input } => Ok(Answer::plain(dump(alloc, input, file, writer, faults)?)),
+        Command::Explain { text } => Ok(Answer::plain(explained(text, writer, faults))),
     }
 }

@@ -1,14 +1,16 @@
 //! What `cycc` answers to a command.
 //!
 //! `answer` does all that a command asks for but to read the words and the file and to write OUT: what is written, what is
-//! said on standard error, the exit status, and the bytes for OUT. Stands on `command_line` and `cycc_driver`.
+//! said on standard error, the exit status, and the bytes for OUT. Stands on `command_line`, `cycc_driver` and `explanations`.
 #![tactic(auto)]
 
 mod answering;
+mod explaining;
 mod images;
 mod lines;
 mod result;
 mod sources;
+mod why;
 
 pub use answering::{answer, longest_file};
 pub use lines::{ended, printed, refused};

@@ -3,6 +3,7 @@
 ghost use Rattle.std.specs.Prelude.{◌≡◌, IfOk, if◌then◌else◌};
 ghost use Rattle.cycc_answer.specs.Statuses.{status_of, evaluated_status, refused_status, unloaded_status};
 
+use command_line::Command;
 use command_line::status::{
     ENDED, EXHAUSTED, FILE_FAULT, MACHINE_FAULT, MEMORY, RAISED, REFUSED, STEP_LIMIT, SUCCESS,
 };
@@ -13,19 +14,39 @@ use cycc_driver::CompileFault;
 use std::alloc::{AllocError, Global};
 use std::io::Write;
 
-/// What lines tell of a run: the path of its file, and whether its ending is told.
+/// What lines tell of a command: the path of its file, whether a run's ending is told, and whether a refusal is told in more
+/// than its line.
 #[derive(Clone, Copy)]
 pub struct Told<'a> {
     pub input: &'a str,
     pub shows_ending: bool,
+    pub shows_why: bool,
 }
 
 impl<'a> Told<'a> {
-    /// These two.
-    pub fn new(input: &'a str, shows_ending: bool) -> Told<'a> {
+    /// What is told of a command; of one that reads no file nothing.
+    pub fn of(command: &Command<'a>) -> Told<'a> {
+        let (shows_ending, shows_why) = match *command {
+            Command::Check { shows_why, .. } | Command::Compile { shows_why, .. } => {
+                (false, shows_why)
+            }
+            Command::Run {
+                shows_ending,
+                shows_why,
+                ..
+            }
+            | Command::Eval {
+                shows_ending,
+                shows_why,
+                ..
+            } => (shows_ending, shows_why),
+            Command::Exec { shows_ending, .. } => (shows_ending, false),
+            Command::Dump { .. } | Command::Explain { .. } => (false, false),
+        };
         Told {
-            input,
+            input: command.input().unwrap_or(""),
             shows_ending,
+            shows_why,
         }
     }
 }

@@ -5,8 +5,9 @@ ghost use Rattle.std.specs.Option.{option_map};
 ghost use Rattle.cycc_answer.specs.Answers.{IsChecked, IsCompiled, IsRun, IsEval};
 ghost use Rattle.cycc_answer.specs.Devices.{AreCounted};
 
-use crate::lines::{Told, ended, evaluated, printed, refused};
+use crate::lines::{Told, ended, evaluated, printed};
 use crate::result::Answer;
+use crate::why::refused_in;
 use command_line::Pages;
 use command_line::status::SUCCESS;
 use cyc_words::{Input, Output};
@@ -17,7 +18,7 @@ use std::io::Write;
 /// Says whether a source is accepted, and answers the status.
 pub fn checked<W: Output, E: Write>(
     alloc: Global,
-    input: &str,
+    told: Told<'_>,
     file: &[u8],
     writer: &mut W,
     faults: &mut E,
@@ -31,14 +32,14 @@ pub fn checked<W: Output, E: Write>(
             let succeeded = writer.write_all(b"accepted\n").is_ok();
             Ok(printed(succeeded, faults))
         }
-        Err(fault) => refused(alloc, input, fault, faults),
+        Err(fault) => refused_in(alloc, told, file, fault, faults),
     }
 }
 
 /// Compiles a source, and answers with its image.
 pub fn compiled<E: Write>(
     alloc: Global,
-    input: &str,
+    told: Told<'_>,
     pages: Pages,
     stack_pages: Pages,
     file: &[u8],
@@ -51,7 +52,7 @@ pub fn compiled<E: Write>(
             status: SUCCESS,
             image: Some(image),
         }),
-        Err(fault) => Ok(Answer::plain(refused(alloc, input, fault, faults)?)),
+        Err(fault) => Ok(Answer::plain(refused_in(alloc, told, file, fault, faults)?)),
     }
 }
 
@@ -79,7 +80,7 @@ pub fn ran<R: Input, W: Output, E: Write>(
 {
     match execute(alloc, file, reader, writer, limits) {
         Ok(ending) => ended(alloc, ending, None, told.shows_ending, faults),
-        Err(fault) => refused(alloc, told.input, fault, faults),
+        Err(fault) => refused_in(alloc, told, file, fault, faults),
     }
 }
 
@@ -103,6 +104,6 @@ pub fn interpreted<R: Input, W: Output, E: Write>(
 {
     match evaluate(alloc, file, reader, writer, fuel) {
         Ok(ending) => evaluated(alloc, ending, told.shows_ending, faults),
-        Err(fault) => refused(alloc, told.input, fault, faults),
+        Err(fault) => refused_in(alloc, told, file, fault, faults),
     }
 }

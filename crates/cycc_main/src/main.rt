@@ -1,11 +1,13 @@
-//! `cycc`: checks, compiles and runs a source file, and runs and prints an image.
+//! `cycc`: checks, compiles and runs a source file, runs and prints an image, and says what a fault means.
 //!
 //! `main` reads the words, the file and the standard streams, and writes OUT. All else is in `answer` of `cycc_answer`:
 //! what is printed, and the exit status. The words are read by `command_line`.
 #![tactic(auto)]
 
 use command_line::status::{FILE_FAULT, MEMORY, SUCCESS, usage_status};
-use command_line::{Command, command_of, is_same_file, shown, shown_error, words_of};
+use command_line::{
+    Command, command_of, is_replaceable, is_same_file, shown, shown_error, words_of,
+};
 use cyc_words::Counted;
 use cycc_answer::{longest_file, printed};
 pub use cycc_answer::{Answer, answer};
@@ -49,9 +51,9 @@ fn file_fault(rt: &HostRuntime, what: &str, path: &str, error: &io::Error) -> u8
     }
 }
 
-/// Writes OUT, and answers the status. Where OUT is the source's file, nothing is written.
+/// Writes OUT, and answers the status. Where OUT is the source's file, or another one that is no image, nothing is written.
 fn written(rt: &HostRuntime, input: &str, output: &str, image: &[u8]) -> u8 {
-    if is_same_file(rt, input, output) {
+    if is_same_file(rt, input, output) || !is_replaceable(rt, output, image) {
         return refused(rt, "write", output);
     }
     match fs::write(rt, output, image) {
@@ -108,7 +110,9 @@ fn run(rt: &HostRuntime) -> Result<u8, AllocError> {
             return Ok(explained(rt, text.as_str(), status));
         }
     };
-    let path = command.input();
+    let Some(path) = command.input() else {
+        return Ok(answered(rt, &command, &[]));
+    };
     match bytes_of(rt, path, longest_file(&command)) {
         Ok(file) => Ok(answered(rt, &command, &file)),
         Err(error) => Ok(file_fault(rt, "read", path, &error)),

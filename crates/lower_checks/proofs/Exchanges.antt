@@ -9,7 +9,7 @@ use Rattle.source_meaning.specs.Steps.{World}
 use Rattle.source_lowering.specs.Layouts.{cell_pieces, has_fat, union_pieces}
 use Rattle.source_lowering.specs.Lowerable.{IsExchanged}
 use Rattle.source_lowering.specs.Members.{part_at}
-use Rattle.source_lowering.specs.Programs.{exchange_code, union_exchange, value_exchange, words_read, words_written}
+use Rattle.source_lowering.specs.Programs.{Side, exchange_code, union_exchange, value_exchange, words_read, words_written}
 use Rattle.lower_checks.specs.Unions.{Union, cell_by, cell_words, first_union, union_by, union_with}
 use Rattle.lower_checks.specs.Writing.{IsEmitted, IsEmitting}
 use Rattle.lower_checks.specs.declared.body.Body.{Body}
@@ -81,10 +81,12 @@ words_found (l ∷ ls) tag u is = by (bytes_eq l.tag tag) refl is (λ e. words_f
         let parts : parts_of (l ∷ ls) tag ≡ parts_of ls tag = ap (λ b. if b then l.parts else parts_of ls tag) own in
         more is ∙ ap (λ ps. length (union_pieces (has_fat ps))) (sym parts)
 
-pub union_exchanged : (w : World) (s : Shape) (u : Union) (d : ℕ) → union_by w.unions s ≡ Some u → union_exchange (cell_words u.cell) d ≡ exchange_code w s d
-union_exchanged w (UnionShape tag) u d is = ap (λ (n : ℕ). union_exchange n d) (words_found w.unions tag u is)
-union_exchanged w s u d is = absurd cc is
+pub union_exchanged : (w : World) (x y : Side) (s : Shape) (u : Union) (d : ℕ) → union_by w.unions s ≡ Some u
+    → union_exchange (cell_words u.cell) d ≡ exchange_code w x y s d
+union_exchanged w x y (UnionShape tag) u d is = ap (λ (n : ℕ). union_exchange n d) (words_found w.unions tag u is)
+union_exchanged w x y s u d is = absurd cc is
 
-pub value_exchanged : (w : World) (s : Shape) (d : ℕ) → union_by w.unions s ≡ None → IsExchanged w.unions s → value_exchange s d ≡ exchange_code w s d
-value_exchanged w (UnionShape tag) d none has = absurd (false≢true (ap is_some (sym none) ∙ has_union w.unions tag ∙ has))
-value_exchanged w s d none has = refl
+pub value_exchanged : (w : World) (x y : Side) (s : Shape) (d : ℕ) → union_by w.unions s ≡ None → IsExchanged w.unions s
+    → value_exchange x y s d ≡ exchange_code w x y s d
+value_exchanged w x y (UnionShape tag) d none has = absurd (false≢true (ap is_some (sym none) ∙ has_union w.unions tag ∙ has))
+value_exchanged w x y s d none has = refl

@@ -27,6 +27,7 @@ use Rattle.source_meaning.specs.Steps.{Entity, Variable}
 use Rattle.source_meaning.specs.Memory.{Scalar}
 use Rattle.source_meaning.specs.Places.{span_at}
 use Rattle.source_meaning.specs.Programs.{heap_spot}
+use Rattle.cyc_core.specs.Trees.{bytes_of}
 use Rattle.source_lowering.specs.Lowered as lowered
 use Rattle.source_lowering.specs.Programs as programs
 use Rattle.lower_checks.specs.declared.shape.Shape as code_shape
@@ -45,6 +46,8 @@ use Rattle.lower_checks.specs.declared.stored.Stored as code_stored
 use Rattle.lower_checks.specs.declared.stored.Stored.TheVariants as stored
 use Rattle.lower_checks.specs.declared.leaving.RegionsAround as code_regions
 use Rattle.lower_checks.specs.declared.names.Named as code_named
+use Rattle.lower_checks.specs.declared.side.Side as code_side
+use Rattle.lower_checks.specs.declared.side.Side.TheVariants as side
 use Rattle.lower_checks.specs.declared.table.Found as code_found
 use Rattle.lower_checks.specs.declared.table.Text as code_text
 use Rattle.lower_checks.specs.Given.{pointed_given}
@@ -104,6 +107,11 @@ stored_tree (stored.Array count of) = ArrayShape count (written_shape of)
 
 abbrev pub named_tree : code_named.Named → lowered.Named
 named_tree n = record { name = n.name.now; shape = stored_tree n.stored; home = lowered.InBlock n.out n.index }
+
+-- how code reaches a side of an exchange
+abbrev pub side_tree : code_side.Side → programs.Side
+side_tree (side.ByName local width) = programs.ByName local.out local.index (bytes_of width)
+side_tree side.ByPlace = programs.ByPlace
 
 -- a global by what it is and its number
 abbrev pub found_entity : code_found.Found → Entity

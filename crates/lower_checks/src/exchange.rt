@@ -5,40 +5,44 @@ ghost use Rattle.cyc_tree.specs.View.{expression_tree};
 ghost use Rattle.source_meaning.specs.Programs.{world_of};
 ghost use Rattle.source_lowering.specs.Lowered.{expression_values, place_code, static_shape};
 ghost use Rattle.source_lowering.specs.Lowerable.{IsExchanged, TakesPlace};
-ghost use Rattle.source_lowering.specs.Programs.{exchange_code, union_exchange, value_exchange, words_read, words_written};
+ghost use Rattle.source_lowering.specs.Programs.{exchange_code, side_code, side_of, union_exchange, value_exchange, words_read, words_written};
 ghost use Rattle.cyc_tree.specs.Room.{room};
 ghost use Rattle.lower_checks.specs.Room.{HasRoom};
 ghost use Rattle.lower_checks.specs.Scoped.{names_in, world_in};
 ghost use Rattle.lower_checks.specs.Unions.{cell_words};
-ghost use Rattle.lower_checks.specs.Views.{shape_tree};
+ghost use Rattle.lower_checks.specs.Views.{shape_tree, side_tree};
 ghost use Rattle.lower_checks.specs.Writing.{Emits, IsSound, Writes, next_of};
 
 use crate::body::Body;
-use crate::member::Reached;
 use crate::names::behind;
-use crate::place::lower_place;
 use crate::scope::Scope;
 use crate::shape::Shape;
+use crate::shaped::shape_of;
+use crate::side::{Side, lower_side, lower_side_read, lower_side_written};
 use crate::table::Table;
-use crate::words::{held_part, lower_loads, lower_stores};
+use crate::words::held_part;
 use cyc_core::{Cell, Operation, Temporary};
 use cyc_tree::Expression;
 
-/// Appends what exchanges two words or two fat pointers to which a temporary and the next one lead, by way of those behind.
-fn lower_value_exchange(shape: &Shape<'_>, body: &mut Body<'_>, left: Temporary)
-    requires room { HasRoom left.0 7 }
-    ensures { Emits body.old body.new (value_exchange (shape_tree shape.now) left.0) }
+/// Appends what exchanges two words or two fat pointers, by way of the temporaries behind this one and the next, in which the pointers to
+/// the sides are that have one.
+fn lower_value_exchange(
+    left: Side,
+    right: Side,
+    shape: &Shape<'_>,
+    body: &mut Body<'_>,
+    to: Temporary,
+)
+    requires room { HasRoom to.0 7 }
+    ensures { Emits body.old body.new (value_exchange (side_tree left) (side_tree right) (shape_tree shape.now) to.0) }
 {
-    let right = behind(left, 1);
-    let first = behind(left, 2);
+    let next = behind(to, 1);
+    let first = behind(to, 2);
     let second = behind(first, shape.words());
-    let reached = Reached::at_once(*shape);
-    body.operation(Operation::Move(first, left));
-    lower_loads(body, &reached, first);
-    body.operation(Operation::Move(second, right));
-    lower_loads(body, &reached, second);
-    lower_stores(body, &reached, left, second);
-    lower_stores(body, &reached, right, first);
+    lower_side_read(left, shape, body, to, first);
+    lower_side_read(right, shape, body, next, second);
+    lower_side_written(left, shape, body, to, second);
+    lower_side_written(right, shape, body, next, first);
 }
 
 /// Appends what reads so many words of the union to which a pointer leads into a temporary and those behind it.
@@ -91,20 +95,28 @@ fn union_words(cell: Cell) -> u32
     }
 }
 
-/// Appends what exchanges what two places of a shape hold, to which a temporary and the next one lead.
-fn lower_held_exchange(program: &Table<'_>, shape: &Shape<'_>, body: &mut Body<'_>, left: Temporary)
-    requires room { HasRoom left.0 9 }
+/// Appends what exchanges what two sides of a shape hold, by way of the temporaries behind this one and the next, in which the pointers to
+/// the sides are that have one.
+fn lower_held_exchange(
+    program: &Table<'_>,
+    left: Side,
+    right: Side,
+    shape: &Shape<'_>,
+    body: &mut Body<'_>,
+    to: Temporary,
+)
+    requires room { HasRoom to.0 9 }
     requires taken { IsSound body.old → IsExchanged (world_of program.now).unions (shape_tree shape.now) }
-    ensures { Emits body.old body.new (exchange_code (world_of program.now) (shape_tree shape.now) left.0) }
+    ensures { Emits body.old body.new (exchange_code (world_of program.now) (side_tree left) (side_tree right) (shape_tree shape.now) to.0) }
 {
     match program.union_at(*shape) {
-        Some(known) => lower_union_exchange(union_words(known.cell), body, left),
-        None => lower_value_exchange(shape, body, left),
+        Some(known) => lower_union_exchange(union_words(known.cell), body, to),
+        None => lower_value_exchange(left, right, shape, body, to),
     }
 }
 
-/// Appends what exchanges what two places hold, pointers to which come into a temporary and the next one; appends the shapes of the
-/// unnamed values.
+/// Appends what exchanges what two places hold: a local of one word is read and written by its name, and to other places pointers come into
+/// a temporary and the next one; appends the shapes of the unnamed values.
 pub fn lower_exchange<'p>(
     scope: &Scope<'_, 'p>,
     left: &'p Expression,
@@ -121,14 +133,17 @@ pub fn lower_exchange<'p>(
         let names = names_in scope.now in
         let a = expression_tree left.entry.now in
         let b = expression_tree right.entry.now in
+        let x = side_of names a in
+        let y = side_of names b in
         let number = next_of body.old in
         Writes body.old body.new
-        (place_code w names a to.0 number ++
-        (place_code w names b (to.0 + 1) (number + length (expression_values w names a)) ++ exchange_code w (static_shape w names a) to.0))
+        (side_code x (place_code w names a to.0 number) ++
+        (side_code y (place_code w names b (to.0 + 1) (number + length (expression_values w names a))) ++ exchange_code w x y (static_shape w names a) to.0))
         (expression_values w names a ++ expression_values w names b) }
 {
-    let shape = lower_place(scope, left, body, to);
+    let shape = body.known(shape_of(scope, left));
+    let one = lower_side(scope, left, body, to);
     let next = behind(to, 1);
-    lower_place(scope, right, body, next);
-    lower_held_exchange(scope.program, &shape, body, to);
+    let other = lower_side(scope, right, body, next);
+    lower_held_exchange(scope.program, one, other, &shape, body, to);
 }

@@ -40,6 +40,7 @@ mod program;
 mod scope;
 mod shape;
 mod shaped;
+mod side;
 mod signs;
 mod simple;
 mod sizes;

@@ -22,7 +22,7 @@ use crate::words::{lower_loads, lower_stores};
 use cyc_core::{Operation, Temporary, Variable, Width};
 
 /// The place of a local among those of the blocks.
-fn place_of(local: &Named<'_>) -> Variable
+pub fn place_of(local: &Named<'_>) -> Variable
     ensures out { result.out ≡ local.now.out }
     ensures index { result.index ≡ local.now.index }
 {

@@ -5,6 +5,7 @@ pub mod StaticShapes
 pub mod Pointers
 pub mod Texts
 pub mod Parts
+pub mod Exchanges
 pub mod MadeNames
 pub mod Expressions
 pub mod WholeNames

@@ -1,6 +1,6 @@
 -- The code of values of one word and of three, of fat pointers, and of members of structs and unions and of elements names temporaries alone; an element has no
 -- more bytes than a word says.
-use Rattle.std.proofs.Common.{Bool, true, false, ℕ, zero, suc, ◌+◌, List, [], ◌∷◌, ◌++◌, length}
+use Rattle.std.proofs.Common.{Bool, true, false, ℕ, zero, suc, ◌+◌, List, [], ◌∷◌, ◌++◌}
 use Rattle.std.specs.Prelude.{nat_eq, if◌then◌else◌}
 use Rattle.cyc_words.specs.declared.faults.Kind.TheVariants.{NullException, ArrayBounds}
 use Rattle.source_meaning.specs.Shapes.{
@@ -39,10 +39,8 @@ use Rattle.source_lowering.specs.Lowered.{
   pointer_to,
   store_to,
 }
-use Rattle.source_lowering.specs.Members.{all_of, bound_code, bounds_code, raised, reached_code, element_code, subscript_code, words_in}
+use Rattle.source_lowering.specs.Members.{all_of, bound_code, bounds_code, raised, reached_code, element_code, subscript_code}
 use Rattle.source_lowering.specs.Operators.{enough_code, one_code, several_code}
-use Rattle.source_lowering.specs.Layouts.{cell_pieces}
-use Rattle.source_lowering.specs.Programs.{value_exchange, words_read, words_written, exchange_code}
 use Rattle.source_lowering.specs.Lowerable.{IsTarget, IsObject}
 use Rattle.source_lowering.proofs.values.Integers.{object_target}
 use Rattle.source_lowering.proofs.expressions.Names.{IsPlainWorld}
@@ -89,36 +87,6 @@ module _ (blocks : List ℕ) (own n : ℕ) where
   offset_names d zero zero = tt
   offset_names d zero (suc bytes) = (tt, tt)
   offset_names d (suc cells) bytes = (tt, tt)
-
-  -- ---- exchanges
-
-  read_names : (count word t p : ℕ) → CodeNames blocks own n (words_read count word t p)
-  read_names zero word t p = tt
-  read_names (suc count) word t p = (tt, read_names count (suc word) (suc t) p)
-
-  written_names : (count word p t : ℕ) → CodeNames blocks own n (words_written count word p t)
-  written_names zero word p t = tt
-  written_names (suc count) word p t = (tt, written_names count (suc word) p (suc t))
-
-  exchanged_names : (s : Shape) (d : ℕ) → CodeNames blocks own n (value_exchange s d)
-  exchanged_names s d =
-      let e = d + 2 + words_in s in (
-        tt,
-        both_name blocks own n _ _ (loads_names s (d + 2) 0 0) (
-          tt,
-          both_name blocks own n _ _ (loads_names s e 0 0)
-              (both_name blocks own n _ _ (stores_names s d e 0 0) (stores_names s (d + 1) (d + 2) 0 0)),
-        ),
-      )
-
-  -- what two places hold is exchanged
-  pub exchange_names : (w : World) (s : Shape) (d : ℕ) → CodeNames blocks own n (exchange_code w s d)
-  exchange_names w (UnionShape tag) d =
-      let count = length (cell_pieces w.unions (UnionShape tag)) in
-      both_name blocks own n _ _ (read_names count 0 (d + 2) d)
-      (both_name blocks own n _ _ (read_names count 0 (d + 2 + count) (d + 1))
-      (both_name blocks own n _ _ (written_names count 0 d (d + 2 + count)) (written_names count 0 (d + 1) (d + 2))))
-  exchange_names w s d = exchanged_names s d
 
   -- ---- elements
 

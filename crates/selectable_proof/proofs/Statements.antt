@@ -14,7 +14,7 @@ use Rattle.source_lowering.specs.Lowered.{Named, static_shape, union_parts, put_
 use Rattle.source_lowering.specs.Lowered.{InTemporary, local_named}
 use Rattle.source_lowering.specs.Programs.{local_shape, names_behind, block_shapes, locals_of, outward, named_here, begun_code, unset_code, value_code}
 use Rattle.source_lowering.specs.Programs.{declaration_code, ending_code, leaving_code, declaration_values, statement_values, item_values, case_values}
-use Rattle.source_lowering.specs.Programs.{default_values, RegionsAround, in_loop, in_switch, regions_with, statement_code, items_code, cases_code}
+use Rattle.source_lowering.specs.Programs.{default_values, RegionsAround, in_loop, in_switch, regions_with, side_of, statement_code, items_code, cases_code}
 use Rattle.source_lowering.specs.Programs.{default_code, further_out, initial_values}
 use Rattle.source_lowering.specs.Lowerable.{
   IsTarget,
@@ -46,7 +46,8 @@ use Rattle.selectable_proof.proofs.Naming.{both_name, all_name}
 use Rattle.selectable_proof.proofs.Layouts.{object_layout, variable_layout}
 use Rattle.selectable_proof.proofs.Parts.{HomeLies, LocalsLie, Around, local_lies, global_lies, stored_local, get_names, conversion_names}
 use Rattle.selectable_proof.proofs.StaticShapes.{union_values, member_value}
-use Rattle.selectable_proof.proofs.Pointers.{held_names, exchange_names}
+use Rattle.selectable_proof.proofs.Pointers.{held_names}
+use Rattle.selectable_proof.proofs.Exchanges.{exchange_names, side_lies, side_names}
 use Rattle.selectable_proof.proofs.Expressions.{place_names, expression_names}
 use Rattle.selectable_proof.proofs.WholeNames.{source_names, run_names}
 use Rattle.source_lowering.proofs.statements.Freeing.{thin_operand}
@@ -207,10 +208,13 @@ mutual
   statement_names blocks own n w result names plain a t r (Statement.Run e) next h f = run_names blocks own n w names plain a e r.all next h f
   statement_names blocks own n w result names plain a t r (Statement.Exchange left right) next h f =
       let many = length-append (expression_values w names left) (expression_values w names right) in
-      both_name blocks own n _ _ (place_names blocks own n w plain names a left r.all next h.0 (omega (arith, f, many)))
+      let x = side_of names left in
+      let y = side_of names right in
+      both_name blocks own n _ _ (side_names blocks own n x _ (place_names blocks own n w plain names a left r.all next h.0 (omega (arith, f, many))))
       (both_name blocks own n _ _
-      (place_names blocks own n w plain names a right (r.all + 1) (next + length (expression_values w names left)) h.1.0 (omega (arith, f, many)))
-      (exchange_names blocks own n w (static_shape w names left) r.all))
+      (side_names blocks own n y _
+      (place_names blocks own n w plain names a right (r.all + 1) (next + length (expression_values w names left)) h.1.0 (omega (arith, f, many))))
+      (exchange_names blocks own n w x y (static_shape w names left) r.all (side_lies blocks names a.locals left) (side_lies blocks names a.locals right)))
   statement_names blocks own n w result names plain a t r (Statement.If at condition body) next h f =
       let tested = length (expression_values w names condition) in
       let many = length-append (expression_values w names condition) (statement_values w names body) in

@@ -8,5 +8,6 @@ mod TextSamples
 mod MadeSamples
 mod SwitchSamples
 mod ExchangeSamples
+mod SideSamples
 mod FrameSamples
 mod OrderSamples

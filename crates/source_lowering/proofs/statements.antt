@@ -8,6 +8,7 @@ pub mod Aliasing
 pub mod Opening
 pub mod Freeing
 pub mod FreeingKeys
+pub mod Sides
 pub mod Exchanging
 pub mod ExchangingUnions
 pub mod Exchanges

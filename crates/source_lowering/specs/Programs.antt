@@ -62,7 +62,23 @@ use Rattle.source_lowering.specs.Lowered.{
 use Rattle.source_lowering.specs.Lowered.{expression_code, union_parts, member_number, tag_load, held_loads}
 pub use Rattle.source_lowering.specs.Temporaries.{last_of, operation_temporaries, statement_temporaries, temporaries_of, statement_passes, passed_by}
 pub use Rattle.source_lowering.specs.Leaving.{RegionsAround, in_loop, in_switch, leaving_code, left_by, no_regions, opened_behind, regions_behind, regions_with}
-pub use Rattle.source_lowering.specs.Exchanges.{value_exchange, words_read, words_written, union_exchange, exchange_code}
+pub use Rattle.source_lowering.specs.Exchanges.{
+  Side,
+  ByName,
+  ByPlace,
+  local_side,
+  home_side,
+  named_side,
+  side_of,
+  side_code,
+  side_read,
+  side_written,
+  value_exchange,
+  words_read,
+  words_written,
+  union_exchange,
+  exchange_code,
+}
 pub use Rattle.source_lowering.specs.Data.{
   word_in,
   constant_word,
@@ -238,8 +254,11 @@ abbrev mutual
   statement_code w result names h own (Statement.Run e) = run_code w names e h.all own
   -- the left place comes first
   statement_code w result names h own (Statement.Exchange left right) =
-      place_code w names left h.all own ++ (place_code w names right (h.all + 1) (own + length (expression_values w names left)) ++
-      exchange_code w (static_shape w names left) h.all)
+      let a = side_of names left in
+      let b = side_of names right in
+      side_code a (place_code w names left h.all own) ++
+      (side_code b (place_code w names right (h.all + 1) (own + length (expression_values w names left))) ++
+      exchange_code w a b (static_shape w names left) h.all)
   statement_code w result names h own (Statement.If at condition body) =
       expression_code w names condition h.all own ++
       (If h.all (all_of (statement_code w result names h (own + length (expression_values w names condition)) body)) NoStatements ∷ [])

@@ -1,26 +1,39 @@
 -- What the code of an exchange takes.
-use Rattle.std.proofs.Common.{ℕ, zero, suc, ◌+◌, ◌≤◌, Bool, true, false, ◌∷◌, arith, length}
+use Rattle.std.proofs.Common.{ℕ, zero, suc, ◌+◌, ◌≤◌, Bool, true, false, List, arith, length}
 use Rattle.source_meaning.specs.Shapes.{Shape, UnionShape, parts_of}
 use Rattle.source_meaning.specs.Steps.{World}
 use Rattle.core_meaning.specs.Core as core
-use Rattle.core_meaning.specs.Core.{Do}
 use Rattle.source_lowering.specs.Layouts.{has_fat, union_pieces}
-use Rattle.source_lowering.specs.Members.{loads_code, part_at, stores_code, words_in}
-use Rattle.source_lowering.specs.Programs.{exchange_code, union_exchange, value_exchange, words_read, words_written}
-use Rattle.source_lowering.proofs.bounds.Costs.{Costs, at_most, both_cost, does_then, no_costs}
+use Rattle.source_lowering.specs.Members.{part_at, words_in}
+use Rattle.source_lowering.specs.Programs.{ByName, ByPlace, Side, exchange_code, side_code, side_read, side_written, union_exchange, value_exchange}
+use Rattle.source_lowering.specs.Programs.{words_read, words_written}
+use Rattle.source_lowering.proofs.bounds.Costs.{Costs, at_most, both_cost, does_few, does_then, no_costs, nothing}
 use Rattle.source_lowering.proofs.bounds.ValueCosts.{words_few, kept_costs, loads_costs}
 
--- two values are read, and each is stored to the other place
-value_exchange_costs : (s : Shape) (t p d : ℕ) → d + 8 ≤ t → Costs t p 0 14 (value_exchange s d)
-value_exchange_costs s t p d h =
+-- a side's value is read, and it gets another one
+read_costs : (a : Side) (s : Shape) (t p q d : ℕ) → suc q ≤ t → d + 3 ≤ t → Costs t p 0 4 (side_read a s q d)
+read_costs (ByName out index width) s t p q d h g = does_few t p 4 (core.Get d out index width) (omega (arith, g)) (omega arith)
+read_costs ByPlace s t p q d h g = does_then t p 3 (core.Move d q) _ (omega (arith, h, g)) (loads_costs s t p d 0 0 (omega (arith, g)))
+
+written_costs : (a : Side) (s : Shape) (t p q d : ℕ) → suc q ≤ t → d + 3 ≤ t → Costs t p 0 3 (side_written a s q d)
+written_costs (ByName out index width) s t p q d h g = does_few t p 3 (core.Put out index width d) (omega (arith, g)) (omega arith)
+written_costs ByPlace s t p q d h g = let few = words_few s in kept_costs s t p q d 0 0 (omega (arith, h)) (omega (arith, g, few))
+
+-- two values are read, and each is stored to the other side
+value_exchange_costs : (a b : Side) (s : Shape) (t p d : ℕ) → d + 8 ≤ t → Costs t p 0 14 (value_exchange a b s d)
+value_exchange_costs a b s t p d h =
     let few = words_few s in
     let e = d + 2 + words_in s in
-    both_cost t p 0 4 0 10 (Do (core.Move (d + 2) d) ∷ loads_code s (d + 2) 0 0) _
-    (does_then t p 3 (core.Move (d + 2) d) _ (omega (arith, h)) (loads_costs s t p (d + 2) 0 0 (omega (arith, h))))
-    (both_cost t p 0 4 0 6 (Do (core.Move e (d + 1)) ∷ loads_code s e 0 0) _
-    (does_then t p 3 (core.Move e (d + 1)) _ (omega (arith, h, few)) (loads_costs s t p e 0 0 (omega (arith, h, few))))
-    (both_cost t p 0 3 0 3 (stores_code s d e 0 0) (stores_code s (d + 1) (d + 2) 0 0) (kept_costs s t p d e 0 0 (omega (arith, h)) (omega (arith, h, few)))
-    (kept_costs s t p (d + 1) (d + 2) 0 0 (omega (arith, h)) (omega (arith, h)))))
+    both_cost t p 0 4 0 10 (side_read a s d (d + 2)) _ (read_costs a s t p d (d + 2) (omega (arith, h)) (omega (arith, h)))
+    (both_cost t p 0 4 0 6 (side_read b s (d + 1) e) _ (read_costs b s t p (d + 1) e (omega (arith, h)) (omega (arith, h, few)))
+    (both_cost t p 0 3 0 3 (side_written a s d e) (side_written b s (d + 1) (d + 2))
+    (written_costs a s t p d e (omega (arith, h)) (omega (arith, h, few)))
+    (written_costs b s t p (d + 1) (d + 2) (omega (arith, h)) (omega (arith, h)))))
+
+-- no pointer to a local of one word is made
+pub side_costs : (a : Side) (t p o : ℕ) (pointer : List core.Statement) → Costs t p 0 o pointer → Costs t p 0 o (side_code a pointer)
+side_costs (ByName out index width) t p o pointer c = nothing t p o
+side_costs ByPlace t p o pointer c = c
 
 -- the words of a union
 words_read_costs : (count t p word d from : ℕ) → d + count ≤ t → suc from ≤ t → Costs t p 0 count (words_read count word d from)
@@ -52,13 +65,13 @@ union_words_few true = omega arith
 union_words_few false = omega arith
 
 -- either
-pub exchange_costs : (w : World) (s : Shape) (t p d : ℕ) → d + 10 ≤ t → Costs t p 0 16 (exchange_code w s d)
-exchange_costs w s t p d h = by s
+pub exchange_costs : (w : World) (a b : Side) (s : Shape) (t p d : ℕ) → d + 10 ≤ t → Costs t p 0 16 (exchange_code w a b s d)
+exchange_costs w a b s t p d h = by s
   where
-    value : (of : Shape) → Costs t p 0 16 (value_exchange of d)
-    value of = at_most t p 14 16 _ (omega arith) (value_exchange_costs of t p d (omega (arith, h)))
+    value : (of : Shape) → Costs t p 0 16 (value_exchange a b of d)
+    value of = at_most t p 14 16 _ (omega arith) (value_exchange_costs a b of t p d (omega (arith, h)))
 
-    by : (of : Shape) → Costs t p 0 16 (exchange_code w of d)
+    by : (of : Shape) → Costs t p 0 16 (exchange_code w a b of d)
     by (UnionShape tag) =
         let fat = has_fat (parts_of w.unions tag) in union_exchange_costs (length (union_pieces fat)) t p d (union_words_few fat) h
     by of = value of

@@ -11,7 +11,7 @@ use Rattle.core_meaning.specs.Core.{Do, If, Block, Return, Constant, Apply, Equa
 use Rattle.source_lowering.specs.Lowered.{Named, all_of, results_in, static_shape, expression_values, union_parts, member_number, put_local, held_loads}
 use Rattle.source_lowering.specs.Lowered.{tag_load}
 use Rattle.source_lowering.specs.Programs.{block_shapes, locals_of, outward, named_here, leaving_code, declaration_values, statement_values}
-use Rattle.source_lowering.specs.Programs.{RegionsAround, in_loop, in_switch, regions_with, statement_code, items_code, cases_code, default_code, item_values}
+use Rattle.source_lowering.specs.Programs.{RegionsAround, in_loop, in_switch, regions_with, side_of, statement_code, items_code, cases_code, default_code, item_values}
 use Rattle.source_lowering.specs.Programs.{case_values, names_behind}
 use Rattle.source_lowering.specs.Lowerable.{TakesStatement, TakesItems, TakesClauses}
 use Rattle.source_lowering.specs.Bounds.{
@@ -37,7 +37,7 @@ use Rattle.source_lowering.proofs.bounds.ExpressionCosts.{place_costs, expressio
 use Rattle.source_lowering.proofs.bounds.WholeCosts.{run_costs}
 use Rattle.source_lowering.proofs.bounds.DeclarationCosts.{declaration_bounded, ending_costs, regions_counted, leaving_costs}
 use Rattle.source_lowering.proofs.bounds.Taken.{taken_by, taken_outward, found_less}
-use Rattle.source_lowering.proofs.bounds.ExchangeCosts.{exchange_costs}
+use Rattle.source_lowering.proofs.bounds.ExchangeCosts.{exchange_costs, side_costs}
 use Rattle.source_lowering.proofs.bounds.NameCosts.{moved_costs}
 use Rattle.source_lowering.proofs.values.Integers.{key_moved, thin_moved}
 use Rattle.cyc_tree.specs.Tree.{Expression}
@@ -171,6 +171,8 @@ mutual
       }
   statement_bounded w result names r own (Statement.Exchange left right) t p h f g =
       let s = static_shape w names left in
+      let x = side_of names left in
+      let y = side_of names right in
       let n = one_node left in
       let m = one_node right in
       let a = place_costs w names left t p r.all own h.0 (omega (arith, f)) (omega (arith, g)) in
@@ -178,8 +180,8 @@ mutual
       let l = a.less in let k = b.less in
       record {
         operations = a.operations + (b.operations + 16);
-        costs = both_cost t p 0 a.operations 0 (b.operations + 16) _ _ a.costs
-            (both_cost t p 0 b.operations 0 16 _ _ b.costs (exchange_costs w s t p r.all (omega (arith, f, n, m))));
+        costs = both_cost t p 0 a.operations 0 (b.operations + 16) _ _ (side_costs x t p a.operations _ a.costs)
+            (both_cost t p 0 b.operations 0 16 _ _ (side_costs y t p b.operations _ b.costs) (exchange_costs w x y s t p r.all (omega (arith, f, n, m))));
         less = omega (arith, l, k);
       }
   statement_bounded w result names r own (Statement.If at condition body) t p h f g =

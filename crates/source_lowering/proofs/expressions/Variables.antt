@@ -46,7 +46,7 @@ pub got : (c : Config) (d out index width frame : ℕ) (x : Content) (next : Con
     → does (Get d out index width) next c ≡ next (with_temp d x c)
 got c d out index width frame x next block live part = rw (block, live, part, eq-eqb width width refl) refl
 
-placed : (c : Config) (d out index width frame : ℕ) (old : Content) (next : Config → core_steps.Step) → slice_get c.blocks out ≡ Some frame
+pub placed : (c : Config) (d out index width frame : ℕ) (old : Content) (next : Config → core_steps.Step) → slice_get c.blocks out ≡ Some frame
     → core.is_live (c.memory.standing (core.Frame frame)) ≡ true → c.memory.parts (at (local_spot frame index)) 0 ≡ Some (part_with width old)
     → does (Put out index width d) next c ≡ next (with_memory (with_part c.memory (at (local_spot frame index)) 0
     (part_with width (fitting width (c.temps d)))) c)

@@ -13,7 +13,7 @@ use Rattle.core_meaning.specs.Core.{Distance, Do, Load, Store}
 use Rattle.core_meaning.specs.Steps.{Called, Returned}
 use Rattle.core_meaning.specs.Meaning.{core}
 use Rattle.source_lowering.specs.Lowerable.{GivesWord, IsLowerable}
-use Rattle.source_lowering.specs.Programs.{exchange_code, program_code}
+use Rattle.source_lowering.specs.Programs.{ByPlace, exchange_code, program_code}
 use Rattle.source_lowering.proofs.samples.Samples.{member}
 use Rattle.source_lowering.proofs.samples.MadeSamples.{declared, plus}
 
@@ -53,7 +53,7 @@ exchanges =
 abbrev part : ℕ → Distance
 part k = record { cells = 0; bytes = 4 * k; part = k; width = 4 }
 
-two_words : exchange_code (world_of exchanges) (UnionShape (codes "u")) 0 ≡
+two_words : exchange_code (world_of exchanges) ByPlace ByPlace (UnionShape (codes "u")) 0 ≡
     Do (Load 2 0 (part 0)) ∷ Do (Load 3 0 (part 1)) ∷ Do (Load 4 1 (part 0)) ∷ Do (Load 5 1 (part 1)) ∷
     Do (Store 0 (part 0) 4) ∷ Do (Store 0 (part 1) 5) ∷ Do (Store 1 (part 0) 2) ∷ Do (Store 1 (part 1) 3) ∷ []
 two_words = refl

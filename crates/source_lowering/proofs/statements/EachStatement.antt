@@ -39,6 +39,7 @@ use Rattle.core_meaning.specs.Steps.{Config}
 use Rattle.core_meaning.specs.Meaning as meaning
 use Rattle.source_lowering.specs.Lowered.{put, put_local, all_of, stored_code, static_shape, union_parts, expression_code, place_code}
 use Rattle.source_lowering.specs.Programs.{local_shape, block_shapes, outward, named_here, statement_code, items_code, parameter_names, parameters_code}
+use Rattle.source_lowering.specs.Programs.{side_of}
 use Rattle.source_lowering.specs.Lowerable.{IsUnionShape, IsWholeShape, TakesStatement, TakesItems, TakesClauses}
 use Rattle.source_lowering.specs.Simulation.{Grown, SameState, SameAt, Next, AreKept, AValue, around, Bound, contents_in}
 use Rattle.source_lowering.proofs.memory.Keeping.{less_self}
@@ -80,6 +81,7 @@ use Rattle.source_lowering.proofs.statements.Clauses.{CasesAs, chosen, held_of, 
 use Rattle.source_lowering.proofs.statements.Switching.{switch_same}
 use Rattle.source_lowering.proofs.statements.Freeing.{name_freed}
 use Rattle.source_lowering.proofs.statements.FreeingKeys.{key_freed_by}
+use Rattle.source_lowering.proofs.statements.Sides.{side_same}
 use Rattle.source_lowering.proofs.statements.Exchanges.{exchange_same}
 use Rattle.source_lowering.proofs.expressions.VariableForms.{variable_agrees}
 use Rattle.source_lowering.specs.Naming.{local_named}
@@ -170,9 +172,11 @@ mutual
       let d = k.regions.all in
       let one = place_same left scope k h.0 known n calls d own (numbered_first k.owned own firsts others numbered) less in
       let other = place_same right scope k h.1.0 known n calls (d + 1) behind (numbered_after k.owned own firsts others numbered) (omega (arith, less)) in
-      exchange_same (place_in scope k) n scope.result (sense left scope) (sense right scope) (static_shape scope.world k.names left)
-      (static_shape scope.world k.names right) (place_code scope.world k.names left d own) (place_code scope.world k.names right (d + 1) behind)
-      one.shape_is other.shape_is h.1.1 one.placed other.placed
+      let first = place_code scope.world k.names left d own in
+      let second = place_code scope.world k.names right (d + 1) behind in
+      exchange_same (place_in scope k) n scope.result (sense left scope) (sense right scope) (side_of k.names left) (side_of k.names right)
+      (static_shape scope.world k.names left) (static_shape scope.world k.names right) first second one.shape_is other.shape_is h.1.1
+      (side_same left scope k known n d first one.placed) (side_same right scope k known n (d + 1) second other.placed)
   statement_same (Statement.If at condition body) own scope k h numbered less known result n calls =
       let tested = expression_values scope.world k.names condition in
       let values = statement_values scope.world k.names body in

@@ -14,7 +14,7 @@ use Rattle.core_meaning.specs.Steps.{Config}
 use Rattle.core_meaning.specs.Meaning as meaning
 use Rattle.source_lowering.specs.Layouts.{Piece, cell_pieces, has_fat}
 use Rattle.source_lowering.specs.Lowered.{put}
-use Rattle.source_lowering.specs.Programs.{exchange_code, words_read, words_written}
+use Rattle.source_lowering.specs.Programs.{Side, exchange_code, words_read, words_written}
 use Rattle.source_lowering.specs.Simulation.{at, region_at, AreKept, AUnion, Grown, GrownAt, HasShape, Leads, Point, SameAt, SameMemory, Bound, within}
 use Rattle.source_lowering.proofs.memory.Keeping.{fits_later, leads_later, later_on, m_written, shown_later, IsUnlent}
 use Rattle.source_lowering.proofs.Runs.{put_all}
@@ -23,6 +23,7 @@ use Rattle.source_lowering.proofs.memory.ValueCells.{HaveContents, cell_held, ce
 use Rattle.source_lowering.proofs.memory.UnionCells.{union_fits, union_parts_there}
 use Rattle.source_lowering.proofs.memory.UnionWords.{Begins, WordsRead, are_kept, begin_hold, held_begin, pieces_from, union_pieces_are, words_fit}
 use Rattle.source_lowering.proofs.memory.UnionWords.{words_are_read, words_are_written}
+use Rattle.source_lowering.proofs.statements.Sides.{union_pointed}
 use Rattle.source_lowering.proofs.statements.Exchanging.{ExchangesAs}
 
 -- ---- a union's cell, by all its words
@@ -89,9 +90,9 @@ union_grown b w m c tag t byte v words there free =
 
 -- ---- both do the same
 
-pub unions_exchange : (p : Point) (n : ℕ) (tag : List ℕ)
-    → ExchangesAs p n (UnionShape tag) (exchange_code p.world (UnionShape tag) p.regions.all)
-unions_exchange p n tag m0 c0 m c t u bt bu s rest next fits later kept left right leads_t leads_u go =
+pub unions_exchange : (p : Point) (n : ℕ) (a b : Side) (tag : List ℕ)
+    → ExchangesAs p n a b (UnionShape tag) (exchange_code p.world a b (UnionShape tag) p.regions.all)
+unions_exchange p n a b tag m0 c0 m c t u bt bu s rest next fits later kept left_side right_side leads_t leads_u go =
     cell_held p.world p.program n shape m t (λ vs. read_cells 1 u (then_write vs)) whole left_there.has
     (λ v live_t is_t.
     cell_held p.world p.program n shape m u (then_write (v ∷ [])) whole right_there.has
@@ -111,6 +112,12 @@ unions_exchange p n tag m0 c0 m c t u bt bu s rest next fits later kept left rig
 
     e : ℕ
     e = d + 2 + count
+
+    left : c.temps d ≡ Pointer (at t) bt
+    left = union_pointed p a tag c.temps d t bt left_side
+
+    right : c.temps (d + 1) ≡ Pointer (at u) bu
+    right = union_pointed p b tag c.temps (d + 1) u bu right_side
 
     left_there : UnionThere p.world m c.memory tag t bt
     left_there = union_there p.world m c.memory tag t bt leads_t
@@ -134,7 +141,7 @@ unions_exchange p n tag m0 c0 m c t u bt bu s rest next fits later kept left rig
     then_write vs us = write_cells t us (λ z. write_cells u vs (λ y. s))
 
     whole : core_steps.Step
-    whole = meaning.statements (put (exchange_code p.world shape d) rest) next c
+    whole = meaning.statements (put (exchange_code p.world a b shape d) rest) next c
 
     written : (v x : Scalar) → IsUnlent m t → core.is_live (c.memory.standing (region_at t.region)) ≡ true
         → core.is_live (c.memory.standing (region_at u.region)) ≡ true → StandFor p.world m c.memory tag v left_there.words → StandFor p.world m c.memory tag x right_there.words

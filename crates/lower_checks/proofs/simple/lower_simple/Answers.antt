@@ -3,7 +3,7 @@ use Rattle.cyc_tree.specs.View.{expression_tree, name_tree, statement_tree as so
 use Rattle.cyc_tree.proofs.StatementForms.{exchange_tree, free_key_tree, free_unique_tree}
 use Rattle.core_meaning.specs.Core as core
 use Rattle.source_lowering.specs.Lowered.{expression_values, get_code, place_code, static_shape}
-use Rattle.source_lowering.specs.Programs.{exchange_code, statement_code, statement_values, unique_free}
+use Rattle.source_lowering.specs.Programs.{exchange_code, side_code, side_of, statement_code, statement_values, unique_free}
 use Rattle.source_lowering.specs.Lowerable.{TakesStatement}
 use Rattle.cyc_tree.specs.Room.{statement_room}
 use Rattle.lower_checks.specs.Room.{HasRoom}
@@ -35,12 +35,14 @@ returns-in-Exchange c sound =
     let z = c.lower_exchange.new.body in
     let left = expression_tree c.in-Exchange.left in
     let right = expression_tree c.in-Exchange.right in
+    let x = side_of names left in
+    let y = side_of names right in
     let to_is : c.value-to.result.0 ≡ h.all = c.value-to.ensures in
     let done =
     subst
     (λ n. IsWritten a z
-    (place_code w names left n own ++
-    (place_code w names right (n + 1) (own + length (expression_values w names left)) ++ exchange_code w (static_shape w names left) n))
+    (side_code x (place_code w names left n own) ++
+    (side_code y (place_code w names right (n + 1) (own + length (expression_values w names left))) ++ exchange_code w x y (static_shape w names left) n))
     (expression_values w names left ++ expression_values w names right)) to_is (c.lower_exchange.ensures.writes sound) in
     subst (λ s. IsWritten a z (statement_code w result names h own s) (statement_values w names s))
     (sym (ap source_tree c.in-Exchange.is ∙ exchange_tree c.in-Exchange.left c.in-Exchange.right)) done

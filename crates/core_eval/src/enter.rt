@@ -212,7 +212,7 @@ pub fn enter_statement<'p>(
         Statement::Leave(body) => enter_breakable(body, stack),
         Statement::Break => Ok(Due::Go(Now::Leave(Flow::Breaks))),
         Statement::Continue => Ok(Due::Go(Now::Leave(Flow::Continues))),
-        Statement::Call(result, function, arguments) => {
+        Statement::Call(result, function, arguments, _) => {
             let values = arguments_of(alloc, frame, arguments)?;
             Ok(Due::Call(*result, *function, values))
         }
@@ -220,7 +220,7 @@ pub fn enter_statement<'p>(
             let values = returned(frame, *words)?;
             leave_function(values, stack, frame, memory)
         }
-        Statement::Raise(kind) => Ok(Due::Raised(*kind)),
+        Statement::Raise(kind, _) => Ok(Due::Raised(*kind)),
     }
 }
 

@@ -190,9 +190,9 @@ statement_step (Statement-F.Block locals body) = core.Block (map local_tree loca
 statement_step (Statement-F.Leave body) = core.Leave (statements_of body.items)
 statement_step Statement-F.Break = core.Break
 statement_step Statement-F.Continue = core.Continue
-statement_step (Statement-F.Call result f arguments) = core.Call (optional_tree result) f (map temporary_tree arguments.items)
+statement_step (Statement-F.Call result f arguments at) = core.Call (optional_tree result) f (map temporary_tree arguments.items)
 statement_step (Statement-F.Return value) = core.Return (optional_tree value)
-statement_step (Statement-F.Raise kind) = core.Raise kind
+statement_step (Statement-F.Raise kind at) = core.Raise kind
 
 abbrev pub statement_tree : code.Statement → core.Statement
 statement_tree = fold-Statement core.Statement statement_step

@@ -6,10 +6,12 @@
 
 mod layout;
 mod operation;
+mod origins;
 mod program;
 mod statement;
 
 pub use layout::{CellLayout, Layout, Local};
 pub use operation::{Binary, Cell, Distance, Operation, Temporary, Variable, Width, Words};
+pub use origins::Origins;
 pub use program::{Datum, Function, Program};
-pub use statement::Statement;
+pub use statement::{Origin, Statement};

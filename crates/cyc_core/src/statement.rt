@@ -5,6 +5,10 @@ use crate::operation::{Operation, Temporary, Words};
 use cyc_words::Kind;
 use std::rc::Rc;
 
+/// The offset in the source's text of the phrase that raises or calls. No promise rests on it: the meaning of a statement leaves it out.
+#[derive(Clone, Copy)]
+pub struct Origin(pub u32);
+
 /// A statement of a function.
 #[cycle(statement)]
 #[derive(Drop)]
@@ -33,9 +37,9 @@ pub enum Statement {
     /// The innermost loop goes on with its test.
     Continue,
     /// The function with this number is called with what the last temporaries hold, and the first ones get its result, if it has one.
-    Call(Option<Words>, usize, Vec<Temporary>),
+    Call(Option<Words>, usize, Vec<Temporary>, Origin),
     /// The function returns, with what the temporaries hold if it has a result.
     Return(Option<Words>),
     /// The program ends with this exception.
-    Raise(Kind),
+    Raise(Kind, Origin),
 }

@@ -36,7 +36,7 @@ use crate::scope::Scope;
 use crate::shape::Shape;
 use crate::shaped::{makes, shape_of};
 use crate::whole::lower_whole;
-use cyc_core::Temporary;
+use cyc_core::{Origin, Temporary};
 use cyc_tree::Expression;
 
 /// Appends what evaluates a struct or a union, and copies it to a place of its type; appends the shapes of the unnamed values, those of the value
@@ -90,7 +90,7 @@ fn lower_given<'p>(
         Writes body.old body.new (expression_code w names (tree.Assign p v) to.0 (next_of body.old)) (expression_values w names v ++ expression_values w names p) }
 {
     let from = lower_expression(scope, value, body, to);
-    lower_assign(scope, place, body, &from, to);
+    lower_assign(scope, place, body, &from, to, Origin(value.place()));
 }
 
 /// Appends what evaluates an expression, and drops its value; appends the shapes of the unnamed values.

@@ -13,7 +13,7 @@ ghost use Rattle.lower_checks.specs.declared.fault.LowerFault.TheVariants.{Memor
 use crate::fault::LowerFault;
 use crate::shape::Shape;
 use crate::vectors::append;
-use cyc_core::{Local, Operation, Statement, Temporary};
+use cyc_core::{Local, Operation, Origin, Statement, Temporary};
 use cyc_words::Kind;
 use std::alloc::Global;
 use std::mem;
@@ -104,12 +104,12 @@ impl<'p> Body<'p> {
         part
     }
 
-    /// What raises an exception.
-    pub fn raising(&mut self, kind: Kind) -> Vec<Statement>
+    /// What raises an exception, which the phrase at an origin does.
+    pub fn raising(&mut self, kind: Kind, at: Origin) -> Vec<Statement>
         ensures stays { Stays self.old self.new }
         ensures raising { IsSound self.new → all_of (map statement_tree result.items) ≡ raised kind }
     {
-        self.alone(Statement::Raise(kind))
+        self.alone(Statement::Raise(kind, at))
     }
 
     /// A choice, as the tree of its parts.
@@ -200,10 +200,10 @@ impl<'p> Body<'p> {
     }
 
     /// Appends what raises an exception where a temporary has NULL, or 0.
-    pub fn raise_unless(&mut self, condition: Temporary, kind: Kind)
+    pub fn raise_unless(&mut self, condition: Temporary, kind: Kind, at: Origin)
         ensures { Emits self.old self.new (core.If condition.0 core.NoStatements (raised kind) ∷ []) }
     {
-        let raising = self.raising(kind);
+        let raising = self.raising(kind, at);
         self.branch(condition, Vec::new(self.alloc), raising);
     }
 

@@ -18,7 +18,7 @@ use crate::names::behind;
 use crate::shape::Shape;
 use crate::table::{Callee, Table};
 use crate::vectors::append;
-use cyc_core::{Operation, Statement, Temporary};
+use cyc_core::{Operation, Origin, Statement, Temporary};
 use cyc_tree::Member;
 use std::alloc::Global;
 
@@ -80,6 +80,7 @@ fn passing(
     callee: Callee<'_>,
     words: u32,
     to: Temporary,
+    at: Origin,
 ) -> Result<Statement, LowerFault>
     requires room { HasRoom to.0 (words + 2) }
     ensures call { IfOk result
@@ -88,22 +89,29 @@ fn passing(
 {
     let result = Shape::of(&callee.function.result).result_in(to);
     let passed = passed_from(alloc, words, to)?;
-    Ok(Statement::Call(result, callee.number, passed))
+    Ok(Statement::Call(result, callee.number, passed, at))
 }
 
 /// Appends the call of a function that is found, to which so many words are passed, from this temporary on.
-fn lower_callee(body: &mut Body<'_>, callee: Callee<'_>, words: u32, to: Temporary)
+fn lower_callee(body: &mut Body<'_>, callee: Callee<'_>, words: u32, to: Temporary, at: Origin)
     requires room { HasRoom to.0 (words + 2) }
     ensures { Emits body.old body.new (function_call (Some (routine_of (function_tree callee.entry.function.now))) callee.entry.number words to.0) }
 {
-    match passing(body.alloc, callee, words, to) {
+    match passing(body.alloc, callee, words, to, at) {
         Ok(call) => body.emit(call),
         Err(fault) => body.note(fault),
     }
 }
 
 /// Appends the call of a function, to which so many words are passed, from this temporary on.
-pub fn lower_call(program: &Table<'_>, body: &mut Body<'_>, name: &[u8], words: u32, to: Temporary)
+pub fn lower_call(
+    program: &Table<'_>,
+    body: &mut Body<'_>,
+    name: &[u8],
+    words: u32,
+    to: Temporary,
+    at: Origin,
+)
     requires room { HasRoom to.0 (words + 2) }
     ensures { Emits body.old body.new (call_code (world_of program.now) name.now words to.0) }
 {
@@ -112,6 +120,6 @@ pub fn lower_call(program: &Table<'_>, body: &mut Body<'_>, name: &[u8], words: 
     } else if name == b"putchar".as_slice() {
         body.operation(Operation::Putchar(to, to));
     } else if let Some(callee) = program.function_named(name) {
-        lower_callee(body, callee, words, to);
+        lower_callee(body, callee, words, to, at);
     }
 }

@@ -31,7 +31,7 @@ use crate::table::Table;
 use crate::values::{first_value, lower_conversion};
 use crate::variable::{lower_get, lower_put_local};
 use crate::whole::lower_whole;
-use cyc_core::{Operation, Statement, Temporary, Variable, Width};
+use cyc_core::{Operation, Origin, Statement, Temporary, Variable, Width};
 use cyc_tree::{Declaration, Expression, Initializer, Name, TypeName};
 
 /// The shape of a local of a type with an initializer.
@@ -221,7 +221,7 @@ fn lower_set<'p>(
         }
         _ => {
             let from = lower_expression(scope, value, body, to);
-            lower_conversion(scope.program, body, shape, &from, to);
+            lower_conversion(scope.program, body, shape, &from, to, Origin(value.place()));
             let local = Variable { out: 0, index };
             lower_put_local(body, &Stored::One(*shape), local, to);
         }
@@ -279,7 +279,7 @@ fn lower_alias<'p>(
 {
     let shape = alias_shape(scope, of, pointer, body);
     let from = lower_get(scope, body, &pointer.text, to);
-    lower_conversion(scope.program, body, &shape, &from, to);
+    lower_conversion(scope.program, body, &shape, &from, to, Origin(pointer.at));
     let local = Variable { out: 0, index };
     lower_put_local(body, &Stored::One(shape), local, to);
 }

@@ -33,7 +33,7 @@ use crate::shape::{Owner, Shape};
 use crate::shaped::{owner_for, shape_of};
 use crate::values::{lower_conversion, lower_not, lower_operator, lower_truth, lower_word};
 use crate::words::lower_loads;
-use cyc_core::{Operation, Temporary};
+use cyc_core::{Operation, Origin, Temporary};
 use cyc_tree::{Expression, Operator, Prefix};
 
 /// Appends what leaves an expression's value in a temporary, and gives the shape of its type; appends the shapes of its unnamed values.
@@ -65,8 +65,8 @@ pub fn lower_expression<'p>(
             lower_loads(body, &reached, to);
             reached.shape
         }
-        Expression::Prefixed(_, operator, operand) => {
-            lower_prefixed(scope, operand, body, *operator, to)
+        Expression::Prefixed(at, operator, operand) => {
+            lower_prefixed(scope, operand, body, *operator, to, Origin(*at))
         }
         Expression::New(_, made) => {
             body.operation(Operation::HeapHandle(to));
@@ -96,9 +96,11 @@ pub fn lower_expression<'p>(
         }
         Expression::Assign(place, value) => {
             let from = lower_expression(scope, value, body, to);
-            lower_assign(scope, place, body, &from, to)
+            lower_assign(scope, place, body, &from, to, Origin(value.place()))
         }
-        Expression::Call(name, arguments) => lower_called(scope, arguments, body, &name.text, to),
+        Expression::Call(name, arguments) => {
+            lower_called(scope, arguments, body, &name.text, to, Origin(name.at))
+        }
         _ => lower_leaf(scope, expression, body, to),
     }
 }
@@ -111,6 +113,7 @@ pub fn lower_assign<'p>(
     body: &mut Body<'p>,
     from: &Shape<'_>,
     to: Temporary,
+    at: Origin,
 ) -> Shape<'p>
     requires room { HasRoom to.0 (16 + room (expression_tree place.now)) }
     requires taken { IsSound body.old → TakesPlace (world_in scope.now) (names_in scope.now) (expression_tree place.now) }
@@ -124,7 +127,7 @@ pub fn lower_assign<'p>(
         shape_tree result ≡ static_shape (world_in scope.now) (names_in scope.now) (expression_tree place.entry.now) }
 {
     let shape = body.known(shape_of(scope, place));
-    lower_conversion(scope.program, body, &shape, from, to);
+    lower_conversion(scope.program, body, &shape, from, to, at);
     lower_put(scope, place, body, to);
     shape
 }
@@ -137,6 +140,7 @@ fn lower_prefixed<'p>(
     body: &mut Body<'p>,
     operator: Prefix,
     to: Temporary,
+    at: Origin,
 ) -> Shape<'p>
     requires room { HasRoom to.0 (16 + room (expression_tree operand.now)) }
     requires taken { let w = world_in scope.now in
@@ -174,7 +178,7 @@ fn lower_prefixed<'p>(
             Shape::Int
         }
         Prefix::Dereference => {
-            let shape = lower_pointer(scope, operand, body, to);
+            let shape = lower_pointer(scope, operand, body, to, at);
             lower_loads(body, &Reached::at_once(shape), to);
             shape
         }

@@ -21,7 +21,7 @@ use crate::shape::{Reach, Shape};
 use crate::sizes::{count, extent};
 use crate::table::Table;
 use crate::values::{lower_check, lower_null};
-use cyc_core::{Binary, Operation, Statement, Temporary};
+use cyc_core::{Binary, Operation, Origin, Statement, Temporary};
 use cyc_tree::Operator;
 use cyc_words::Kind;
 
@@ -92,13 +92,14 @@ pub fn lower_element(
     body: &mut Body<'_>,
     to: Temporary,
     pointer: Temporary,
+    at: Origin,
 )
     requires room { HasRoom pointer.0 2 }
     ensures { Emits body.old body.new (element_code (world_of program.now) (shape_tree element.now) to.0 pointer.0) }
 {
     lower_below(body, pointer);
-    let bounds = body.raising(Kind::ArrayBounds);
-    let null = body.raising(Kind::NullException);
+    let bounds = body.raising(Kind::ArrayBounds, at);
+    let null = body.raising(Kind::NullException, at);
     let outer = body.begin();
     body.branch(pointer, bounds, null);
     let otherwise = body.end(outer);
@@ -106,13 +107,19 @@ pub fn lower_element(
 }
 
 /// Appends what leaves a pointer to what a pointer of a shape leads to in its temporary; raises where it leads to nothing.
-pub fn lower_reach(program: &Table<'_>, shape: &Shape<'_>, body: &mut Body<'_>, pointer: Temporary)
+pub fn lower_reach(
+    program: &Table<'_>,
+    shape: &Shape<'_>,
+    body: &mut Body<'_>,
+    pointer: Temporary,
+    at: Origin,
+)
     requires room { HasRoom pointer.0 2 }
     ensures { Emits body.old body.new (reach_code (world_of program.now) (shape_tree shape.now) pointer.0) }
 {
     match shape {
-        Shape::Fat(to) => lower_element(program, &to.shape(), body, pointer, pointer),
-        _ => lower_check(body, shape, pointer),
+        Shape::Fat(to) => lower_element(program, &to.shape(), body, pointer, pointer, at),
+        _ => lower_check(body, shape, pointer, at),
     }
 }
 
@@ -123,6 +130,7 @@ pub fn lower_index(
     element: &Shape<'_>,
     body: &mut Body<'_>,
     subscript: Temporary,
+    at: Origin,
 )
     requires room { HasRoom subscript.0 3 }
     ensures { Emits body.old body.new (index_code (world_of program.now) (shape_tree element.now) subscript.0) }
@@ -130,7 +138,7 @@ pub fn lower_index(
     let pointer = behind(subscript, 1);
     let index = behind(subscript, 3);
     body.operation(Operation::Apply(Binary::Add, index, index, subscript));
-    lower_element(program, element, body, subscript, pointer);
+    lower_element(program, element, body, subscript, pointer, at);
 }
 
 /// Appends how many elements a fat pointer leads to: its count less its index where that is below, and 0 else.
@@ -193,7 +201,7 @@ pub fn lower_to_fat(body: &mut Body<'_>, from: &Shape<'_>, pointer: Temporary)
 }
 
 /// Appends what raises where a fat pointer's index isn't below its count, or fewer elements than so many are left from there on.
-fn lower_remaining(body: &mut Body<'_>, pointer: Temporary, least: u32)
+fn lower_remaining(body: &mut Body<'_>, pointer: Temporary, least: u32, at: Origin)
     requires room { HasRoom pointer.0 3 }
     ensures { let d = pointer.0 in
         Emits body.old body.new
@@ -205,22 +213,28 @@ fn lower_remaining(body: &mut Body<'_>, pointer: Temporary, least: u32)
     let index = behind(pointer, 2);
     let free = behind(pointer, 3);
     body.operation(Operation::Apply(Binary::LessUnsigned, free, index, count));
-    body.raise_unless(free, Kind::ArrayBounds);
+    body.raise_unless(free, Kind::ArrayBounds, at);
     body.operation(Operation::Apply(Binary::Subtract, count, count, index));
     body.operation(Operation::Constant(free, least));
     body.operation(Operation::Apply(Binary::LessUnsigned, count, count, free));
-    let bounds = body.raising(Kind::ArrayBounds);
+    let bounds = body.raising(Kind::ArrayBounds, at);
     body.branch(count, bounds, Vec::new(body.alloc));
 }
 
 /// Appends what leaves a pointer to the element of a shape to which a fat pointer leads that isn't NULL; raises where its index isn't below
 /// its count.
-fn lower_one(program: &Table<'_>, element: &Shape<'_>, body: &mut Body<'_>, pointer: Temporary)
+fn lower_one(
+    program: &Table<'_>,
+    element: &Shape<'_>,
+    body: &mut Body<'_>,
+    pointer: Temporary,
+    at: Origin,
+)
     requires room { HasRoom pointer.0 3 }
     ensures { Emits body.old body.new (one_code (world_of program.now) (shape_tree element.now) pointer.0) }
 {
     lower_below(body, pointer);
-    let bounds = body.raising(Kind::ArrayBounds);
+    let bounds = body.raising(Kind::ArrayBounds, at);
     lower_reached(program, element, body, pointer, pointer, bounds);
 }
 
@@ -231,12 +245,13 @@ fn lower_several(
     body: &mut Body<'_>,
     pointer: Temporary,
     least: u32,
+    at: Origin,
 )
     requires room { HasRoom pointer.0 3 }
     ensures { Emits body.old body.new (several_code (world_of program.now) least (shape_tree element.now) pointer.0) }
 {
     let index = behind(pointer, 2);
-    lower_remaining(body, pointer, least);
+    lower_remaining(body, pointer, least, at);
     lower_moved(program, element, body, pointer, pointer, index);
 }
 
@@ -247,14 +262,15 @@ fn lower_enough(
     body: &mut Body<'_>,
     pointer: Temporary,
     least: u32,
+    at: Origin,
 )
     requires room { HasRoom pointer.0 3 }
     ensures { Emits body.old body.new (enough_code (world_of program.now) least (shape_tree element.now) pointer.0) }
 {
     if least == 1 {
-        lower_one(program, element, body, pointer);
+        lower_one(program, element, body, pointer, at);
     } else {
-        lower_several(program, element, body, pointer, least);
+        lower_several(program, element, body, pointer, least, at);
     }
 }
 
@@ -265,13 +281,14 @@ fn lower_unless_null(
     body: &mut Body<'_>,
     pointer: Temporary,
     least: u32,
+    at: Origin,
 )
     requires room { HasRoom pointer.0 3 }
     ensures { Emits body.old body.new
         (core.If pointer.0 (all_of (enough_code (world_of program.now) least (shape_tree element.now) pointer.0)) core.NoStatements ∷ []) }
 {
     let outer = body.begin();
-    lower_enough(program, element, body, pointer, least);
+    lower_enough(program, element, body, pointer, least, at);
     let these = body.end(outer);
     body.branch(pointer, these, Vec::new(body.alloc));
 }
@@ -284,16 +301,17 @@ pub fn lower_to_thin(
     element: &Shape<'_>,
     body: &mut Body<'_>,
     pointer: Temporary,
+    at: Origin,
 )
     requires room { HasRoom pointer.0 3 }
     ensures { Emits body.old body.new (to_thin_code (world_of program.now) (reach_tree bound) (shape_tree element.now) pointer.0) }
 {
     let least = bound.count();
     match bound {
-        Reach::MayBeNull(_) => lower_unless_null(program, element, body, pointer, least),
+        Reach::MayBeNull(_) => lower_unless_null(program, element, body, pointer, least, at),
         Reach::NeverNull(_) => {
-            body.raise_unless(pointer, Kind::NullException);
-            lower_enough(program, element, body, pointer, least);
+            body.raise_unless(pointer, Kind::NullException, at);
+            lower_enough(program, element, body, pointer, least, at);
         }
     }
 }

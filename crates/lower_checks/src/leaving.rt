@@ -19,7 +19,7 @@ use crate::expression::lower_expression;
 use crate::scope::Scope;
 use crate::shape::Shape;
 use crate::values::lower_conversion;
-use cyc_core::{Operation, Statement, Temporary};
+use cyc_core::{Operation, Origin, Statement, Temporary};
 use cyc_tree::{Declaration, Expression};
 
 /// The regions around a statement: how many of its function are in scope, whose handles are in the first temporaries, how many of these
@@ -215,7 +215,7 @@ pub fn lower_return<'p>(
 {
     let to = around.value();
     let from = lower_expression(scope, value, body, to);
-    lower_conversion(scope.program, body, shape, &from, to);
+    lower_conversion(scope.program, body, shape, &from, to, Origin(value.place()));
     lower_leaving(body, opened, around.all, around.all);
     lower_result(body, shape, to);
 }

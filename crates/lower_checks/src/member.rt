@@ -29,7 +29,7 @@ use crate::sizes::{count, extent};
 use crate::subscript::lower_subscripted;
 use crate::table::Table;
 use crate::words::lower_loads;
-use cyc_core::{Operation, Temporary};
+use cyc_core::{Operation, Origin, Temporary};
 use cyc_tree::{Member, Suffix};
 
 /// What lies so many cells and bytes from where a pointer leads, and its shape.
@@ -170,6 +170,7 @@ pub fn lower_arrow<'p>(
     name: &[u8],
     body: &mut Body<'_>,
     to: Temporary,
+    at: Origin,
 ) -> Reached<'p>
     requires room { HasRoom to.0 2 }
     requires taken { let w = world_of program.now in IsSound body.old → IsObject w.unions w.structs (member_shape w (pointee (shape_tree shape.now)) name.now) }
@@ -178,7 +179,7 @@ pub fn lower_arrow<'p>(
         reached_place result ≡ member_place (world_of program.now) (place_at_once (pointee (shape_tree shape.now))) name.now }
     ensures within { IsWithin (world_of program.now) (reached_place result) }
 {
-    lower_reach(program, shape, body, to);
+    lower_reach(program, shape, body, to, at);
     lower_dot(program, &Reached::at_once(shape.pointee()), name, body)
 }
 
@@ -215,15 +216,23 @@ fn follow_one<'p>(
         Suffix::Dot(name) => lower_dot(scope.program, reached, &name.text, body),
         Suffix::Arrow(name) => {
             lower_loads(body, reached, pointer);
-            lower_arrow(scope.program, &reached.shape, &name.text, body, pointer)
+            lower_arrow(
+                scope.program,
+                &reached.shape,
+                &name.text,
+                body,
+                pointer,
+                Origin(name.at),
+            )
         }
-        Suffix::Index(_) => {
+        Suffix::Index(index) => {
             lower_loads(body, reached, pointer);
             lower_subscripted(
                 scope.program,
                 &reached.shape,
                 body,
                 Temporary(pointer.0.saturating_sub(1)),
+                Origin(index.place()),
             );
             Reached::at_once(reached.shape.pointee())
         }

@@ -32,7 +32,7 @@ use crate::scope::Scope;
 use crate::shape::Shape;
 use crate::shaped::call_shape;
 use crate::values::{lower_conversion, lower_operator, lower_word};
-use cyc_core::Temporary;
+use cyc_core::{Origin, Temporary};
 use cyc_tree::{Expression, Link};
 
 /// Appends what applies the operators of a chain to the value in a temporary and those behind it, which has this shape; gives the result's shape.
@@ -157,7 +157,14 @@ fn lower_arguments<'p>(
         };
         let to = behind(first, words);
         let from = lower_expression(scope, argument, body, to);
-        lower_conversion(scope.program, body, shape, &from, to);
+        lower_conversion(
+            scope.program,
+            body,
+            shape,
+            &from,
+            to,
+            Origin(argument.place()),
+        );
         left = others;
         words += shape.words();
     }
@@ -172,6 +179,7 @@ pub fn lower_called<'p>(
     body: &mut Body<'p>,
     name: &'p [u8],
     to: Temporary,
+    at: Origin,
 ) -> Shape<'p>
     requires room { HasRoom to.0 (16 + argument_room (expressions_of (map expression_tree arguments.now))) }
     requires taken { IsSound body.old → TakesAll (world_in scope.now) (names_in scope.now) (expressions_of (map expression_tree arguments.now)) }
@@ -187,7 +195,7 @@ pub fn lower_called<'p>(
     match call_parameters(body.alloc, scope.program, name) {
         Ok(shapes) => {
             let words = lower_arguments(scope, arguments, body, &shapes, to);
-            lower_call(scope.program, body, name, words, to);
+            lower_call(scope.program, body, name, words, to, at);
             call_shape(scope.program, name)
         }
         Err(fault) => {

@@ -46,7 +46,7 @@ use crate::shaped::shape_of;
 use crate::subscript::lower_subscripted;
 use crate::variable::{lower_address, lower_named};
 use crate::words::lower_stores;
-use cyc_core::Temporary;
+use cyc_core::{Origin, Temporary};
 use cyc_tree::{Expression, Prefix, Suffix};
 
 /// Appends what writes the value in a temporary and those behind it to a place: a variable, a member, or what a pointer leads to, in
@@ -74,8 +74,8 @@ pub fn lower_put<'p>(
             let reached = lower_suffixed(scope, place, body, at);
             lower_stores(body, &reached, at, from);
         }
-        Expression::Prefixed(_, Prefix::Dereference, operand) => {
-            lower_through(scope, operand, body, from)
+        Expression::Prefixed(at, Prefix::Dereference, operand) => {
+            lower_through(scope, operand, body, from, Origin(*at))
         }
         _ => body.never(),
     }
@@ -88,6 +88,7 @@ fn lower_through<'p>(
     pointer: &'p Expression,
     body: &mut Body<'p>,
     from: Temporary,
+    star: Origin,
 )
     requires room { HasRoom from.0 (16 + room (expression_tree pointer.now)) }
     requires taken { IsSound body.old → Takes (world_in scope.now) (names_in scope.now) (expression_tree pointer.now) }
@@ -101,7 +102,7 @@ fn lower_through<'p>(
 {
     let of = body.known(shape_of(scope, pointer)).pointee();
     let at = behind(from, of.words());
-    let shape = lower_pointer(scope, pointer, body, at);
+    let shape = lower_pointer(scope, pointer, body, at, star);
     lower_stores(body, &Reached::at_once(shape), at, from);
 }
 
@@ -113,6 +114,7 @@ pub fn lower_pointer<'p>(
     pointer: &'p Expression,
     body: &mut Body<'p>,
     to: Temporary,
+    at: Origin,
 ) -> Shape<'p>
     requires room { HasRoom to.0 (3 + room (expression_tree pointer.now)) }
     requires taken { IsSound body.old → Takes (world_in scope.now) (names_in scope.now) (expression_tree pointer.now) }
@@ -125,7 +127,7 @@ pub fn lower_pointer<'p>(
         shape_tree result ≡ pointee (static_shape (world_in scope.now) (names_in scope.now) (expression_tree pointer.entry.now)) }
 {
     let shape = lower_expression(scope, pointer, body, to);
-    lower_reach(scope.program, &shape, body, to);
+    lower_reach(scope.program, &shape, body, to, at);
     shape.pointee()
 }
 
@@ -155,8 +157,8 @@ pub fn lower_place<'p>(
             lower_pointed(body, &reached, to);
             reached.shape
         }
-        Expression::Prefixed(_, Prefix::Dereference, operand) => {
-            lower_pointer(scope, operand, body, to)
+        Expression::Prefixed(at, Prefix::Dereference, operand) => {
+            lower_pointer(scope, operand, body, to, Origin(*at))
         }
         _ => {
             body.never();
@@ -251,15 +253,16 @@ fn lower_first<'p>(
         }
         Suffix::Arrow(name) => {
             let shape = lower_expression(scope, primary, body, to);
-            lower_arrow(scope.program, &shape, &name.text, body, to)
+            lower_arrow(scope.program, &shape, &name.text, body, to, Origin(name.at))
         }
-        Suffix::Index(_) => {
+        Suffix::Index(index) => {
             let shape = lower_expression(scope, primary, body, to);
             lower_subscripted(
                 scope.program,
                 &shape,
                 body,
                 Temporary(to.0.saturating_sub(1)),
+                Origin(index.place()),
             );
             Reached::at_once(shape.pointee())
         }

@@ -12,7 +12,7 @@ use crate::names::behind;
 use crate::shape::{Reach, Shape};
 use crate::table::Table;
 use crate::values::lower_check;
-use cyc_core::{Binary, Operation, Temporary};
+use cyc_core::{Binary, Operation, Origin, Temporary};
 use cyc_words::Kind;
 
 /// Appends what leaves a pointer to the element of a shape in the temporary of its subscript, where the next one has a thin pointer of a
@@ -23,6 +23,7 @@ fn lower_bound(
     element: &Shape<'_>,
     body: &mut Body<'_>,
     subscript: Temporary,
+    at: Origin,
 )
     requires room { HasRoom subscript.0 2 }
     ensures { Emits body.old body.new (bound_code (world_of program.now) (reach_tree bound) (shape_tree element.now) subscript.0) }
@@ -32,7 +33,7 @@ fn lower_bound(
     let below = behind(subscript, 2);
     body.operation(Operation::Constant(below, count));
     body.operation(Operation::Apply(Binary::LessUnsigned, below, subscript, below));
-    body.raise_unless(below, Kind::ArrayBounds);
+    body.raise_unless(below, Kind::ArrayBounds, at);
     lower_moved(program, element, body, subscript, pointer, subscript);
 }
 
@@ -43,6 +44,7 @@ pub fn lower_subscripted(
     shape: &Shape<'_>,
     body: &mut Body<'_>,
     subscript: Temporary,
+    at: Origin,
 )
     requires room { HasRoom subscript.0 3 }
     ensures { Emits body.old body.new (subscript_code (world_of program.now) (shape_tree shape.now) subscript.0) }
@@ -51,12 +53,12 @@ pub fn lower_subscripted(
     match shape {
         Shape::Thin(bound, _, _) => {
             let pointer = behind(subscript, 1);
-            lower_check(body, shape, pointer);
-            lower_bound(program, *bound, &element, body, subscript);
+            lower_check(body, shape, pointer, at);
+            lower_bound(program, *bound, &element, body, subscript, at);
         }
         Shape::Address(_, _, _) => {
-            lower_bound(program, Reach::NeverNull(1), &element, body, subscript);
+            lower_bound(program, Reach::NeverNull(1), &element, body, subscript, at);
         }
-        _ => lower_index(program, &element, body, subscript),
+        _ => lower_index(program, &element, body, subscript, at),
     }
 }

@@ -89,8 +89,10 @@ fn of_statement(statement: &Statement) -> u64
         Statement::RegionAlloc(to, handle, count, _) => {
             u64::max(up_to(*to), u64::max(up_to(*handle), up_to(*count)))
         }
-        Statement::Break | Statement::Continue | Statement::Raise(_) => 0,
-        Statement::Call(result, _, arguments) => { u64::max(up_to_value(*result), last(arguments)) }
+        Statement::Break | Statement::Continue | Statement::Raise(_, _) => 0,
+        Statement::Call(result, _, arguments, _) => {
+            u64::max(up_to_value(*result), last(arguments))
+        }
         Statement::Return(value) => up_to_value(*value),
     }
 }
@@ -116,7 +118,7 @@ fn passed_in(statement: &Statement) -> usize
         Statement::If(_, these, those) => usize::max(passed(these), passed(those)),
         Statement::While(test, _, body) => usize::max(passed(test), passed(body)),
         Statement::Block(_, body) | Statement::Leave(body) => passed(body),
-        Statement::Call(_, _, arguments) => arguments.len(),
+        Statement::Call(_, _, arguments, _) => arguments.len(),
         Statement::Do(_)
         | Statement::Copy(..)
         | Statement::Clear(..)
@@ -125,7 +127,7 @@ fn passed_in(statement: &Statement) -> usize
         | Statement::Break
         | Statement::Continue
         | Statement::Return(_)
-        | Statement::Raise(_) => 0,
+        | Statement::Raise(..) => 0,
     }
 }
 

@@ -16,7 +16,7 @@ use crate::names::behind;
 use crate::operator::applied;
 use crate::shape::{Reach, Shape};
 use crate::table::Table;
-use cyc_core::{Binary, Operation, Temporary};
+use cyc_core::{Binary, Operation, Origin, Temporary};
 use cyc_tree::Operator;
 use cyc_words::Kind;
 
@@ -126,11 +126,13 @@ pub fn lower_operator(
 }
 
 /// Appends what raises where a value of a shape that may be NULL is NULL.
-pub fn lower_check(body: &mut Body<'_>, shape: &Shape<'_>, value: Temporary)
+pub fn lower_check(body: &mut Body<'_>, shape: &Shape<'_>, value: Temporary, at: Origin)
     ensures { Emits body.old body.new (check_code (shape_tree shape.now) value.0) }
 {
     match shape {
-        Shape::Thin(Reach::MayBeNull(_), _, _) => body.raise_unless(value, Kind::NullException),
+        Shape::Thin(Reach::MayBeNull(_), _, _) => {
+            body.raise_unless(value, Kind::NullException, at)
+        }
         _ => {}
     }
 }
@@ -144,15 +146,16 @@ fn lower_thinned(
     element: &Shape<'_>,
     from: &Shape<'_>,
     value: Temporary,
+    at: Origin,
 )
     requires room { HasRoom value.0 3 }
     ensures { Emits body.old body.new (thinned_code (world_of program.now) (reach_tree bound) (shape_tree element.now) (shape_tree from.now) value.0) }
 {
     match from {
-        Shape::Fat(_) => lower_to_thin(program, bound, element, body, value),
+        Shape::Fat(_) => lower_to_thin(program, bound, element, body, value, at),
         _ => match bound {
             Reach::MayBeNull(_) => {}
-            Reach::NeverNull(_) => lower_check(body, from, value),
+            Reach::NeverNull(_) => lower_check(body, from, value, at),
         },
     }
 }
@@ -164,6 +167,7 @@ pub fn lower_conversion(
     to: &Shape<'_>,
     from: &Shape<'_>,
     value: Temporary,
+    at: Origin,
 )
     requires room { HasRoom value.0 3 }
     ensures { Emits body.old body.new (conversion_code (world_of program.now) (shape_tree to.now) (shape_tree from.now) value.0) }
@@ -174,7 +178,7 @@ pub fn lower_conversion(
             _ => body.operation(Operation::Narrow(value, value)),
         },
         Shape::Thin(bound, _, element) => {
-            lower_thinned(program, body, *bound, &element.shape(), from, value)
+            lower_thinned(program, body, *bound, &element.shape(), from, value, at)
         }
         Shape::Address(_, _, _) => {
             lower_thinned(
@@ -184,6 +188,7 @@ pub fn lower_conversion(
                 &to.pointee(),
                 from,
                 value,
+                at,
             )
         }
         Shape::Fat(_) => lower_to_fat(body, from, value),

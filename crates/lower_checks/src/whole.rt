@@ -55,7 +55,7 @@ use crate::table::Table;
 use crate::unions::member_named;
 use crate::values::lower_conversion;
 use crate::words::{lower_held_stores, lower_set_tag, lower_stores};
-use cyc_core::{Operation, Temporary};
+use cyc_core::{Operation, Origin, Temporary};
 use cyc_tree::{Expression, Member, Prefix};
 
 /// Where a member goes: so many cells and bytes from where the pointer in a temporary leads.
@@ -104,6 +104,7 @@ fn lower_word_member(
     from: &Shape<'_>,
     body: &mut Body<'_>,
     slot: Slot,
+    at: Origin,
 )
     requires room { rooms.HasRoom slot.to.0 4 }
     requires near { slot.bytes ≤ 4096 }
@@ -111,7 +112,7 @@ fn lower_word_member(
         (word_member_code (world_of program.now) (shape_tree shape.now) (shape_tree from.now) slot.to.0 slot.cells slot.bytes) }
 {
     let value = behind(slot.to, 1);
-    lower_conversion(program, body, shape, from, value);
+    lower_conversion(program, body, shape, from, value, at);
     let reached = Reached {
         shape: *shape,
         cells: slot.cells,
@@ -214,6 +215,7 @@ fn lower_held(
     from: &Shape<'_>,
     body: &mut Body<'_>,
     to: Temporary,
+    at: Origin,
 )
     requires room { rooms.HasRoom to.0 4 }
     requires few { length members.now < 2 ^ 32 }
@@ -226,7 +228,7 @@ fn lower_held(
         Some(chosen) => {
             let value = behind(to, 1);
             let free = behind(value, chosen.shape.words());
-            lower_conversion(program, body, &chosen.shape, from, value);
+            lower_conversion(program, body, &chosen.shape, from, value, at);
             lower_set_tag(body, to, free, chosen.number);
             lower_held_stores(body, &chosen.shape, to, value);
         }
@@ -265,7 +267,15 @@ fn lower_union<'p>(
             body.operation(Operation::OwnAddress(to, own));
             let next = behind(to, 1);
             let from = lower_expression(scope, value, body, next);
-            lower_held(scope.program, known.members, member, &from, body, to);
+            lower_held(
+                scope.program,
+                known.members,
+                member,
+                &from,
+                body,
+                to,
+                Origin(value.place()),
+            );
         }
         None => body.never(),
     }
@@ -343,7 +353,14 @@ fn lower_member<'p>(
         }
         _ => {
             let from = lower_expression(scope, argument, body, next);
-            lower_word_member(scope.program, shape, &from, body, slot);
+            lower_word_member(
+                scope.program,
+                shape,
+                &from,
+                body,
+                slot,
+                Origin(argument.place()),
+            );
         }
     }
 }

@@ -5,6 +5,7 @@ use Rattle.std.specs.declared.vec.Vec.{Vec}
 use Rattle.std.specs.declared.alloc.Global.{Global}
 use Rattle.core_meaning.specs.Core as core
 use Rattle.cyc_core.specs.Trees.{body_tree, local_tree, operation_tree, optional_tree, statement_step, statement_tree, temporary_tree}
+use Rattle.cyc_core.specs.declared.statement.Origin.{Origin}
 use Rattle.cyc_core.specs.declared.statement.Statement as code
 use Rattle.cyc_core.specs.declared.statement.Statement.TheVariants as form
 use Rattle.cyc_core.specs.declared.statement.Statement.TheOpen.{Statement-F}
@@ -37,10 +38,10 @@ block_tree locals body =
 pub leave_tree : (body : Body) → statement_tree (form.Leave body) ≡ core.Leave (body_tree body.items)
 leave_tree body = ap statement_tree (sym (form.rolls-Leave body)) ∙ fold-roll-Statement core.Statement statement_step (Statement-F.Leave body)
 
-pub call_tree : (result : Option Words) (f : ℕ) (arguments : Vec Temporary Global) → statement_tree (form.Call result f arguments)
+pub call_tree : (result : Option Words) (f : ℕ) (arguments : Vec Temporary Global) (at : Origin) → statement_tree (form.Call result f arguments at)
     ≡ core.Call (optional_tree result) f (map temporary_tree arguments.items)
-call_tree result f arguments =
-    ap statement_tree (sym (form.rolls-Call result f arguments)) ∙ fold-roll-Statement core.Statement statement_step (Statement-F.Call result f arguments)
+call_tree result f arguments at =
+    ap statement_tree (sym (form.rolls-Call result f arguments at)) ∙ fold-roll-Statement core.Statement statement_step (Statement-F.Call result f arguments at)
 
 pub return_tree : (value : Option Words) → statement_tree (form.Return value) ≡ core.Return (optional_tree value)
 return_tree value = ap statement_tree (sym (form.rolls-Return value)) ∙ fold-roll-Statement core.Statement statement_step (Statement-F.Return value)

@@ -68,11 +68,11 @@ fn live_statement(
         Statement::Leave(body) => live_leavable(saves, place, live, again, body),
         Statement::Break => live_jump(live, out),
         Statement::Continue => live_jump(live, again),
-        Statement::Call(results, _, arguments) => {
+        Statement::Call(results, _, arguments, _) => {
             live_call(saves, &place.held, live, *results, arguments)
         }
         Statement::Return(value) => live_return(place, live, *value),
-        Statement::Raise(_) => live_end(place, live),
+        Statement::Raise(..) => live_end(place, live),
     }
 }
 

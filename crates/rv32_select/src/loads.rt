@@ -147,7 +147,7 @@ pub fn flag_statement(
             flag_operation(flags, &place.held, *operation);
             return hold_behind(place, *operation);
         }
-        Statement::Call(results, _, arguments) => {
+        Statement::Call(results, _, arguments, _) => {
             flag_arguments(flags, &place.held, arguments);
             return hold_called(place, *results);
         }
@@ -165,8 +165,10 @@ pub fn flag_statement(
             set_flag(flags, *second, true);
         }
         Statement::Clear(pointer, _, _) => set_flag(flags, *pointer, true),
-        Statement::UniqueAlloc(..) | Statement::Break | Statement::Continue | Statement::Raise(_) =>
-            {}
+        Statement::UniqueAlloc(..)
+        | Statement::Break
+        | Statement::Continue
+        | Statement::Raise(..) => {}
     }
     place.held.forget();
     Ok(())

@@ -12,7 +12,7 @@ fn raises(statement: &Statement) -> bool
     ensures { result ≡ raises (statement_tree statement.now) }
 {
     match statement {
-        Statement::Raise(_) => true,
+        Statement::Raise(..) => true,
         Statement::If(_, these, those) => raises_only(these) && raises_only(those),
         _ => false,
     }

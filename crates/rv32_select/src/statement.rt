@@ -217,7 +217,7 @@ fn put_statement(
         Statement::Leave(body) => return put_leavable(lines, place, next, ways, body),
         Statement::Break => put_lines(lines, &[Line::Jump(ways.out)])?,
         Statement::Continue => put_lines(lines, &[Line::Jump(ways.again)])?,
-        Statement::Call(result, function, arguments) => {
+        Statement::Call(result, function, arguments, _) => {
             put_called(lines, place, *result, *function, arguments)?;
             return Ok(next);
         }
@@ -225,7 +225,7 @@ fn put_statement(
             put_return(lines, place, *value)?;
             return Ok(next);
         }
-        Statement::Raise(kind) => put_raise(lines, *kind)?,
+        Statement::Raise(kind, _) => put_raise(lines, *kind)?,
     }
     place.held.forget();
     Ok(next)

@@ -2,7 +2,7 @@
 
 use crate::evaluator::rows::{Row, operation_of};
 use crate::evaluator::words::{Shape, Verb, Word};
-use cyc_core::{Cell, CellLayout, Datum, Layout, Local, Statement, Temporary, Words};
+use cyc_core::{Cell, CellLayout, Datum, Layout, Local, Origin, Statement, Temporary, Words};
 use std::alloc::Global;
 use std::rc::Rc;
 
@@ -89,7 +89,7 @@ fn plain_statement(row: Row) -> Option<Statement> {
         Word::Break => Some(Statement::Break),
         Word::Continue => Some(Statement::Continue),
         Word::Return => Some(Statement::Return(words_of([first, second, third], row.count))),
-        Word::Raise(kind) => Some(Statement::Raise(kind)),
+        Word::Raise(kind) => Some(Statement::Raise(kind, Origin(0))),
         _ => Some(Statement::Do(operation_of(row)?)),
     }
 }

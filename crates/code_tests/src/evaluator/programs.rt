@@ -8,7 +8,7 @@
 use crate::evaluator::parts::{datum_of, local_of, statement_of, words_of};
 use crate::evaluator::rows::{Row, row_of};
 use crate::evaluator::words::Word;
-use cyc_core::{Datum, Function, Local, Program, Statement, Temporary};
+use cyc_core::{Datum, Function, Local, Origin, Program, Statement, Temporary};
 use std::alloc::Global;
 use std::mem;
 
@@ -113,7 +113,7 @@ impl Reader {
         let [function, first, second, third, _] = row.numbers;
         let results = words_of([first, second, third], row.count.saturating_sub(1));
         let passed = mem::replace(&mut self.passed, Vec::new(self.alloc));
-        self.add(Statement::Call(results, function as usize, passed))
+        self.add(Statement::Call(results, function as usize, passed, Origin(0)))
     }
 
     fn part(&mut self, row: Row) -> Option<()> {

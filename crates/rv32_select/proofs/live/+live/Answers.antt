@@ -373,7 +373,7 @@ live_statement-returns-in-Call-clause-saves t c =
     let u = surroundings a.place.now in
     subst (λ (s : Statement). OnOk c.live_call.result (c.live_call.new.saves.items ≡ a.saves.now.items
     ++ reverse (saves_in u.homes u.statics u.names u.held a.live.now.items a.out.now a.again.now s)))
-    (sym (ap statement_tree x.is ∙ call_tree x.results _ x.arguments)) c.live_call.ensures.saves
+    (sym (ap statement_tree x.is ∙ call_tree x.results _ x.arguments _)) c.live_call.ensures.saves
 
 pub live_statement-returns-in-Call-clause-live : goal.live_statement-returns-in-Call-clause-live
 live_statement-returns-in-Call-clause-live t c =
@@ -382,7 +382,7 @@ live_statement-returns-in-Call-clause-live t c =
     let u = surroundings a.place.now in
     subst (λ (s : Statement). OnOk c.live_call.result (c.live_call.new.live.items
     ≡ live_in u.homes u.statics u.names u.held a.live.now.items a.out.now a.again.now s))
-    (sym (ap statement_tree x.is ∙ call_tree x.results _ x.arguments))
+    (sym (ap statement_tree x.is ∙ call_tree x.results _ x.arguments _))
     (subst (λ (ts : List Temporary). OnOk c.live_call.result (c.live_call.new.live.items
     ≡ all_flagged true (unknown_in u.held (map temporary_tree ts)) (all_flagged false (optional_tree x.results) a.live.now.items)))
     c.deref-in-Call.ensures.value c.live_call.ensures.live)

@@ -131,7 +131,7 @@ put_statement-returns-in-Call t c =
     done_as a.lines.now.items c.put_called.new.lines.items (saves_left a.place.now) (saves_left c.put_called.new.place) (surroundings a.place.now)
     (surroundings c.put_called.new.place) a.next a.ways.out a.ways.again (Call (optional_tree x.result) x.function (map temporary_tree arguments))
     (statement_tree a.statement.now)
-    (ap statement_tree x.is ∙ call_tree x.result x.function x.arguments
+    (ap statement_tree x.is ∙ call_tree x.result x.function x.arguments _
     ∙ ap (λ ts. Call (optional_tree x.result) x.function (map temporary_tree ts)) (sym c.deref-in-Call.ensures.value))
     record {
       code = put.code;
@@ -305,7 +305,7 @@ put_statement-returns t c =
       | put_statement-in-Raise+in_ok-put_raise-in-Raise w ↦
           let x = w.in-Raise in
           done (Raise x.kind)
-          (ap statement_tree (x.is ∙ sym (form.rolls-Raise x.kind)) ∙ fold-roll-Statement Statement statement_step (Statement-F.Raise x.kind))
+          (ap statement_tree (x.is ∙ sym (form.rolls-Raise x.kind _)) ∙ fold-roll-Statement Statement statement_step (Statement-F.Raise x.kind _))
           (ap items w.lines-is ∙ w.in_ok-put_raise-in-Raise.ensures) free (same (ap surroundings w.place-is)) (ap saves_left w.place-is)
     ]
 

@@ -15,7 +15,7 @@ pub fn can_complete(statement: &Statement) -> bool
     match statement {
         Statement::If(_, these, those) => can_complete_all(these) || can_complete_all(those),
         Statement::Block(_, body) => can_complete_all(body),
-        Statement::Break | Statement::Continue | Statement::Return(_) | Statement::Raise(_) => {
+        Statement::Break | Statement::Continue | Statement::Return(_) | Statement::Raise(_, _) => {
             false
         }
         _ => true,

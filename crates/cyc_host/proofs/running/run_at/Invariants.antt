@@ -3,7 +3,7 @@ use Rattle.rv32_machine.specs.Arrays.{areas_of, arrays, state_of}
 use Rattle.rv32_machine.specs.State.{Runs}
 use Rattle.rv32_machine.specs.Served.{lacks}
 use Rattle.cyc_host.proofs.Progress.{Progress}
-use Rattle.cyc_host.proofs.running.run.Given as goal
+use Rattle.cyc_host.proofs.running.run_at.Given as goal
 
 abbrev pub invariant-steps : goal.invariant-steps
 invariant-steps g l =

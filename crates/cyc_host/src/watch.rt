@@ -1,0 +1,185 @@
+// What is seen of a run: counts of what it executed, and its active calls.
+
+use crate::pace::Pace;
+use cyc_arena::BlockStore;
+use rv32_machine::{CODE_BASE, Machine};
+use std::alloc::{AllocError, Global};
+
+/// The lowest twelve bits of `jal x1`, which calls.
+const CALL: u32 = 0x0ef;
+
+/// The word of `jalr x0, x1, 0`, which returns.
+const RETURN: u32 = 0x0000_8067;
+
+/// The word of ECALL.
+const REQUEST: u32 = 0x0000_0073;
+
+/// How many numbers of requests there are.
+const REQUESTS: usize = 14;
+
+/// An instruction, and what the registers held before it was executed.
+#[derive(Clone, Copy, Debug)]
+pub struct Seen {
+    /// Its address.
+    pub pc: u32,
+    /// Its word; 0 outside the code.
+    pub word: u32,
+    /// The stack pointer, x2.
+    pub stack: u32,
+    /// The number of a request, x17.
+    pub number: u32,
+    /// The arguments of a request, x10 and x11.
+    pub arguments: (u32, u32),
+}
+
+impl Seen {
+    /// What a machine with this code executes next.
+    fn of<S: BlockStore>(machine: &Machine<S>, code: &[u8]) -> Seen {
+        let pc = machine.pc();
+        Seen {
+            pc,
+            word: word_at(code, pc),
+            stack: machine.reg(2),
+            number: machine.reg(17),
+            arguments: (machine.reg(10), machine.reg(11)),
+        }
+    }
+}
+
+/// The word at an address of the code; 0 outside it.
+fn word_at(code: &[u8], address: u32) -> u32 {
+    let offset = address.wrapping_sub(CODE_BASE) as usize;
+    match code.get(offset..) {
+        Some([first, second, third, fourth, ..]) => {
+            u32::from_le_bytes([*first, *second, *third, *fourth])
+        }
+        _ => 0,
+    }
+}
+
+/// What was seen of a run. Each count stays at the greatest u64.
+#[derive(Drop)]
+pub struct Watch {
+    code: Vec<u8>,
+    steps: u64,
+    calls: u64,
+    requests: [u64; REQUESTS],
+    highest: u32,
+    lowest: u32,
+    active: Vec<u32>,
+    unkept: u64,
+    last: Seen,
+}
+
+impl Watch {
+    /// Nothing of a run of this code was seen.
+    pub fn new(alloc: Global, code: &[u8]) -> Result<Watch, AllocError> {
+        Ok(Watch {
+            code: Vec::from_slice(alloc, code)?,
+            steps: 0,
+            calls: 0,
+            requests: [0; REQUESTS],
+            highest: 0,
+            lowest: u32::MAX,
+            active: Vec::new(alloc),
+            unkept: 0,
+            last: Seen {
+                pc: CODE_BASE,
+                word: 0,
+                stack: u32::MAX,
+                number: 0,
+                arguments: (0, 0),
+            },
+        })
+    }
+
+    /// The code.
+    pub fn code(&self) -> &[u8] {
+        &self.code
+    }
+
+    /// How many instructions were executed, with the last one, also if the machine stopped there.
+    pub fn steps(&self) -> u64 {
+        self.steps
+    }
+
+    /// How many calls were made.
+    pub fn calls(&self) -> u64 {
+        self.calls
+    }
+
+    /// How many requests of this number were made; 0 of another number than 0 to 13.
+    pub fn requests(&self, number: u32) -> u64 {
+        match self.requests.get(number as usize) {
+            Some(count) => *count,
+            None => 0,
+        }
+    }
+
+    /// How many bytes the stack had at its deepest: the stack pointer's greatest value less its least one.
+    pub fn deepest(&self) -> u32 {
+        self.highest.saturating_sub(self.lowest)
+    }
+
+    /// The addresses of the active calls, the innermost last. `unkept` more stand inside them.
+    pub fn active(&self) -> &[u32] {
+        &self.active
+    }
+
+    /// How many of the active calls have no address in `active`, since no host memory was left.
+    pub fn unkept(&self) -> u64 {
+        self.unkept
+    }
+
+    /// The last instruction.
+    pub fn last(&self) -> Seen {
+        self.last
+    }
+
+    /// Enters a call.
+    fn enter(&mut self, pc: u32) {
+        self.calls = self.calls.saturating_add(1);
+        if self.unkept > 0 || self.active.push(pc).is_err() {
+            self.unkept = self.unkept.saturating_add(1);
+        }
+    }
+
+    /// Leaves the innermost active call.
+    fn leave(&mut self) {
+        if self.unkept > 0 {
+            self.unkept -= 1;
+        } else {
+            self.active.pop();
+        }
+    }
+
+    /// Counts a request.
+    fn request(&mut self, number: u32) {
+        if let Some(count) = self.requests.get_mut(number as usize) {
+            *count = count.saturating_add(1);
+        }
+    }
+
+    /// Takes in an instruction that is to be executed.
+    fn see(&mut self, seen: Seen) {
+        self.steps = self.steps.saturating_add(1);
+        self.highest = self.highest.max(seen.stack);
+        self.lowest = self.lowest.min(seen.stack);
+        match seen.word {
+            RETURN => self.leave(),
+            REQUEST => self.request(seen.number),
+            word if word & 0xfff == CALL => self.enter(seen.pc),
+            _ => {}
+        }
+        self.last = seen;
+    }
+}
+
+impl Pace for Watch {
+    /// Takes in the next instruction, and goes no step ahead.
+    fn advance<S: BlockStore>(&mut self, machine: &mut Machine<S>, _limit: u64) -> u64 {
+        let seen = Seen::of(machine, &self.code);
+        self.see(seen);
+        0
+    }
+}

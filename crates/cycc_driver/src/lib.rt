@@ -2,7 +2,8 @@
 //!
 //! `front` gives the accepted program of a text, `check` says whether there is one, `compile` gives its image, `execute`
 //! runs it between a reader and a writer, and `evaluate` runs it by the meaning of its source. Each refuses with the first
-//! fault of the first phase that has one, by line and column.
+//! fault of the first phase that has one, by line and column. `execute_watched` does as `execute`, and says what was seen of
+//! the run.
 //! Stands on all layers.
 #![tactic(auto)]
 
@@ -10,8 +11,10 @@ mod compiling;
 mod evaluating;
 mod executing;
 mod fault;
+mod watching;
 
 pub use compiling::{accepted_or_refused, check, compile, front, one_fault};
 pub use evaluating::evaluate;
 pub use executing::{Limits, execute};
 pub use fault::{CompileFault, Place};
+pub use watching::{Watched, execute_watched};

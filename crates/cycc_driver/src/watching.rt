@@ -1,0 +1,70 @@
+// Runs of a text that are watched.
+
+ghost use Rattle.std.specs.Prelude.{◌≡◌, ◌≢◌, ◌≤◌, IfOk, IfErr};
+ghost use Rattle.cyc_host.specs.Failures.{reads_failed, writes_failed};
+ghost use Rattle.cycc_driver.specs.Refusals.{HasNoImageFor};
+ghost use Rattle.cycc_driver.specs.Outcome.{IsTextRun};
+
+use crate::compiling::compile;
+use crate::executing::Limits;
+use crate::fault::CompileFault;
+use cyc_arena::PagedStore;
+use cyc_host::{Ending, Watch, run_watched};
+use cyc_image::{ImageFault, load};
+use cyc_words::{Input, Output};
+use raw_pages::PagesFault;
+use rv32_machine::Machine;
+use std::alloc::Global;
+
+/// How a run ended, and what was seen of it.
+#[derive(Drop)]
+pub struct Watched {
+    pub ending: Ending,
+    pub watch: Watch,
+}
+
+/// Compiles a text and runs its image as `execute` does, one step at a time, and says what was seen of the run. Takes memory for the watch
+/// also while it runs; where none is left for the address of a call, only that address is lost.
+pub fn execute_watched<R: Input, W: Output>(
+    alloc: Global,
+    text: &[u8],
+    reader: &mut R,
+    writer: &mut W,
+    limits: Limits,
+) -> Result<Watched, CompileFault>
+    requires some { 1 ≤ limits.pages }
+    requires within { limits.pages ≤ 4096 }
+    requires some_stack { 1 ≤ limits.stack_pages }
+    requires stack_within { limits.stack_pages ≤ 4096 }
+    // what is written is the program's output on the bytes that the reader gave, and the ending is its; or the run was stopped after a beginning of it
+    ensures run { IfOk result (λ watched. IsTextRun text.now limits.pages limits.stack_pages limits.steps watched.ending
+        (R.remaining reader.old) (R.remaining reader.new) (W.contents writer.old) (W.contents writer.new)) }
+    // a run that has begun lacks no host memory
+    ensures memory { IfOk result (λ watched. watched.ending ≢ Ending.HostMemory) }
+    // a device's fault comes where just one call of that device failed, and any other ending where none did
+    ensures reads { IfOk result (λ watched. R.fault_count reader.new ≡ reads_failed watched.ending (R.fault_count reader.old)) }
+    ensures writes { IfOk result (λ watched. W.fault_count writer.new ≡ writes_failed watched.ending (W.fault_count writer.old)) }
+    // the fault is that of `compile`, and nothing was read or written
+    ensures refused { IfErr result (λ fault. HasNoImageFor fault text.now) }
+    ensures untouched { IfErr result (λ _. (reader.new ≡ reader.old) × (writer.new ≡ writer.old)) }
+{
+    let bytes = compile(alloc, text, limits.pages, limits.stack_pages)?;
+    let image = match load(alloc, &bytes) {
+        Ok(image) => image,
+        Err(ImageFault::Memory) => return Err(CompileFault::Memory),
+        Err(_) => unreachable!(),
+    };
+    let store = match PagedStore::new(alloc, limits.pages) {
+        Ok(store) => store,
+        Err(PagesFault::Memory) => return Err(CompileFault::Memory),
+        Err(PagesFault::Pages) => unreachable!(),
+    };
+    let Ok(mut machine) = Machine::new(alloc, &image, store) else {
+        return Err(CompileFault::Memory);
+    };
+    let Ok(mut watch) = Watch::new(alloc, image.code()) else {
+        return Err(CompileFault::Memory);
+    };
+    let ending = run_watched(&mut machine, &mut watch, reader, writer, limits.steps);
+    Ok(Watched { ending, watch })
+}

@@ -74,7 +74,8 @@ fn bytes_run(
     }
 }
 
-/// What a command answers that runs an image, where the run is over a plain store; none of another command, and where nothing runs.
+/// What a command answers that runs an image, where the run is over a plain store; none of another command, of a run that is watched, and
+/// where nothing runs.
 pub fn run_over_plain(
     alloc: Global,
     command: &Command<'_>,
@@ -87,6 +88,8 @@ pub fn run_over_plain(
             stack_pages,
             steps,
             shows_ending,
+            shows_where: false,
+            shows_stats: false,
             ..
         } => match compile(alloc, source, pages.number(), stack_pages.number()) {
             Ok(bytes) => bytes_run(alloc, &bytes, given, Told::of_run(steps, shows_ending)),

@@ -69,6 +69,8 @@ pub enum Command<'a> {
         steps: u64,
         shows_ending: bool,
         shows_why: bool,
+        shows_where: bool,
+        shows_stats: bool,
     },
     /// Runs a source by its meaning, with so many units of fuel.
     Eval {

@@ -88,6 +88,20 @@ const WHY: Choice = Choice {
     takes: Takes::Nothing,
 };
 
+/// Whether it is told where a run stopped.
+const WHERE: Choice = Choice {
+    name: "where",
+    help: "Says where the run stopped, and in which calls; the run is several times slower",
+    takes: Takes::Nothing,
+};
+
+/// Whether it is told what a run took.
+const STATS: Choice = Choice {
+    name: "stats",
+    help: "Says what the run executed, called, requested and took of the stack; the run is several times slower",
+    takes: Takes::Nothing,
+};
+
 /// The name that is explained.
 const NAME: Choice = Choice {
     name: "name",
@@ -121,7 +135,7 @@ pub const COMMANDS: [Words; 7] = [
         name: "run",
         about: "Compiles a source and runs it",
         below: SOURCE_FAULTS,
-        choices: &[SOURCE, PAGES, STACK_PAGES, STEPS, ENDING, WHY],
+        choices: &[SOURCE, PAGES, STACK_PAGES, STEPS, ENDING, WHY, WHERE, STATS],
     },
     Words {
         name: "eval",

@@ -97,6 +97,8 @@ fn bounded<'a>(name: &str, input: &'a str, matches: &ArgMatches<'a>) -> Option<C
             steps,
             shows_ending,
             shows_why,
+            shows_where: matches.get_flag("where"),
+            shows_stats: matches.get_flag("stats"),
         }),
         "eval" => Some(Command::Eval {
             input,

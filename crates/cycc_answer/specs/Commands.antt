@@ -10,7 +10,7 @@ use Rattle.cycc_answer.specs.Answers.{IsChecked, IsCompiled, IsRun, IsEval, IsEx
 abbrev pub longest : Command → ℕ
 longest (command.Check input shows_why) = text_limit
 longest (command.Compile input output pages stack_pages shows_why) = text_limit
-longest (command.Run input pages stack_pages steps shows_ending shows_why) = text_limit
+longest (command.Run input pages stack_pages steps shows_ending shows_why shows_where shows_stats) = text_limit
 longest (command.Eval input fuel shows_ending shows_why) = text_limit
 longest (command.Exec input steps shows_ending) = header_length + code_limit + data_limit
 longest (command.Dump input) = header_length + code_limit + data_limit
@@ -22,7 +22,7 @@ IsAnswered (command.Check input shows_why) file reader_old reader_new writer_old
     (bytes ≡ None) × IsChecked file writer_old writer_new status
 IsAnswered (command.Compile input output pages stack_pages shows_why) file reader_old reader_new writer_old writer_new bytes status =
     IsCompiled file pages stack_pages bytes status
-IsAnswered (command.Run input pages stack_pages steps shows_ending shows_why) file reader_old reader_new writer_old writer_new bytes status =
+IsAnswered (command.Run input pages stack_pages steps shows_ending shows_why shows_where shows_stats) file reader_old reader_new writer_old writer_new bytes status =
     (bytes ≡ None) × IsRun file pages stack_pages steps reader_old reader_new writer_old writer_new status
 IsAnswered (command.Eval input fuel shows_ending shows_why) file reader_old reader_new writer_old writer_new bytes status =
     (bytes ≡ None) × IsEval file fuel reader_old reader_new writer_old writer_new status

@@ -12,6 +12,7 @@ use crate::images::{dump, exec};
 use crate::lines::Told;
 use crate::result::Answer;
 use crate::sources::{checked, compiled, interpreted, ran};
+use crate::watching::ran_watched;
 use command_line::Command;
 use cyc_words::{Input, Output};
 use cycc_driver::Limits;
@@ -78,6 +79,11 @@ pub fn answer<R: Input, W: Output, E: Write>(
                 steps,
                 stack_pages: stack_pages.number(),
             };
+            if told.is_watched() {
+                return Ok(Answer::plain(ran_watched(
+                    alloc, told, limits, file, reader, writer, faults,
+                )?));
+            }
             Ok(Answer::plain(ran(alloc, told, limits, file, reader, writer, faults)?))
         }
         Command::Eval { fuel, .. } => {

@@ -1,7 +1,7 @@
 //! What `cycc` answers to a command.
 //!
 //! `answer` does all that a command asks for but to read the words and the file and to write OUT: what is written, what is
-//! said on standard error, the exit status, and the bytes for OUT. Stands on `command_line`, `cycc_driver` and `explanations`.
+//! said on standard error, the exit status, and the bytes for OUT. Stands on `command_line`, `cycc_driver`, `traces` and `explanations`.
 #![tactic(auto)]
 
 mod answering;
@@ -10,6 +10,7 @@ mod images;
 mod lines;
 mod result;
 mod sources;
+mod watching;
 mod why;
 
 pub use answering::{answer, longest_file};

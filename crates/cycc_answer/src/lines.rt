@@ -14,40 +14,70 @@ use cycc_driver::CompileFault;
 use std::alloc::{AllocError, Global};
 use std::io::Write;
 
-/// What lines tell of a command: the path of its file, whether a run's ending is told, and whether a refusal is told in more
-/// than its line.
+/// What lines tell of a command: the path of its file, whether a run's ending is told, whether a refusal is told in more than its line, and
+/// whether it is told where a run stopped and what it took.
 #[derive(Clone, Copy)]
 pub struct Told<'a> {
     pub input: &'a str,
     pub shows_ending: bool,
     pub shows_why: bool,
+    pub shows_where: bool,
+    pub shows_stats: bool,
 }
 
 impl<'a> Told<'a> {
+    /// Of the file at this path no more than what is always told.
+    fn little(input: &'a str) -> Told<'a> {
+        Told {
+            input,
+            shows_ending: false,
+            shows_why: false,
+            shows_where: false,
+            shows_stats: false,
+        }
+    }
+
     /// What is told of a command; of one that reads no file nothing.
     pub fn of(command: &Command<'a>) -> Told<'a> {
-        let (shows_ending, shows_why) = match *command {
-            Command::Check { shows_why, .. } | Command::Compile { shows_why, .. } => {
-                (false, shows_why)
-            }
+        let little = Told::little(command.input().unwrap_or(""));
+        match *command {
+            Command::Check { shows_why, .. } | Command::Compile { shows_why, .. } => Told {
+                shows_why,
+                ..little
+            },
             Command::Run {
                 shows_ending,
                 shows_why,
+                shows_where,
+                shows_stats,
                 ..
-            }
-            | Command::Eval {
+            } => Told {
+                input: little.input,
+                shows_ending,
+                shows_why,
+                shows_where,
+                shows_stats,
+            },
+            Command::Eval {
                 shows_ending,
                 shows_why,
                 ..
-            } => (shows_ending, shows_why),
-            Command::Exec { shows_ending, .. } => (shows_ending, false),
-            Command::Dump { .. } | Command::Explain { .. } => (false, false),
-        };
-        Told {
-            input: command.input().unwrap_or(""),
-            shows_ending,
-            shows_why,
+            } => Told {
+                shows_ending,
+                shows_why,
+                ..little
+            },
+            Command::Exec { shows_ending, .. } => Told {
+                shows_ending,
+                ..little
+            },
+            Command::Dump { .. } | Command::Explain { .. } => little,
         }
+    }
+
+    /// Whether a run has to be watched for what is told of it.
+    pub fn is_watched(self) -> bool {
+        self.shows_where || self.shows_stats
     }
 }
 

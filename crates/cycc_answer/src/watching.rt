@@ -1,0 +1,115 @@
+// Runs of sources that are watched, and what is said of them.
+
+ghost use Rattle.std.specs.Prelude.{◌≡◌, ◌≤◌, IfOk};
+ghost use Rattle.cycc_answer.specs.Answers.{IsRun};
+ghost use Rattle.cycc_answer.specs.Devices.{AreCounted};
+ghost use Rattle.cycc_answer.specs.Statuses.{status_of};
+
+use crate::lines::{Told, ended};
+use crate::why::refused_in;
+use cyc_host::{Ending, Watch};
+use cyc_words::{Input, Output};
+use cycc_driver::{Limits, execute_watched};
+use rv32_machine::{
+    GETCHAR, KEY_CLOSE, KEY_FREE, KEY_NEW, KEY_OPEN, PUTCHAR, REGION_ALLOC, REGION_FREE,
+    REGION_NEW, UNIQUE_ALLOC, UNIQUE_FREE,
+};
+use std::alloc::{AllocError, Global};
+use std::io::Write;
+use traces::trace;
+
+/// The requests that are counted, by their numbers and names.
+const REQUESTS: [(u32, &str); 11] = [
+    (PUTCHAR, "putchar"),
+    (GETCHAR, "getchar"),
+    (REGION_NEW, "region_new"),
+    (REGION_ALLOC, "region_alloc"),
+    (REGION_FREE, "region_free"),
+    (UNIQUE_ALLOC, "unique_alloc"),
+    (UNIQUE_FREE, "unique_free"),
+    (KEY_NEW, "key_new"),
+    (KEY_OPEN, "key_open"),
+    (KEY_CLOSE, "key_close"),
+    (KEY_FREE, "key_free"),
+];
+
+/// The lines of `--stats`: instructions, calls, the bytes of the stack at its deepest, and each request that was made, with how often.
+fn stats_of(alloc: Global, watch: &Watch) -> Result<String, AllocError> {
+    let steps = watch.steps();
+    let calls = watch.calls();
+    let stack = watch.deepest();
+    let mut lines = format!(in alloc; "instructions {steps}\ncalls {calls}\nstack {stack}\n")?;
+    for (number, name) in REQUESTS {
+        let count = watch.requests(number);
+        if count > 0 {
+            let line = format!(in alloc; "{name} {count}\n")?;
+            lines.push_str(line.as_str())?;
+        }
+    }
+    Ok(lines)
+}
+
+/// What is said of a run behind its ending: where it stopped, and what it took.
+fn shown_of(
+    alloc: Global,
+    told: Told<'_>,
+    file: &[u8],
+    ending: Ending,
+    watch: &Watch,
+) -> Result<String, AllocError> {
+    let mut shown = String::new(alloc);
+    if told.shows_where {
+        let lines = trace(alloc, told.input, file, watch, ending)?;
+        shown.push_str(lines.as_str())?;
+    }
+    if told.shows_stats {
+        let lines = stats_of(alloc, watch)?;
+        shown.push_str(lines.as_str())?;
+    }
+    Ok(shown)
+}
+
+/// Says how a run ended, and what is asked for of it, and answers the status.
+fn told_of<E: Write>(
+    alloc: Global,
+    told: Told<'_>,
+    file: &[u8],
+    ending: Ending,
+    watch: &Watch,
+    faults: &mut E,
+) -> Result<u8, AllocError>
+    ensures { IfOk result (λ status. status ≡ status_of ending) }
+{
+    let shown = shown_of(alloc, told, file, ending, watch)?;
+    let status = ended(alloc, ending, None, told.shows_ending, faults)?;
+    let _ = faults.write_all(shown.as_bytes());
+    Ok(status)
+}
+
+/// Compiles a source and runs its image between a reader and a writer, says what is asked for of the run, and answers the status.
+pub fn ran_watched<R: Input, W: Output, E: Write>(
+    alloc: Global,
+    told: Told<'_>,
+    limits: Limits,
+    file: &[u8],
+    reader: &mut R,
+    writer: &mut W,
+    faults: &mut E,
+) -> Result<u8, AllocError>
+    requires some { 1 ≤ limits.pages }
+    requires within { limits.pages ≤ 4096 }
+    requires some_stack { 1 ≤ limits.stack_pages }
+    requires stack_within { limits.stack_pages ≤ 4096 }
+    ensures run { IfOk result (IsRun file.now limits.pages limits.stack_pages limits.steps
+        (R.remaining reader.old) (R.remaining reader.new) (W.contents writer.old) (W.contents writer.new)) }
+    // a refusal leaves the reader and the writer as they were
+    ensures untouched { IfOk result (λ status. status ≡ 8 → (reader.new ≡ reader.old) × (writer.new ≡ writer.old)) }
+    // where the status is 6 just one call of one device failed, and at every other status none
+    ensures devices { IfOk result (λ status. AreCounted status
+        (R.fault_count reader.old) (R.fault_count reader.new) (W.fault_count writer.old) (W.fault_count writer.new)) }
+{
+    match execute_watched(alloc, file, reader, writer, limits) {
+        Ok(watched) => told_of(alloc, told, file, watched.ending, &watched.watch, faults),
+        Err(fault) => refused_in(alloc, told, file, fault, faults),
+    }
+}

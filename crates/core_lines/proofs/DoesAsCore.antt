@@ -1,7 +1,7 @@
 -- The lines of a program do what it does.
 use Rattle.std.specs.Prelude.{slice_get, length}
 use Rattle.rv32_machine.specs.Arrays.{longest_stack}
-use Rattle.std.proofs.Common.{Bool, ◌+◌, ◌≡◌, ℕ, suc, ◌*◌, ◌≤◌, List, [], ◌∷◌, Some, refl, sym, ap, subst, ◌∙◌, arith, append-nil}
+use Rattle.std.proofs.Common.{Bool, ◌+◌, ◌≡◌, ℕ, suc, ◌*◌, ◌≤◌, List, [], ◌∷◌, ◌++◌, Some, refl, sym, ap, subst, ◌∙◌, arith, append-nil}
 use Rattle.core_meaning.specs.Core.{Datum, Program}
 use Rattle.core_lines.specs.Selected.{frame_bytes, own_end, placed_body, slots_of, offsets_from, datum_locals, program_code}
 use Rattle.core_meaning.specs.Selectable.{IsSelectable, HaveLinesIn}
@@ -9,17 +9,18 @@ use Rattle.core_lines.specs.Running.{DoesAsCore}
 use Rattle.std.proofs.lemmas.Option.{none-some}
 use Rattle.core_lines.specs.Homes.{homes_in}
 use Rattle.core_meaning.specs.Meaning as core
+use Rattle.core_lines.specs.declared.line.Line.TheVariants.{Label}
 use Rattle.core_lines.specs.Held.{held_behind_all}
-use Rattle.core_lines.specs.Completing.{can_complete_all}
+use Rattle.core_lines.specs.Completing.{can_complete_all, ends_in_return_all}
 use Rattle.core_lines.specs.Saved.{taken_in, live_at_start, saves_at}
-use Rattle.core_lines.specs.Selected.{around, statements_code}
+use Rattle.core_lines.specs.Selected.{around, statements_code, ended_code}
 use Rattle.core_lines.proofs.Ways.{Does}
 use Rattle.core_lines.proofs.homes.FineHomes.{fine_homes}
 use Rattle.core_lines.proofs.memory.Relations.{World, IsInOrder}
 use Rattle.core_lines.proofs.frames.Bodies.{activation}
 use Rattle.core_lines.proofs.homes.Locals.{as_many_offsets, offset_below, frame_has_all, highest_of_above}
 use Rattle.core_lines.proofs.operations.EachOperation.{DataSmall}
-use Rattle.core_lines.proofs.EachStatement.{statements_do}
+use Rattle.core_lines.proofs.Endings.{ended_do}
 use Rattle.core_lines.proofs.Flags.{length_none}
 use Rattle.core_lines.proofs.Programs.{IsOfProgram, FunctionsDo, program_does_as_core}
 use Rattle.core_lines.proofs.EachFunction.{nothing_needed, function_does}
@@ -55,8 +56,9 @@ module _ (p : Program) (selectable : IsSelectable p) (w : World) (order : IsInOr
       let whole = length_none f.temporaries in
       subst (λ q. Does w x outer most (can_complete_all f.body) held (held_behind_all [] w.data_offsets held f.body) (live_at_start w.data_offsets f)
       (nothing_needed f)
-      (statements_code flags (around w.wide w.data_offsets q f) (code.next + 1) number number f.body) number number (core.statements f.body)) code.exit
-      (statements_do w order outer data_small bytes most calls x [] [] [] (homes_in f) (own_end f) held (nothing_needed f) flags [] (code.next + 1) number
+      (ended_code (ends_in_return_all f.body) (statements_code flags (around w.wide w.data_offsets q f) (code.next + 1) number number f.body)
+      ++ (Label q ∷ [])) number number (core.statements f.body)) code.exit
+      (ended_do w order outer data_small bytes most calls x [] [] [] (homes_in f) (own_end f) held (nothing_needed f) flags [] (code.next + 1) number
       number f.body (record { after = whole; out = whole; again = whole }) (sym (append-nil flags))
       (record {
         blocks = tt;

@@ -1,7 +1,7 @@
 -- A function does as Core, from its lines, where the lines of its statements do.
 use Rattle.std.specs.Prelude.{slice_get}
 use Rattle.rv32_machine.specs.Arrays.{longest_stack}
-use Rattle.std.proofs.Common.{◌≡◌, ℕ, suc, [], ap, ◌∙◌, ◌+◌, ◌≤◌, List, ◌∷◌, ◌++◌, Some, refl, sym, subst, arith}
+use Rattle.std.proofs.Common.{◌≡◌, ℕ, suc, [], ap, ◌∙◌, ◌+◌, ◌≤◌, List, ◌∷◌, ◌++◌, Some, refl, sym, subst, arith, append_assoc}
 use Rattle.core_meaning.specs.Memory.{Content, Memory}
 use Rattle.core_meaning.specs.Core.{Function}
 use Rattle.core_meaning.specs.Meaning as core
@@ -10,9 +10,9 @@ use Rattle.core_lines.specs.Lines.{code_length}
 use Rattle.core_lines.specs.Frames.{epilogue_code}
 use Rattle.core_lines.specs.Operands.{prologue_code}
 use Rattle.core_lines.specs.Held.{held_behind_all}
-use Rattle.core_lines.specs.Completing.{can_complete_all}
+use Rattle.core_lines.specs.Completing.{can_complete_all, ends_in_return_all}
 use Rattle.core_lines.specs.Saved.{none_of, taken_in, live_at_start, saves_at}
-use Rattle.core_lines.specs.Selected.{frame_bytes, around, statements_code}
+use Rattle.core_lines.specs.Selected.{frame_bytes, around, statements_code, ended_code}
 use Rattle.core_meaning.specs.Selectable.{IsSelectableIn}
 use Rattle.core_lines.specs.Homes.{saved_by, saved_slot}
 use Rattle.core_lines.specs.declared.line.Line.{Line}
@@ -41,8 +41,8 @@ BodyDoes w order number next f =
     → Does w (activation w order number f is outer mem arguments (offsets_from (4 * slots_of f) f.own) (own_end f)) outer most (can_complete_all f.body)
     (taken_in f)
     (held_behind_all [] w.data_offsets (taken_in f) f.body) (live_at_start w.data_offsets f) (nothing_needed f)
-    (statements_code (saves_at w.data_offsets f) (around w.wide w.data_offsets next f) (next + 1) number number f.body) number number
-    (core.statements f.body)
+    (ended_code (ends_in_return_all f.body) (statements_code (saves_at w.data_offsets f) (around w.wide w.data_offsets next f) (next + 1) number number f.body)
+    ++ (Label next ∷ [])) number number (core.statements f.body)
 
 -- what is out of order goes on from anywhere
 stuck_from : (w : World) (x : Waiting) (outer : List Waiting) (most place : ℕ) (next : Config → Step) →
@@ -57,7 +57,8 @@ pub function_does : (w : World) (order : IsInOrder w) (data_objects number : ℕ
 function_does w order data_objects number f selectable frame code body =
     let starts : ℕ → List Line = λ size. prologue_code size f.passed (saved_slot f) (saved_by f) (live_at_start w.data_offsets f) f.parameters in
     let prologue = starts (frame_bytes f) in
-    let lines = statements_code (saves_at w.data_offsets f) (around w.wide w.data_offsets code.next f) (code.next + 1) number number f.body in
+    let lines = ended_code (ends_in_return_all f.body)
+    (statements_code (saves_at w.data_offsets f) (around w.wide w.data_offsets code.next f) (code.next + 1) number number f.body) in
     let exit : List Line = Label code.next ∷ [] in
     let epilogue = epilogue_code (frame_bytes f) (saved_slot f) (saved_by f) in
     let there : w.places number ≡ code.place = code.has.1 in
@@ -69,7 +70,8 @@ function_does w order data_objects number f selectable frame code body =
     let has = has_first w (w.places number) front exit has_three in
     let has_exit = has_second w (w.places number) front exit has_three in
     let has_prologue = has_first w (w.places number) prologue lines has in
-    let has_lines = has_second w (w.places number) prologue lines has in
+    let has_lines = has_second w (w.places number) prologue (lines ++ exit)
+    (subst (λ ls. Has w (w.places number) ls) (append_assoc prologue lines exit) has_three) in
     let at_exit : w.places number + code_length (front ++ exit) ≡ w.places (w.exits number) =
     omega (arith, length_of_both front exit) ∙ sym has_exit.1 ∙ ap w.places (sym code.exit) in
     let ends_there : EndsThere w number f =
@@ -93,8 +95,8 @@ function_does w order data_objects number f selectable frame code body =
           let held = taken_in f in
           let goes : GoesHolding w x outer most place held (core.statements f.body next) =
           does.goes place most (omega arith) next (behind (w.places number) prologue aligned) has_lines (record {
-            falls = λ reached. goes_any w ended outer most (place + code_length lines) (held_behind_all [] w.data_offsets held f.body) (next Falls)
-                (stuck_from w ended outer most (place + code_length lines) (next Falls) (λ c. (ends c).0));
+            falls = λ reached. goes_any w ended outer most (place + code_length (lines ++ exit)) (held_behind_all [] w.data_offsets held f.body) (next Falls)
+                (stuck_from w ended outer most (place + code_length (lines ++ exit)) (next Falls) (λ c. (ends c).0));
             breaks = stuck_from w ended outer most (w.places number) (next Breaks) (λ c. (ends c).1);
             continues = stuck_from w ended outer most (w.places number) (next Continues) (λ c. (ends c).2);
             returns = returns;

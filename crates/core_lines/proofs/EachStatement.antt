@@ -49,7 +49,7 @@ pub record IsAround (w : World) (x : Waiting) (ns : List ℕ) (oss hss : List (L
 module _ (w : World) (order : IsInOrder w) (outer : List Waiting) (small : DataSmall w) (bytes most : ℕ)
     (calls : (j : ℕ) → suc j ≤ most → (g : ℕ) → BodyGoes w j g) where
   -- in a block more
-  in_block : (x : Waiting) (ns : List ℕ) (oss hss : List (List ℕ)) (names : List ℕ) (low k : ℕ) (ls : List Local) → IsAround w x ns oss hss low bytes
+  pub in_block : (x : Waiting) (ns : List ℕ) (oss hss : List (List ℕ)) (names : List ℕ) (low k : ℕ) (ls : List Local) → IsAround w x ns oss hss low bytes
       → FitsIn x.fn ls (homes_here ls names) hss → end_from low (shrunk ls (homes_here ls names)) ≤ bytes
       → IsAround w (within_block x (record {
         low = low;

@@ -10,11 +10,12 @@ use Rattle.core_lines.specs.Held.{Holding, without_register, result_register, he
 use Rattle.core_lines.specs.Operands.{operand_in, operand_code, into_code, keep_code, pass_code, result_code, values_code, return_code}
 use Rattle.core_lines.specs.Operands.{take_code, prologue_code}
 use Rattle.core_lines.specs.Choosing.{jump_if_zero, choice_code, between_code, behind_code}
-use Rattle.core_lines.specs.Completing.{can_complete, can_complete_all}
+use Rattle.core_lines.specs.Completing.{can_complete, can_complete_all, ends_in_return_all}
 use Rattle.core_lines.specs.Saved.{results_in, results_all, live_at_start, saves_at}
 use Rattle.core_lines.specs.Homes.{saved_slot, saved_by, flag_at}
 use Rattle.core_lines.specs.Selected.{offsets_from, frame_bytes, datum_locals, Surroundings, labels_in, labels_of, names_after, names_after_all}
-use Rattle.core_lines.specs.Selected.{naming, holding, within_block, statement_code, statements_code, around, labels_within, function_code}
+use Rattle.core_lines.proofs.Returning.{statements_jump_last, ended_shorter}
+use Rattle.core_lines.specs.Selected.{naming, holding, within_block, statement_code, statements_code, around, labels_within, ended_code, function_code}
 use Rattle.core_lines.specs.Selected.{functions_code, program_code}
 use Rattle.core_lines.proofs.homes.SavedFew.{ends_within}
 use Rattle.core_meaning.specs.Bounds.{branch_count, statement_operations, operations_of, all_operations, core_code}
@@ -172,7 +173,12 @@ function_within wide statics number next f =
     let p = f.parameters in let o = operations_of f.body in
     let bytes = frame_bytes f in
     let prologue = prologue_code bytes f.passed (saved_slot f) (saved_by f) (live_at_start statics f) p in
-    let body = statements_code (saves_at statics f) (around wide statics next f) (next + 1) number number f.body in
+    let all = statements_code (saves_at statics f) (around wide statics next f) (next + 1) number number f.body in
+    let returns = ends_in_return_all f.body in
+    let body = ended_code returns all in
+    let shorter = ended_shorter next returns all
+    (statements_jump_last (saves_at statics f) (around wide statics next f) (next + 1) number number f.body) in
+    let most = (statements_within (saves_at statics f) (around wide statics next f) (next + 1) number number f.body).is in
     let epilogue = epilogue_code bytes (saved_slot f) (saved_by f) in
     let first = 52 + code_length (saves_code (saved_slot f) (saved_by f)) + 24 * p in
     let last = code_length epilogue in
@@ -183,7 +189,7 @@ function_within wide statics number next f =
     (both_within (0 + first) (64 * o) ((Label number ∷ []) ++ prologue) body
     (both_within 0 first (Label number ∷ []) prologue (record { is = omega arith })
     (prologue_within bytes f.passed (saved_slot f) (saved_by f) (live_at_start statics f) p))
-    (statements_within (saves_at statics f) (around wide statics next f) (next + 1) number number f.body)) (record { is = omega arith }))
+    (record { is = omega (arith, shorter, most) })) (record { is = omega arith }))
     (record { is = omega arith }))
 
 functions_within : (wide : ℕ → Bool) (statics : List ℕ) (number next : ℕ) (fs : List Function)

@@ -17,6 +17,8 @@ pub mod Offsets
 pub mod Shown
 pub mod Choices
 pub mod EachStatement
+pub mod Returning
+pub mod Endings
 pub mod Loads
 pub mod Live
 pub mod DoesAsCore

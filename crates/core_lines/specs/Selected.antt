@@ -1,5 +1,5 @@
 -- The lines that each operation, statement, function and program of Core becomes.
-use Rattle.std.specs.Prelude.{ℕ, Bool, pos, ◌+◌, ◌*◌, ◌%◌, ◌^◌, List, [], ◌∷◌, ◌++◌, drop, nat_eq, if◌then◌else◌, length}
+use Rattle.std.specs.Prelude.{ℕ, Bool, pos, ◌+◌, ◌-◌, ◌*◌, ◌%◌, ◌^◌, List, [], ◌∷◌, ◌++◌, take, drop, nat_eq, if◌then◌else◌, length}
 use Rattle.rv32_isa.specs.declared.instruction.Instr.TheVariants as instr
 use Rattle.rv32_machine.specs.State.{data_base}
 use Rattle.core_meaning.specs.Memory.{Layout}
@@ -17,7 +17,7 @@ pub use Rattle.core_lines.specs.Held.{nth, nth_block, Source, Register, Number, 
 use Rattle.core_lines.specs.Operands.{keep_code}
 use Rattle.core_lines.specs.Operands.{number_kept, move_kept, call_code, return_code, prologue_code}
 use Rattle.core_lines.specs.Choosing.{choice_code, between_code, behind_code}
-use Rattle.core_lines.specs.Completing.{can_complete, can_complete_all}
+use Rattle.core_lines.specs.Completing.{can_complete, can_complete_all, ends_in_return_all}
 use Rattle.core_lines.specs.Saved.{results_in, results_all, taken_in, live_at_start, saves_at}
 pub use Rattle.core_lines.specs.LocalPlaces.{rounded, bytes_of, offsets_from, end_from, first_of, rest_of, shrink, shrunk, homes_here, homes_after, names_after}
 pub use Rattle.core_lines.specs.LocalPlaces.{names_after_all, shrunk_in, shrunk_of, placed_body, greater, highest, highest_of, slots_of, own_end, too_many}
@@ -176,11 +176,15 @@ around wide statics exit f = record {
 abbrev pub labels_within : Function → ℕ
 labels_within f = 1 + labels_of f.body
 
+-- lines without the last one, if a `Return` stands last: where its jump goes is next
+abbrev pub ended_code : Bool → List Line → List Line
+ended_code returns lines = (if returns then take (length lines - 1) lines else lines)
+
 -- a function has its number as its label; `next` is where it ends, and the labels behind that are for what stands within it
 abbrev pub function_code : (ℕ → Bool) → List ℕ → (number next : ℕ) → Function → List Line
 function_code wide statics number next f =
     (Label number ∷ []) ++ prologue_code (frame_bytes f) f.passed (saved_slot f) (saved_by f) (live_at_start statics f) f.parameters ++
-    statements_code (saves_at statics f) (around wide statics next f) (next + 1) number number f.body ++
+    ended_code (ends_in_return_all f.body) (statements_code (saves_at statics f) (around wide statics next f) (next + 1) number number f.body) ++
     (Label next ∷ []) ++ epilogue_code (frame_bytes f) (saved_slot f) (saved_by f)
 
 -- those from a number on

@@ -11,8 +11,9 @@ use Rattle.core_lines.specs.Frames.{environment_code, epilogue_code}
 use Rattle.core_lines.specs.Homes.{saved_by, saved_slot}
 use Rattle.core_lines.specs.Operands.{prologue_code}
 use Rattle.core_lines.specs.Choosing.{far}
+use Rattle.core_lines.specs.Completing.{ends_in_return_all}
 use Rattle.core_lines.specs.Saved.{live_at_start, saves_at}
-use Rattle.core_lines.specs.Selected.{frame_bytes, around, labels_within, statements_code, function_code, functions_code, program_code}
+use Rattle.core_lines.specs.Selected.{frame_bytes, around, labels_within, statements_code, ended_code, function_code, functions_code, program_code}
 use Rattle.core_lines.specs.Selected.{offsets_from, datum_locals}
 use Rattle.core_lines.proofs.memory.Access.{length_of_both}
 use Rattle.rv32_select.specs.Beginning.{leads_to_code, begins_within}
@@ -46,7 +47,8 @@ first_leads : (statics : List ℕ) (number next : ℕ) (f : Function) (rest : Li
 first_leads statics number next f rest =
     let bytes = frame_bytes f in
     let body = prologue_code bytes f.passed (saved_slot f) (saved_by f) (live_at_start statics f) f.parameters ++
-    statements_code (saves_at statics f) (around far statics next f) (next + 1) number number f.body ++ (Label next ∷ []) ++
+    ended_code (ends_in_return_all f.body) (statements_code (saves_at statics f) (around far statics next f) (next + 1) number number f.body) ++
+    (Label next ∷ []) ++
     epilogue_code bytes (saved_slot f) (saved_by f) in
     let some : 0 < code_length (body ++ rest) = omega (arith, length_of_both body rest) in
     grind (arith, nat_tests)

@@ -28,13 +28,14 @@ use Rattle.core_lines.specs.Homes.{saved_by, saved_slot, flag_at}
 use Rattle.core_lines.specs.Held.{Holding, held_behind, held_behind_all}
 use Rattle.core_lines.specs.Operands.{operand_in, operand_code, call_code, return_code, prologue_code}
 use Rattle.core_lines.specs.Choosing.{far, choice_code, between_code, behind_code}
-use Rattle.core_lines.specs.Completing.{can_complete, can_complete_all}
+use Rattle.core_lines.specs.Completing.{can_complete, can_complete_all, ends_in_return_all}
 use Rattle.core_lines.specs.Saved.{results_in, results_all, live_at_start, saves_at}
 use Rattle.core_lines.specs.Selected.{Surroundings, operation_code, labels_in, labels_of, labels_within, holding, naming, names_after, names_after_all}
-use Rattle.core_lines.specs.Selected.{within_block, statement_code, statements_code, frame_bytes, around, function_code, functions_code, program_code}
+use Rattle.core_lines.specs.Selected.{within_block, statement_code, statements_code, frame_bytes, around, ended_code, function_code, functions_code, program_code}
 use Rattle.core_lines.specs.Selected.{offsets_from, datum_locals}
 use Rattle.core_lines.proofs.labels.NoTargets.{operation_none, operand_none, between_none, behind_none, call_none, return_none}
 use Rattle.core_lines.proofs.labels.NoTargets.{prologue_none, epilogue_none}
+use Rattle.core_lines.proofs.Returning.{statements_jump_last, ended}
 use Rattle.rv32_select.specs.Beginning.{are_long}
 
 both : (first second : List Line) → are_long first ≡ true → are_long second ≡ true → are_long (first ++ second) ≡ true
@@ -45,6 +46,15 @@ both (Jump label ∷ first) second a b = both first second a b
 both (JumpIfZero register label ∷ first) second a b = both first second a b
 both (BranchIfZero register label ∷ first) second a b = absurd (false≢true a)
 both (CallTo label ∷ first) second a b = both first second a b
+
+first_long : (first second : List Line) → are_long (first ++ second) ≡ true → are_long first ≡ true
+first_long [] second is = refl
+first_long (Plain instr ∷ first) second is = first_long first second is
+first_long (Label label ∷ first) second is = first_long first second is
+first_long (Jump label ∷ first) second is = first_long first second is
+first_long (JumpIfZero register label ∷ first) second is = first_long first second is
+first_long (BranchIfZero register label ∷ first) second is = is
+first_long (CallTo label ∷ first) second is = first_long first second is
 
 three : (a b c : List Line) → are_long a ≡ true → are_long b ≡ true → are_long c ≡ true → are_long (a ++ b ++ c) ≡ true
 three a b c p q r = both (a ++ b) c (both a b p q) r
@@ -121,11 +131,16 @@ function_long statics number next f =
     let start = live_at_start statics f in
     let flags = saves_at statics f in
     let prologue = prologue_code bytes f.passed (saved_slot f) (saved_by f) start f.parameters in
-    let body = statements_code flags (around far statics next f) (next + 1) number number f.body in
+    let all = statements_code flags (around far statics next f) (next + 1) number number f.body in
+    let returns = ends_in_return_all f.body in
+    let body = ended_code returns all in
     let epilogue = epilogue_code bytes (saved_slot f) (saved_by f) in
     five (Label number ∷ []) prologue body (Label next ∷ []) epilogue refl
     (none_long prologue (prologue_none bytes f.passed (saved_slot f) (saved_by f) start f.parameters))
-    (codes_long flags (around far statics next f) (next + 1) number number f.body refl) refl
+    (ended (λ less lines. are_long lines ≡ true → are_long less ≡ true) next (λ lines is. is)
+    (λ before is. first_long before (Jump next ∷ []) is) returns all
+    (statements_jump_last flags (around far statics next f) (next + 1) number number f.body)
+    (codes_long flags (around far statics next f) (next + 1) number number f.body refl)) refl
     (none_long epilogue (epilogue_none bytes (saved_slot f) (saved_by f)))
 
 functions_long : (statics : List ℕ) (number next : ℕ) (fs : List Function) → are_long (functions_code far statics number next fs) ≡ true

@@ -13,6 +13,7 @@ ghost use Rattle.core_lines.specs.Selected.{around, highest_of, shrunk_of, label
 ghost use Rattle.rv32_select.specs.Listing.{homes_listed};
 ghost use Rattle.rv32_select.specs.Places.{surroundings, saves_left, framed};
 
+use crate::completing::end_lines;
 use crate::emit::{
     ADDRESS, SECOND, put, put_environment, put_lines, put_load, put_save, put_three, put_word,
     word_instructions,
@@ -227,6 +228,7 @@ fn put_begun(
     };
     let first = following(next)?;
     let free = put_statements(lines, place, first, ways, &function.body)?;
+    end_lines(lines, &function.body);
     put_lines(lines, &[Line::Label(next)])?;
     put_epilogue(lines, bytes, slot, saved)?;
     Ok(free)

@@ -10,11 +10,11 @@ use Rattle.core_meaning.specs.Steps.{Config, Step, Exit, Falls, Breaks, Continue
 use Rattle.core_meaning.specs.Meaning.{values_of, with_results, with_objects, entered, left}
 use Rattle.core_lines.specs.Machines.{Machine}
 use Rattle.core_lines.specs.declared.line.Line.{Line}
-use Rattle.core_lines.specs.declared.line.Line.TheVariants.{CallTo}
+use Rattle.core_lines.specs.declared.line.Line.TheVariants.{Label, CallTo}
 use Rattle.core_lines.specs.Lines.{code_length}
 use Rattle.core_lines.specs.Held.{Register, Holding, with_source, with_taken, with_results as holding_results}
 use Rattle.core_lines.specs.Loaded.{unknown_in, loads_of_values}
-use Rattle.core_lines.specs.Operands.{keep_code, pass_code, result_code, call_code, return_code, prologue_code}
+use Rattle.core_lines.specs.Operands.{keep_code, pass_code, result_code, call_code, values_code, return_code, prologue_code}
 use Rattle.core_lines.specs.Saved.{all_flagged, flags_of, taken_in, live_at_start}
 use Rattle.core_lines.specs.Lies.{Activation}
 use Rattle.core_lines.proofs.memory.Relations.{StackShows, World, IsInOrder, Has, Waiting, Goes, At, Calling, Returning, Back, Stands, active_of}
@@ -25,7 +25,7 @@ use Rattle.core_lines.proofs.frames.Passing.{has_first, has_second, frame_fewer}
 use Rattle.core_lines.proofs.frames.Arguments.{PassedAt, passes, calls_to}
 use Rattle.core_lines.proofs.frames.Entering.{with_call, callee, enters}
 use Rattle.core_lines.proofs.frames.Results.{ResultsAt, result_one}
-use Rattle.core_lines.proofs.frames.Leaving.{returns}
+use Rattle.core_lines.proofs.frames.Leaving.{returns, returns_last}
 use Rattle.core_lines.proofs.frames.Ending.{is_back}
 use Rattle.core_lines.proofs.operations.Registers.{AtHolding, at_any, with_there, as_holding, fewer_with, fewer_holding, knows}
 use Rattle.core_lines.proofs.Flags.{covers_none, follows_first}
@@ -262,18 +262,33 @@ returning_bare w x outer mem values s a = record {
   results = a.results;
 }
 
+-- where the values of a return come back
+returned : (w : World) (x : Waiting) (outer : List Waiting) (most : ℕ) (ts : List ℕ) (next : Exit → Config → Step) (held : List Holding) (place : ℕ)
+    → ((c : Config) → Comes w (AtHolding w (with_config x c) outer c.memory place held) (Returning w (with_config x c) outer c.memory (values_of c.temps ts)))
+    → GoesReturning w (keeping [] x) outer most next → GoesHolding w x outer most place held (core.statement (Return ts) next)
+returned w x outer most ts next held place comes goes c is =
+    let values = values_of c.temps ts in
+    goes_from w _ _ most (next (Returns values) c) _ (comes c)
+    (goes_as w (Returning w (with_config x c) outer c.memory values) (active_of w (x ∷ outer)) most (next (Returns values) c)
+    (Returning w (with_config (keeping [] x) c) outer c.memory values)
+    (λ s a. returning_bare w (with_config x c) outer c.memory values s a) (goes c values is))
+
 pub return_goes : (w : World) (order : IsInOrder w) (x : Waiting) (outer : List Waiting) (most : ℕ) (ts : List ℕ) (next : Exit → Config → Step)
     (held : List Holding) (place : ℕ) → EndsThere w x.function x.fn → x.phase ≡ Inside → AreBelow x.fn.temporaries ts
     → AreKept w x (loads_of_values held 9 ts) → length ts ≤ 8 → Has w place (return_code x.fn.passed held ts (w.exits x.function))
     → GoesReturning w (keeping [] x) outer most next → GoesHolding w x outer most place held (core.statement (Return ts) next)
-return_goes w order x outer most ts next held place ends inside named served few has goes c is =
-    let values = values_of c.temps ts in
-    goes_from w _ _ most (next (Returns values) c) _
-    (returns w order (with_config x c) outer c.memory held ts place ends inside named served few
+return_goes w order x outer most ts next held place ends inside named served few has =
+    returned w x outer most ts next held place (λ c.
+    returns w order (with_config x c) outer c.memory held ts place ends inside named served few (let e = length_of_values c.temps ts in omega (arith, e, few)) has)
+
+-- one behind whose values the function ends
+pub return_last_goes : (w : World) (order : IsInOrder w) (x : Waiting) (outer : List Waiting) (most : ℕ) (ts : List ℕ) (next : Exit → Config → Step)
+    (held : List Holding) (place : ℕ) → EndsThere w x.function x.fn → x.phase ≡ Inside → AreBelow x.fn.temporaries ts
+    → AreKept w x (loads_of_values held 9 ts) → length ts ≤ 8 → Has w place (values_code x.fn.passed held 9 ts ++ (Label (w.exits x.function) ∷ []))
+    → GoesReturning w (keeping [] x) outer most next → GoesHolding w x outer most place held (core.statement (Return ts) next)
+return_last_goes w order x outer most ts next held place ends inside named served few has =
+    returned w x outer most ts next held place (λ c. returns_last w order (with_config x c) outer c.memory held ts place ends inside named served few
     (let e = length_of_values c.temps ts in omega (arith, e, few)) has)
-    (goes_as w (Returning w (with_config x c) outer c.memory values) (active_of w (x ∷ outer)) most (next (Returns values) c)
-    (Returning w (with_config (keeping [] x) c) outer c.memory values)
-    (λ s a. returning_bare w (with_config x c) outer c.memory values s a) (goes c values is))
 
 -- ---- functions
 

@@ -34,7 +34,7 @@ use Rattle.core_meaning.specs.Memory.{Content, Word, Memory}
 use Rattle.core_meaning.specs.Meaning.{values_of}
 use Rattle.core_lines.specs.Machines.{Machine}
 use Rattle.rv32_machine.specs.State.{code_base}
-use Rattle.core_lines.specs.declared.line.Line.TheVariants.{Plain, Jump}
+use Rattle.core_lines.specs.declared.line.Line.TheVariants.{Plain, Label, Jump}
 use Rattle.core_lines.specs.declared.line.Line.{Line}
 use Rattle.core_lines.specs.Lines.{code_length}
 use Rattle.core_lines.specs.Frames.{give_code, load_code, restores_code, leave_code}
@@ -352,6 +352,20 @@ module _ (w : World) (order : IsInOrder w) (x : Waiting) (outer : List Waiting) 
         results = a.holds;
       }
 
+  -- where the function ends, with its values in registers
+  ends_with : (vs : List Content) (place : ℕ) → EndsThere w x.function x.fn → x.phase ≡ Inside → length vs ≤ 8 → place ≡ w.places (w.exits x.function)
+      → Comes w (ValuesAt w x outer mem vs place) (Returning w x outer mem vs)
+  ends_with vs place ends inside few there =
+      let second = restores_code (saved_slot x.fn) (saved_by x.fn) in
+      let exit = w.places (w.exits x.function) in
+      let last = exit + code_length second in
+      subst (λ p. Comes w (ValuesAt w x outer mem vs p) (Returning w x outer mem vs)) (sym there)
+      (comes_then w _ (Giving (saved_by x.fn) (saved_slot x.fn) vs exit) _
+      (comes_as w _ _ (λ s a. gives_first inside vs exit s a))
+      (comes_then w _ (Giving [] (saved_slot x.fn + length (saved_by x.fn)) vs last) _
+      (gives (saved_by x.fn) (saved_slot x.fn) vs exit (saved_homes x.fn) refl few (has_first w exit second (leave_code size) ends))
+      (leaves vs last few (saved_slot x.fn + length (saved_by x.fn)) (has_second w exit second (leave_code size) ends))))
+
   -- a return
   pub returns : (hs : List Holding) (ts : List ℕ) (place : ℕ) → EndsThere w x.function x.fn → x.phase ≡ Inside → AreBelow x.fn.temporaries ts
       → AreKept w x (loads_of_values hs 9 ts) → length ts ≤ 8 → length (values_of x.config.temps ts) ≤ 8
@@ -361,16 +375,21 @@ module _ (w : World) (order : IsInOrder w) (x : Waiting) (outer : List Waiting) 
       let vs = values_of x.config.temps ts in
       let first = values_code passed hs 9 ts in
       let jump : List Line = Jump (w.exits x.function) ∷ [] in
-      let second = restores_code (saved_slot x.fn) (saved_by x.fn) in
-      let middle = place + code_length first in
       let exit = w.places (w.exits x.function) in
-      let last = exit + code_length second in
       comes_then w _ _ _
       (values_come w order x outer mem hs ts place within served few (has_first w place first jump has))
       (comes_then w _ (ValuesAt w x outer mem vs exit) _
-      (jumps_with w order x outer mem (w.exits x.function) middle (InValues vs) (has_second w place first jump has).0.0)
-      (comes_then w _ (Giving (saved_by x.fn) (saved_slot x.fn) vs exit) _
-      (comes_as w _ _ (λ s a. gives_first inside vs exit s a))
-      (comes_then w _ (Giving [] (saved_slot x.fn + length (saved_by x.fn)) vs last) _
-      (gives (saved_by x.fn) (saved_slot x.fn) vs exit (saved_homes x.fn) refl few_values (has_first w exit second (leave_code size) ends))
-      (leaves vs last few_values (saved_slot x.fn + length (saved_by x.fn)) (has_second w exit second (leave_code size) ends)))))
+      (jumps_with w order x outer mem (w.exits x.function) (place + code_length first) (InValues vs) (has_second w place first jump has).0.0)
+      (ends_with vs exit ends inside few_values refl))
+
+  -- one behind whose values the function ends
+  pub returns_last : (hs : List Holding) (ts : List ℕ) (place : ℕ) → EndsThere w x.function x.fn → x.phase ≡ Inside → AreBelow x.fn.temporaries ts
+      → AreKept w x (loads_of_values hs 9 ts) → length ts ≤ 8 → length (values_of x.config.temps ts) ≤ 8
+      → Has w place (values_code passed hs 9 ts ++ (Label (w.exits x.function) ∷ []))
+      → Comes w (AtHolding w x outer mem place hs) (Returning w x outer mem (values_of x.config.temps ts))
+  returns_last hs ts place ends inside within served few few_values has =
+      let first = values_code passed hs 9 ts in
+      let label : List Line = Label (w.exits x.function) ∷ [] in
+      comes_then w _ _ _
+      (values_come w order x outer mem hs ts place within served few (has_first w place first label has))
+      (ends_with (values_of x.config.temps ts) (place + code_length first) ends inside few_values (sym (has_second w place first label has).1))

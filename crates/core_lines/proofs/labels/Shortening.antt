@@ -47,16 +47,17 @@ use Rattle.core_lines.specs.Homes.{saved_by, saved_slot, flag_at}
 use Rattle.core_lines.specs.Held.{Holding, held_behind, held_behind_all, source_of, result_register, same_as}
 use Rattle.core_lines.specs.Operands.{operand_in, operand_code, call_code, return_code, prologue_code}
 use Rattle.core_lines.specs.Choosing.{far, jump_if_zero, choice_code, between_code, behind_code}
-use Rattle.core_lines.specs.Completing.{can_complete, can_complete_all}
+use Rattle.core_lines.specs.Completing.{can_complete, can_complete_all, ends_in_return_all}
 use Rattle.core_lines.specs.Saved.{results_in, results_all, live_at_start, saves_at}
 use Rattle.core_lines.specs.Selected.{Surroundings, frame_bytes, offsets_from, datum_locals, local_home, local_offset, immediate_for, has_operand, both_code}
 use Rattle.core_lines.specs.Selected.{number_in, keep_result, narrow_kept, applied_kept, get_code, put_code, operation_code, labels_in, labels_of}
 use Rattle.core_lines.specs.Selected.{labels_within, holding, naming, names_after, names_after_all, within_block, statement_code, statements_code, around}
-use Rattle.core_lines.specs.Selected.{function_code, functions_code, program_code}
+use Rattle.core_lines.specs.Selected.{ended_code, function_code, functions_code, program_code}
 use Rattle.core_meaning.specs.Selectable.{IsSelectable}
 use Rattle.core_lines.specs.Running.{DoesAsCore}
 use Rattle.core_lines.proofs.labels.NoTargets.{operand_none, operation_none, between_none, behind_none, call_none, return_none, epilogue_none, prologue_none}
 use Rattle.core_lines.proofs.labels.TargetsOnce.{program_targets_once}
+use Rattle.core_lines.proofs.Returning.{ended_short}
 use Rattle.core_lines.proofs.DoesAsCore.{lines_do_as_core}
 use Rattle.core_lines.specs.Relaxed.{shortened, shorten_to, shortened_to, wide_to, targets}
 
@@ -261,12 +262,15 @@ module _ (wide : ℕ → Bool) where
       let front : List Line = (Label number ∷ []) ++ prologue_code (frame_bytes f) f.passed (saved_slot f) (saved_by f) start f.parameters in
       let leaves = epilogue_code (frame_bytes f) (saved_slot f) (saved_by f) in
       let exit : List Line = Label next ∷ [] in
-      let a = statements_code (saves_at statics f) (around far statics next f) (next + 1) number number f.body in
-      let a' = statements_code (saves_at statics f) (around wide statics next f) (next + 1) number number f.body in
+      let returns = ends_in_return_all f.body in
+      let all = statements_code (saves_at statics f) (around far statics next f) (next + 1) number number f.body in
+      let a = ended_code returns all in
+      let a' = ended_code returns (statements_code (saves_at statics f) (around wide statics next f) (next + 1) number number f.body) in
       both ((front ++ a) ++ exit) leaves ((front ++ a') ++ exit) leaves
       (both (front ++ a) exit (front ++ a') exit
       (both front a front a' (no_targets_stay wide front (prologue_none (frame_bytes f) f.passed (saved_slot f) (saved_by f) start f.parameters))
-      (statements_short (saves_at statics f) (around wide statics next f) (next + 1) number number f.body)) refl)
+      (ended_short wide returns all
+      ∙ ap (λ ls. ended_code returns ls) (statements_short (saves_at statics f) (around wide statics next f) (next + 1) number number f.body))) refl)
       (no_targets_stay wide leaves (epilogue_none (frame_bytes f) (saved_slot f) (saved_by f)))
 
   functions_short : (statics : List ℕ) (number next : ℕ) (fs : List Function)

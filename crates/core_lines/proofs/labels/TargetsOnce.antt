@@ -16,13 +16,14 @@ use Rattle.core_lines.specs.Selected.{frame_bytes, Surroundings}
 use Rattle.core_lines.specs.Held.{held_behind, held_behind_all}
 use Rattle.core_lines.specs.Operands.{call_code, return_code, prologue_code}
 use Rattle.core_lines.specs.Choosing.{choice_code, between_code, behind_code}
-use Rattle.core_lines.specs.Completing.{can_complete, can_complete_all}
+use Rattle.core_lines.specs.Completing.{can_complete, can_complete_all, ends_in_return_all}
 use Rattle.core_lines.specs.Saved.{results_in, results_all, live_at_start, saves_at}
 use Rattle.core_lines.specs.Selected.{operation_code, labels_in, labels_of, labels_within, holding, naming, names_after, names_after_all, within_block}
-use Rattle.core_lines.specs.Selected.{statement_code, statements_code, around, function_code, functions_code, program_code}
+use Rattle.core_lines.specs.Selected.{statement_code, statements_code, around, ended_code, function_code, functions_code, program_code}
 use Rattle.core_lines.specs.Running.{data_offsets}
 use Rattle.core_lines.specs.Homes.{saved_by, saved_slot, flag_at}
 use Rattle.core_lines.proofs.labels.NoTargets.{targets_append, operation_none, choice_one, between_none, behind_none, call_none, return_none}
+use Rattle.core_lines.proofs.Returning.{statements_jump_last, ended_targets}
 use Rattle.core_lines.proofs.labels.NoTargets.{epilogue_none, prologue_none}
 
 -- ---- lists of labels
@@ -156,12 +157,20 @@ function_targets wide statics number next f =
     let low = next + 1 in
     let high = next + labels_within f in
     let prologue = prologue_code (frame_bytes f) f.passed (saved_slot f) (saved_by f) (live_at_start statics f) f.parameters in
-    let body = statements_code (saves_at statics f) (around wide statics next f) (next + 1) number number f.body in
+    let all = statements_code (saves_at statics f) (around wide statics next f) (next + 1) number number f.body in
+    let returns = ends_in_return_all f.body in
+    let body = ended_code returns all in
+    let as_many : targets body ≡ targets all = ended_targets next returns all
+    (statements_jump_last (saves_at statics f) (around wide statics next f) (next + 1) number number f.body) in
+    let of_all = statements_targets (saves_at statics f) (around wide statics next f) (next + 1) number number f.body in
     let leaves = epilogue_code (frame_bytes f) (saved_slot f) (saved_by f) in
     let front : List Line = (Label number ∷ []) ++ prologue in
     let a : TargetsFrom low high (front ++ body) =
     join low high (none_from low low front (prologue_none (frame_bytes f) f.passed (saved_slot f) (saved_by f) (live_at_start statics f) f.parameters))
-    (statements_targets (saves_at statics f) (around wide statics next f) (next + 1) number number f.body)
+    (record {
+      within = subst (λ ls. All (λ label. (next + 1 ≤ label) × (label < next + 1 + labels_of f.body)) ls) (sym as_many) of_all.within;
+      once = subst AreOnce (sym as_many) of_all.once;
+    })
     (omega arith) (omega arith) (omega arith) (omega arith) (inl (omega arith)) in
     let b : TargetsFrom low high ((front ++ body) ++ (Label next ∷ [])) =
     join low high a (none_from high high (Label next ∷ []) refl) (omega arith) (omega arith) (omega arith) (omega arith) (inl (omega arith)) in

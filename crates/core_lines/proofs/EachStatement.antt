@@ -10,6 +10,8 @@ use Rattle.core_meaning.specs.Steps.{Falls}
 use Rattle.core_lines.specs.declared.line.Line.TheVariants.{Jump}
 use Rattle.core_lines.specs.Held.{Holding, held_behind, held_behind_all}
 use Rattle.core_lines.specs.Completing.{can_complete, can_complete_all}
+use Rattle.core_lines.specs.Choosing.{choice_code, between_code, behind_code}
+use Rattle.core_lines.specs.Checks.{check_of}
 use Rattle.core_lines.specs.Loaded.{unknown_in, loads_of_operation, loads_of_values}
 use Rattle.core_lines.specs.Saved.{cleared, all_flagged, results_of, results_in, results_all}
 use Rattle.core_lines.specs.Selected.{offsets_from, end_from, highest, highest_of, labels_in, labels_of, statement_code, statements_code}
@@ -25,6 +27,7 @@ use Rattle.core_lines.proofs.Ways.{Needs, Does, does_any, does_fewer}
 use Rattle.core_lines.proofs.Shown.{AreWhole, showing, showing_all, saving, saving_all, whole_all, loads_show, first_way, second_way, choice_served}
 use Rattle.core_lines.proofs.Shown.{at_choice, of_test, of_body, whole_test, whole_body, loop_shows, loop_served}
 use Rattle.core_lines.proofs.Forms.{within_block, break_does, continue_does, nothing_does, sequence_does, block_does}
+use Rattle.core_lines.proofs.Checking.{checked_does}
 use Rattle.core_lines.proofs.Choices.{test, jumps, either_does, leave_does, loop_does}
 use Rattle.core_lines.proofs.memory.Nested.{NestFits}
 use Rattle.core_lines.proofs.homes.Locals.{shrunk_layouts, as_many_shrunk, offsets_lie, as_many_offsets, end_above, offset_below, highest_of_above, both_below}
@@ -119,7 +122,10 @@ module _ (w : World) (order : IsInOrder w) (outer : List Waiting) (small : DataS
         (saved_of w.data_offsets hss names held needs.after needs.out needs.again these) are_these in
         let second = statements_code flags (surrounding w x oss hss names low held) (next + 1) out again these in
         let fourth = statements_code flags_those (surrounding w x oss hss behind_these low held) (behind_label + 1) out again those in
-        either_does w order x outer most (can_complete_all these) held last last_of_those start needs t next behind_label out again these those second fourth
+        checked_does w order x outer most ns hss names held needs t out again whole these those (check_of these those)
+        (choice_code w.wide x.fn.passed held t next ++ second ++ between_code (can_complete_all these) those behind_label next ++ fourth
+        ++ behind_code those behind_label) refl has
+        (either_does w order x outer most (can_complete_all these) held last last_of_those start needs t next behind_label out again these those second fourth
         has.0 (choice_served w x hss names held needs t these those whole has.0)
         (does_fewer w x outer most (can_complete_all these) held last start one needs second out again (core.statements these)
         (first_way w x hss names held needs t these those whole)
@@ -129,7 +135,7 @@ module _ (w : World) (order : IsInOrder w) (outer : List Waiting) (small : DataS
         (λ none. (
           ap (λ ss. statements_code flags_those (surrounding w x oss hss behind_these low held) (behind_label + 1) out again ss) none,
           subst (λ ss. Covers start (showing_all w hss behind_these held needs ss)) none shows_other,
-        ))
+        )))
     statement_does x ns oss hss names low held needs flags rest next out again (While ts t body) whole are around has fine below =
         let behind = names_after_all ts names in
         let b = both_below (highest_of low (shrunk_of names ts)) (highest_of low (shrunk_of behind body)) bytes below in

@@ -1,14 +1,17 @@
 -- How long lines are: those of each statement, function and program, by the operations that they are made from.
-use Rattle.std.proofs.Common.{ℕ, zero, suc, ◌+◌, ◌*◌, ◌/◌, ◌≤◌, Bool, true, false, nat_lt, if◌then◌else◌, List, [], ◌∷◌, ◌++◌, length, arith}
-use Rattle.std.specs.Prelude.{drop}
+use Rattle.std.proofs.Common.{◌≡◌, ℕ, zero, suc, ◌+◌, ◌*◌, ◌/◌, ◌%◌, ◌^◌, ◌≤◌, nat_eq, refl, length-append, Bool, true, false, nat_lt, if◌then◌else◌, List, [], ◌∷◌, ◌++◌, length, arith}
+use Rattle.std.specs.Prelude.{pos, Option, Some, None, drop}
+use Rattle.rv32_isa.specs.declared.instruction.Instr.TheVariants.{Beq, Bne}
+use Rattle.core_lines.specs.declared.line.Line.{Line}
 use Rattle.core_meaning.specs.Core.{Statement, Do, If, While, Block, Leave, Break, Continue, Call, Return, Raise, Statements, NoStatements}
 use Rattle.core_meaning.specs.Core.{MoreStatements, Function, Program}
-use Rattle.core_lines.specs.declared.line.Line.TheVariants.{Label, Jump, JumpIfZero, BranchIfZero, CallTo}
+use Rattle.core_lines.specs.declared.line.Line.TheVariants.{Plain, Label, Jump, JumpIfZero, BranchIfZero, CallTo}
 use Rattle.core_lines.specs.Lines.{code_length}
-use Rattle.core_lines.specs.Frames.{load_code, save_code, environment_code, test_code, move_code, saves_code, epilogue_code}
-use Rattle.core_lines.specs.Held.{Holding, without_register, result_register, held_behind, held_behind_all}
-use Rattle.core_lines.specs.Operands.{operand_in, operand_code, into_code, keep_code, pass_code, result_code, values_code, return_code}
+use Rattle.core_lines.specs.Frames.{is_short, slot_of, load_code, save_code, environment_code, test_code, move_code, saves_code, epilogue_code, raise_code}
+use Rattle.core_lines.specs.Held.{Source, Register, Number, Holding, source_of, without_register, result_register, held_behind, held_behind_all}
+use Rattle.core_lines.specs.Operands.{operand_in, bring_code, operand_code, into_code, keep_code, pass_code, result_code, values_code, return_code}
 use Rattle.core_lines.specs.Operands.{take_code, prologue_code}
+use Rattle.core_lines.specs.Checks.{Failure, Always, ByTest, check_of, failure_code, check_code, checked_code}
 use Rattle.core_lines.specs.Choosing.{jump_if_zero, choice_code, between_code, behind_code}
 use Rattle.core_lines.specs.Completing.{can_complete, can_complete_all, ends_in_return_all}
 use Rattle.core_lines.specs.Saved.{results_in, results_all, live_at_start, saves_at}
@@ -17,6 +20,7 @@ use Rattle.core_lines.specs.Selected.{offsets_from, frame_bytes, datum_locals, S
 use Rattle.core_lines.proofs.Returning.{statements_jump_last, ended_shorter}
 use Rattle.core_lines.specs.Selected.{naming, holding, within_block, statement_code, statements_code, around, labels_within, ended_code, function_code}
 use Rattle.core_lines.specs.Selected.{functions_code, program_code}
+use Rattle.core_lines.proofs.memory.Access.{length_of_both}
 use Rattle.core_lines.proofs.homes.SavedFew.{ends_within}
 use Rattle.core_meaning.specs.Bounds.{branch_count, statement_operations, operations_of, all_operations, core_code}
 use Rattle.core_lines.proofs.OperationLengths.{IsWithin, both_within, less_within, if_within, nothing_within, load_within, save_within, operand_within}
@@ -75,6 +79,51 @@ behind_within : (those : Statements) (behind : ℕ) → IsWithin 0 (behind_code 
 behind_within NoStatements behind = record { is = omega arith }
 behind_within (MoreStatements s ss) behind = record { is = omega arith }
 
+pub failure_within : (passed : ℕ) (hs : List Holding) (f : Failure) → IsWithin 40 (failure_code passed hs f)
+failure_within passed hs (Always kind) = record { is = omega arith }
+failure_within passed hs (ByTest t first second) =
+    let branch : List Line = Plain (Beq (operand_in hs 5 t) 0 (pos 16)) ∷ [] in
+    both_within 28 12 (operand_code passed hs 5 t ++ branch ++ raise_code first) (raise_code second)
+    (both_within 16 12 (operand_code passed hs 5 t ++ branch) (raise_code first)
+    (both_within 12 4 (operand_code passed hs 5 t) branch (operand_within passed hs 5 t) (record { is = omega arith })) (record { is = omega arith }))
+    (record { is = omega arith })
+
+-- each of its lines has four bytes
+four_both : (first second : List Line) → code_length first ≡ 4 * length first → code_length second ≡ 4 * length second
+    → code_length (first ++ second) ≡ 4 * length (first ++ second)
+four_both first second a b = let n = length_of_both first second in let m = length-append first second in omega (arith, a, b, n, m)
+
+four_if : (c : Bool) (first second : List Line) → code_length first ≡ 4 * length first → code_length second ≡ 4 * length second
+    → code_length (if c then first else second) ≡ 4 * length (if c then first else second)
+four_if true first second a b = a
+four_if false first second a b = b
+
+operand_four : (passed : ℕ) (hs : List Holding) (t : ℕ) → code_length (operand_code passed hs 5 t) ≡ 4 * length (operand_code passed hs 5 t)
+operand_four passed hs t = by (source_of hs t)
+  where
+    by : (source : Option Source) → code_length (bring_code passed 5 t source) ≡ 4 * length (bring_code passed 5 t source)
+    by None = four_if (is_short (4 * slot_of passed t)) _ _ refl refl
+    by (Some (Register r)) = refl
+    by (Some (Number n)) = four_if (is_short n) _ _ refl (four_if (nat_eq (n % 2 ^ 12) 0) _ _ refl refl)
+
+pub failure_four : (passed : ℕ) (hs : List Holding) (f : Failure) → code_length (failure_code passed hs f) ≡ 4 * length (failure_code passed hs f)
+failure_four passed hs (Always kind) = refl
+failure_four passed hs (ByTest t first second) =
+    let branch : List Line = Plain (Beq (operand_in hs 5 t) 0 (pos 16)) ∷ [] in
+    let operand = operand_code passed hs 5 t in
+    four_both (operand ++ branch ++ raise_code first) (raise_code second)
+    (four_both (operand ++ branch) (raise_code first) (four_both operand branch (operand_four passed hs t) refl) refl) refl
+
+checked_within : (n passed : ℕ) (hs : List Holding) (t : ℕ) (check : Option Failure) (lines : List Line) → 56 ≤ n → IsWithin n lines
+    → IsWithin n (checked_code passed hs t check lines)
+checked_within n passed hs t None lines few is = is
+checked_within n passed hs t (Some f) lines few is =
+    let raising = failure_code passed hs f in
+    let branch : List Line = Plain (Bne (operand_in hs 5 t) 0 (pos (4 + code_length raising))) ∷ [] in
+    less_within 56 n (check_code passed hs t f) few
+    (both_within 16 40 (operand_code passed hs 5 t ++ branch) raising
+    (both_within 12 4 (operand_code passed hs 5 t) branch (operand_within passed hs 5 t) (record { is = omega arith })) (failure_within passed hs f))
+
 -- an exception alone is three lines
 branch_within : (flags : List Bool) (u : Surroundings) (next out again : ℕ) (ss : Statements) (n : ℕ)
     → IsWithin (64 * n) (statements_code flags u next out again ss) → IsWithin (12 + 64 * branch_count ss n) (statements_code flags u next out again ss)
@@ -91,7 +140,9 @@ mutual
       let further = naming (names_after_all these u.names) u in
       let n = operations_of these in let m = operations_of those in
       let a = 12 + 64 * branch_count these n in let b = 12 + 64 * branch_count those m in
-      less_within (20 + a + 4 + b + 0) (64 * (1 + (branch_count these n + branch_count those m))) _ (omega arith)
+      let most = 64 * (1 + (branch_count these n + branch_count those m)) in
+      checked_within most u.passed u.held t (check_of these those) _ (omega arith)
+      (less_within (20 + a + 4 + b + 0) most _ (omega arith)
       (both_within (20 + a + 4 + b) 0 _ (behind_code those behind)
       (both_within (20 + a + 4) b _ (statements_code left further (behind + 1) out again those)
       (both_within (20 + a) 4 _ (between_code (can_complete_all these) those behind next)
@@ -99,7 +150,7 @@ mutual
       (choice_within u.wide u.passed u.held t next) (branch_within flags u (next + 1) out again these n
       (statements_within flags u (next + 1) out again these))) (between_within (can_complete_all these) those behind next))
       (branch_within left further (behind + 1) out again those m (statements_within left further (behind + 1) out again those)))
-      (behind_within those behind))
+      (behind_within those behind)))
   statement_within flags u next out again (While test t body) =
       let left = drop (results_all test) flags in
       let behind = next + 1 + labels_of test in

@@ -19,6 +19,7 @@ pub mod Choices
 pub mod EachStatement
 pub mod Returning
 pub mod Endings
+pub mod Checking
 pub mod Loads
 pub mod Live
 pub mod DoesAsCore

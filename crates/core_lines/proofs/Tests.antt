@@ -37,7 +37,7 @@ use Rattle.core_lines.proofs.Ways.{Tested, Fails, Holds, Neither, Jumps}
 not_both : (s : Step) → ((t : Step) → s ≡ t) → ⊥
 not_both s all = cc (all (Stops SourceEnding.Running), all stuck)
 
-fails_zero : (m : Maps) (v : Content) (n : ℕ) → Shows m v n → ((these those : Step) → core.branch v these those ≡ those) → n ≡ 0
+pub fails_zero : (m : Maps) (v : Content) (n : ℕ) → Shows m v n → ((these those : Step) → core.branch v these those ≡ those) → n ≡ 0
 fails_zero m (Word k) n shows h = by (nat_eq k 0) refl
   where
     by : (b : Bool) → nat_eq k 0 ≡ b → n ≡ 0

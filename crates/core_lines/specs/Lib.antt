@@ -6,6 +6,7 @@ pub mod LocalPlaces
 pub mod Held
 pub mod Operands
 pub mod Choosing
+pub mod Checks
 pub mod Completing
 pub mod Loaded
 pub mod Saved

@@ -17,6 +17,7 @@ pub use Rattle.core_lines.specs.Held.{nth, nth_block, Source, Register, Number, 
 use Rattle.core_lines.specs.Operands.{keep_code}
 use Rattle.core_lines.specs.Operands.{number_kept, move_kept, call_code, return_code, prologue_code}
 use Rattle.core_lines.specs.Choosing.{choice_code, between_code, behind_code}
+use Rattle.core_lines.specs.Checks.{check_of, checked_code}
 use Rattle.core_lines.specs.Completing.{can_complete, can_complete_all, ends_in_return_all}
 use Rattle.core_lines.specs.Saved.{results_in, results_all, taken_in, live_at_start, saves_at}
 pub use Rattle.core_lines.specs.LocalPlaces.{rounded, bytes_of, offsets_from, end_from, first_of, rest_of, shrink, shrunk, homes_here, homes_after, names_after}
@@ -126,16 +127,17 @@ holding held u = record u { held = held }
 
 -- The code of a statement, of whose results these flags say in turn which are saved. The labels that it places are numbered from `next` on; a `break` goes
 -- to the label `out`, and a `continue` to `again`. A choice: the test, the first statements and a jump over the others; a label, the others, and a label. A
--- loop: a label, its test, its body and a jump back; and a label behind it. What a `break` leaves without a loop: its statements, and a label behind them.
+-- check is a branch over what raises its exception. A loop: a label, its test, its body and a jump back; and a label behind it. What a `break` leaves without a loop: its statements, and a label behind them.
 -- What stands behind a statement that can't complete has no code.
 -- What is known of temporaries is known from one statement to the next, within a block, on both ways of a choice, and from the test of a loop to its choice.
 abbrev mutual
   pub statement_code : (flags : List Bool) → Surroundings → (next out again : ℕ) → Statement → List Line
   statement_code flags u next out again (Do operation) = operation_code (flag_at flags 0) u operation
   statement_code flags u next out again (If t these those) = let behind = next + 1 + labels_of these in
-      choice_code u.wide u.passed u.held t next ++ statements_code flags u (next + 1) out again these ++
+      checked_code u.passed u.held t (check_of these those)
+      (choice_code u.wide u.passed u.held t next ++ statements_code flags u (next + 1) out again these ++
       between_code (can_complete_all these) those behind next ++
-      statements_code (drop (results_all these) flags) (naming (names_after_all these u.names) u) (behind + 1) out again those ++ behind_code those behind
+      statements_code (drop (results_all these) flags) (naming (names_after_all these u.names) u) (behind + 1) out again those ++ behind_code those behind)
   statement_code flags u next out again (While test t body) = let behind = next + 1 + labels_of test in
       (Label next ∷ []) ++ statements_code flags (holding [] u) (next + 1) out again test ++
       choice_code u.wide u.passed (held_behind_all u.homes u.statics [] test) t behind ++

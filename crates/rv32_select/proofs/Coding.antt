@@ -1,7 +1,9 @@
 -- The code of a choice, a loop and what a `Break` leaves, from what is appended in turn.
-use Rattle.std.proofs.Common.{◌≡◌, ℕ, ◌+◌, Bool, List, [], ◌∷◌, ◌++◌, drop, ap, ◌∙◌}
+use Rattle.std.proofs.Common.{◌≡◌, ℕ, ◌+◌, Bool, List, [], ◌∷◌, ◌++◌, drop, sym, ap, ◌∙◌}
 use Rattle.std.proofs.lemmas.List.{append_assoc}
 use Rattle.core_meaning.specs.Core.{Statements, If, While, Leave}
+use Rattle.std.specs.Prelude.{None}
+use Rattle.core_lines.specs.Checks.{check_of, checked_code}
 use Rattle.core_lines.specs.Choosing.{choice_code, between_code, behind_code}
 use Rattle.core_lines.specs.Completing.{can_complete_all}
 use Rattle.core_lines.specs.declared.line.Line.{Line}
@@ -24,9 +26,9 @@ module _ (u first second : Surroundings) (t : ℕ) (these those : Statements)
   pub choice_lines : (old tested one turned two new : List Line) (kept left : List Bool) (next inside past other out loop : ℕ)
       → tested ≡ old ++ choice_code u.wide u.passed u.held t next → inside ≡ next + 1 → one ≡ tested ++ statements_code kept u inside out loop these
       → past ≡ inside + labels_of these → turned ≡ one ++ between_code (can_complete_all these) those past next → other ≡ past + 1 → left ≡ drop (results_all these) kept
-      → two ≡ turned ++ statements_code left second other out loop those → new ≡ two ++ behind_code those past
+      → two ≡ turned ++ statements_code left second other out loop those → new ≡ two ++ behind_code those past → check_of these those ≡ None
       → new ≡ old ++ statement_code kept u next out loop (If t these those)
-  choice_lines old tested one turned two new kept left next inside past other out loop test_is inside_is one_is past_is turn_is other_is left_is two_is new_is =
+  choice_lines old tested one turned two new kept left next inside past other out loop test_is inside_is one_is past_is turn_is other_is left_is two_is new_is none =
       let test = choice_code u.wide u.passed u.held t next in
       let these_code = statements_code kept u (next + 1) out loop these in
       let behind = next + 1 + labels_of these in
@@ -34,13 +36,15 @@ module _ (u first second : Surroundings) (t : ℕ) (these those : Statements)
       let those_code = statements_code (drop (results_all these) kept) (naming (names_after_all these u.names) u) (behind + 1) out loop those in
       let past_at : past ≡ behind = past_is ∙ ap (λ n. n + labels_of these) inside_is in
       let other_at : other ≡ behind + 1 = other_is ∙ ap (λ n. n + 1) past_at in
+      let as_choice : new ≡ old ++ (test ++ these_code ++ turn ++ those_code ++ behind_code those behind) =
       joined old (test ++ these_code ++ turn ++ those_code) (behind_code those behind) two new
       (joined old (test ++ these_code ++ turn) those_code turned two
       (joined old (test ++ these_code) turn one turned
       (joined old test these_code tested one test_is (one_is ∙ ap (λ n. tested ++ statements_code kept u n out loop these) inside_is))
       (turn_is ∙ ap (λ n. one ++ between_code (can_complete_all these) those n next) past_at))
       (two_is ∙ (λ i. turned ++ statements_code (left_is i) (second_is i) (other_at i) out loop those)))
-      (new_is ∙ ap (λ n. two ++ behind_code those n) past_at)
+      (new_is ∙ ap (λ n. two ++ behind_code those n) past_at) in
+      as_choice ∙ ap (λ check. old ++ checked_code u.passed u.held t check (test ++ these_code ++ turn ++ those_code ++ behind_code those behind)) (sym none)
 
 -- and behind a loop's test
 module _ (u empty first second : Surroundings) (t : ℕ) (test body : Statements)

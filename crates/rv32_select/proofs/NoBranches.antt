@@ -1,6 +1,6 @@
 -- In the lines of a program in which each label may be out of a branch's reach, no jump on zero is a branch alone.
 use Rattle.std.proofs.Common.{◌≡◌, ℕ, ◌+◌, Bool, true, false, List, [], ◌∷◌, ◌++◌, length, refl, sym, subst}
-use Rattle.std.specs.Prelude.{drop, if◌then◌else◌}
+use Rattle.std.specs.Prelude.{Option, Some, None, drop, if◌then◌else◌}
 use Rattle.std.proofs.lemmas.Bool.{false≢true}
 use Rattle.core_meaning.specs.Core.{
   Statement,
@@ -27,13 +27,14 @@ use Rattle.core_lines.specs.Frames.{epilogue_code}
 use Rattle.core_lines.specs.Homes.{saved_by, saved_slot, flag_at}
 use Rattle.core_lines.specs.Held.{Holding, held_behind, held_behind_all}
 use Rattle.core_lines.specs.Operands.{operand_in, operand_code, call_code, return_code, prologue_code}
+use Rattle.core_lines.specs.Checks.{Failure, check_of, check_code, checked_code}
 use Rattle.core_lines.specs.Choosing.{far, choice_code, between_code, behind_code}
 use Rattle.core_lines.specs.Completing.{can_complete, can_complete_all, ends_in_return_all}
 use Rattle.core_lines.specs.Saved.{results_in, results_all, live_at_start, saves_at}
 use Rattle.core_lines.specs.Selected.{Surroundings, operation_code, labels_in, labels_of, labels_within, holding, naming, names_after, names_after_all}
 use Rattle.core_lines.specs.Selected.{within_block, statement_code, statements_code, frame_bytes, around, ended_code, function_code, functions_code, program_code}
 use Rattle.core_lines.specs.Selected.{offsets_from, datum_locals}
-use Rattle.core_lines.proofs.labels.NoTargets.{operation_none, operand_none, between_none, behind_none, call_none, return_none}
+use Rattle.core_lines.proofs.labels.NoTargets.{check_none, operation_none, operand_none, between_none, behind_none, call_none, return_none}
 use Rattle.core_lines.proofs.labels.NoTargets.{prologue_none, epilogue_none}
 use Rattle.core_lines.proofs.Returning.{statements_jump_last, ended}
 use Rattle.rv32_select.specs.Beginning.{are_long}
@@ -83,6 +84,11 @@ if_long : (reached : Bool) (lines : List Line) → are_long lines ≡ true → a
 if_long true lines is = is
 if_long false lines is = refl
 
+checked_long : (passed : ℕ) (hs : List Holding) (t : ℕ) (check : Option Failure) (lines : List Line) → are_long lines ≡ true
+    → are_long (checked_code passed hs t check lines) ≡ true
+checked_long passed hs t None lines is = is
+checked_long passed hs t (Some f) lines is = none_long (check_code passed hs t f) (check_none passed hs t f)
+
 mutual
   code_long : (flags : List Bool) (u : Surroundings) (next out again : ℕ) (s : Statement) → u.wide ≡ far
       → are_long (statement_code flags u next out again s) ≡ true
@@ -91,11 +97,15 @@ mutual
       let left = drop (results_all these) flags in
       let behind = next + 1 + labels_of these in
       let later = naming (names_after_all these u.names) u in
-      five (choice_code u.wide u.passed u.held t next) (statements_code flags u (next + 1) out again these)
-      (between_code (can_complete_all these) those behind next) (statements_code left later (behind + 1) out again those) (behind_code those behind)
+      let choice = choice_code u.wide u.passed u.held t next in
+      let first = statements_code flags u (next + 1) out again these in
+      let turn = between_code (can_complete_all these) those behind next in
+      let second = statements_code left later (behind + 1) out again those in
+      checked_long u.passed u.held t (check_of these those) (choice ++ first ++ turn ++ second ++ behind_code those behind)
+      (five choice first turn second (behind_code those behind)
       (choice_long u.wide u.passed u.held t next all) (codes_long flags u (next + 1) out again these all)
       (none_long (between_code (can_complete_all these) those behind next) (between_none (can_complete_all these) those behind next))
-      (codes_long left later (behind + 1) out again those all) (none_long (behind_code those behind) (behind_none those behind))
+      (codes_long left later (behind + 1) out again those all) (none_long (behind_code those behind) (behind_none those behind)))
   code_long flags u next out again (While test t body) all =
       let left = drop (results_all test) flags in
       let behind = next + 1 + labels_of test in

@@ -5,3 +5,4 @@ pub mod Starts
 pub mod Marks
 pub mod Beginning
 pub mod Listing
+pub mod Failures

@@ -14,6 +14,7 @@
 
 mod behind;
 mod calls;
+mod checks;
 mod completing;
 mod emit;
 mod flags;

@@ -1,10 +1,10 @@
 // Instructions for statements.
 
-ghost use Rattle.std.specs.Prelude.{◌≡◌, ◌+◌, ◌<◌, ◌≤◌, ◌++◌, [], ◌∷◌, IfOk, OnOk, map, drop, length, pos};
+ghost use Rattle.std.specs.Prelude.{◌≡◌, ◌+◌, ◌<◌, ◌≤◌, ◌++◌, [], ◌∷◌, IfOk, OnOk, map, drop, length, None};
 ghost use Rattle.core_meaning.specs.Core as core;
 ghost use Rattle.core_lines.specs.declared.line.Line.TheVariants.{Jump, Label};
 ghost use Rattle.cyc_core.specs.Trees.{operation_tree, optional_tree, temporary_tree, statement_tree, body_tree, local_tree};
-ghost use Rattle.core_lines.specs.Frames.{kind_number, raise_code};
+ghost use Rattle.core_lines.specs.Checks.{check_of};
 ghost use Rattle.core_lines.specs.Choosing.{far, choice_code, jump_code, between_code, behind_code};
 ghost use Rattle.core_lines.specs.Held.{held_behind_operation, held_behind, held_behind_all, with_results};
 ghost use Rattle.core_lines.specs.Homes.{flag_at};
@@ -16,17 +16,15 @@ ghost use Rattle.rv32_select.specs.Places.{surroundings, saves_left};
 
 use crate::behind::hold_behind;
 use crate::calls::{hold_called, put_call, put_return};
+use crate::checks::{check_of, put_checked, put_raise};
 use crate::completing::{can_complete, can_complete_all, keep_reached};
-use crate::emit::{FIRST, put, put_environment, put_lines};
+use crate::emit::{FIRST, put_lines};
 use crate::operands::put_operand;
 use crate::operation::put_operation;
 use crate::place::Place;
 use crate::whole::{put_clear, put_copy, put_region_alloc, put_unique_alloc};
 use core_lines::Line;
 use cyc_core::{Local, Operation, Statement, Temporary, Words};
-use cyc_words::Kind;
-use rv32_isa::{Instr, Register, Signed12};
-use rv32_machine::RAISE;
 use std::alloc::{AllocError, Global};
 
 /// How a statement can be left.
@@ -114,27 +112,6 @@ fn put_choice(
     let register = put_operand(lines, place, FIRST, temporary)?;
     put_lines(lines, &[Line::JumpIfZero(register, label)])?;
     following(label)
-}
-
-/// The number of an exception's kind.
-fn kind_number(kind: Kind) -> Signed12
-    ensures { result ≡ pos (kind_number kind) }
-{
-    match kind {
-        Kind::NullException => Signed12::new(1),
-        Kind::ArrayBounds => Signed12::new(2),
-    }
-}
-
-/// Appends what ends the program with an exception: its kind's number is the argument of the call.
-fn put_raise(lines: &mut Vec<Line>, kind: Kind) -> Result<(), AllocError>
-    ensures { OnOk result (lines.new.items ≡ lines.old.items ++ raise_code kind) }
-{
-    put(
-        lines,
-        Instr::Addi(Register::ARGUMENT_0, Register::ZERO, kind_number(kind)),
-    )?;
-    put_environment(lines, RAISE)
 }
 
 /// Appends the instructions of an operation, and goes on behind it.
@@ -259,8 +236,7 @@ pub fn put_statements(
     Ok(free)
 }
 
-/// Appends the instructions of a choice: the test, the first statements and a jump over the others; a label, the
-/// others, and a label. Answers the next free label.
+/// Appends the instructions of a choice, which may be a check. Answers the next free label.
 #[cycle(statement)]
 fn put_if(
     lines: &mut Vec<Line>,
@@ -271,6 +247,33 @@ fn put_if(
     these: &[Statement],
     those: &[Statement],
 ) -> Result<usize, AllocError>
+    ensures code { OnOk result (lines.new.items ≡ lines.old.items
+        ++ statement_code (saves_left place.old) (surroundings place.old) next ways.out ways.again
+        (core.If test.0 (body_tree these.now) (body_tree those.now))) }
+    ensures free { IfOk result (λ n. n ≡ next + labels_in (core.If test.0 (body_tree these.now) (body_tree those.now))) }
+    ensures same { let u = surroundings place.old in let s = core.If test.0 (body_tree these.now) (body_tree those.now) in
+        OnOk result (surroundings place.new ≡ holding (held_behind u.homes u.statics u.held s) (naming (names_after s u.names) u)) }
+    ensures saves { OnOk result (saves_left place.new ≡ drop (results_in (core.If test.0 (body_tree these.now) (body_tree those.now))) (saves_left place.old)) }
+{
+    match check_of(these, those) {
+        Some(failure) => put_checked(lines, place, next, test, failure),
+        None => put_ways(lines, place, next, ways, test, these, those),
+    }
+}
+
+/// Appends the instructions of a choice that is no check: the test, the first statements and a jump over the others; a label, the
+/// others, and a label. Answers the next free label.
+#[cycle(statement)]
+fn put_ways(
+    lines: &mut Vec<Line>,
+    place: &mut Place,
+    next: usize,
+    ways: Ways,
+    test: Temporary,
+    these: &[Statement],
+    those: &[Statement],
+) -> Result<usize, AllocError>
+    requires { check_of (body_tree these.now) (body_tree those.now) ≡ None }
     ensures code { OnOk result (lines.new.items ≡ lines.old.items
         ++ statement_code (saves_left place.old) (surroundings place.old) next ways.out ways.again
         (core.If test.0 (body_tree these.now) (body_tree those.now))) }

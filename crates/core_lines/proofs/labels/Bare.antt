@@ -13,10 +13,11 @@ use Rattle.core_meaning.specs.Core.{KeyOpen, KeyClose, KeyFree}
 use Rattle.rv32_machine.specs.State.{data_base}
 use Rattle.core_lines.specs.declared.line.Line.{Line}
 use Rattle.core_lines.specs.declared.line.Line.TheVariants.{Plain, Label, Jump, JumpIfZero, BranchIfZero, CallTo}
-use Rattle.core_lines.specs.Lines.{labels_placed}
+use Rattle.core_lines.specs.Lines.{code_length, labels_placed}
 use Rattle.core_lines.specs.Relaxed.{targets}
 use Rattle.core_lines.specs.Frames.{is_short, word_code, load_code, save_code, slot_of, environment_code, test_code, move_code, give_code}
-use Rattle.core_lines.specs.Frames.{saves_code, restores_code, leave_code, epilogue_code}
+use Rattle.core_lines.specs.Frames.{saves_code, restores_code, leave_code, epilogue_code, raise_code}
+use Rattle.core_lines.specs.Checks.{Failure, Always, ByTest, failure_code, check_code}
 use Rattle.core_lines.specs.Homes.{flag_at}
 use Rattle.core_lines.specs.Loops.{are_words, copy_loop, clear_loop}
 use Rattle.core_lines.specs.Held.{Source, Register, Number, Holding, source_of, without_register, result_register, same_as}
@@ -136,6 +137,18 @@ module _ (passed : ℕ) where
   values_bare hs r (t ∷ ts) =
       two (into_code passed hs (suc r) t) (values_code passed (without_register (suc r) hs) (suc r) ts) (into_bare hs (suc r) t)
       (values_bare (without_register (suc r) hs) (suc r) ts)
+
+  failure_bare : (hs : List Holding) (f : Failure) → are_bare (failure_code passed hs f) ≡ true
+  failure_bare hs (Always kind) = refl
+  failure_bare hs (ByTest t first second) =
+      let branch : List Line = Plain (instr.Beq (operand_in hs 5 t) 0 (pos 16)) ∷ [] in
+      four (operand_code passed hs 5 t) branch (raise_code first) (raise_code second) (operand_bare hs 5 t) refl refl refl
+
+  pub check_bare : (hs : List Holding) (t : ℕ) (f : Failure) → are_bare (check_code passed hs t f) ≡ true
+  check_bare hs t f =
+      let raising = failure_code passed hs f in
+      three (operand_code passed hs 5 t) (Plain (instr.Bne (operand_in hs 5 t) 0 (pos (4 + code_length raising))) ∷ []) raising (operand_bare hs 5 t) refl
+      (failure_bare hs f)
 
   pub return_bare : (hs : List Holding) (ts : List ℕ) (exit : ℕ) → are_bare (return_code passed hs ts exit) ≡ true
   return_bare hs ts exit = two (values_code passed hs 9 ts) (Jump exit ∷ []) (values_bare hs 9 ts) refl

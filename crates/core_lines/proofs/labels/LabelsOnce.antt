@@ -1,7 +1,7 @@
 -- Each label of a program's code is placed once: functions have the first labels, and the statements of each function those behind the statements before.
 use Rattle.std.proofs.Common.{Bool, ◌≡◌, ℕ, ◌+◌, ◌≤◌, ◌<◌, ◌⊎◌, inl, inr, true, false, nat_eq, List, [], ◌∷◌, ◌++◌, refl}
 use Rattle.std.proofs.Common.{sym, ap, subst, ◌∙◌, arith, append_assoc, append-nil}
-use Rattle.std.specs.Prelude.{length, drop, if◌then◌else◌}
+use Rattle.std.specs.Prelude.{Option, Some, None, length, drop, if◌then◌else◌}
 use Rattle.std.specs.List.{All}
 use Rattle.std.proofs.lemmas.List.Elements.{All-nil, All-cons, All-head, All-tail, All-same, All-append, All-weaker}
 use Rattle.std.proofs.lemmas.Bool.{ne_eqb}
@@ -13,8 +13,9 @@ use Rattle.core_lines.specs.declared.line.Line.TheVariants.{Label, Jump}
 use Rattle.core_lines.specs.Lines.{labels_placed, AreOnce}
 use Rattle.core_lines.specs.Frames.{raise_code, epilogue_code}
 use Rattle.core_lines.specs.Selected.{frame_bytes, Surroundings}
-use Rattle.core_lines.specs.Held.{held_behind, held_behind_all}
+use Rattle.core_lines.specs.Held.{Holding, held_behind, held_behind_all}
 use Rattle.core_lines.specs.Operands.{call_code, return_code, prologue_code}
+use Rattle.core_lines.specs.Checks.{Failure, check_of, check_code, checked_code}
 use Rattle.core_lines.specs.Choosing.{choice_code, between_code, behind_code}
 use Rattle.core_lines.specs.Completing.{can_complete, can_complete_all, ends_in_return_all}
 use Rattle.core_lines.specs.Saved.{results_in, results_all, live_at_start, saves_at}
@@ -22,7 +23,7 @@ use Rattle.core_lines.specs.Selected.{operation_code, labels_in, labels_of, labe
 use Rattle.core_lines.specs.Selected.{statement_code, statements_code, around, ended_code, function_code, functions_code, program_code}
 use Rattle.core_lines.specs.Running.{data_offsets}
 use Rattle.core_lines.specs.Homes.{saved_by, saved_slot, flag_at}
-use Rattle.core_lines.proofs.labels.NoLabels.{labels_placed-append, operation_none, choice_code_none, call_none, return_none, epilogue_none, prologue_none}
+use Rattle.core_lines.proofs.labels.NoLabels.{labels_placed-append, operation_none, choice_code_none, check_none, call_none, return_none, epilogue_none, prologue_none}
 use Rattle.core_lines.proofs.Returning.{statements_jump_last, ended_places}
 
 -- ---- lists of labels
@@ -89,6 +90,11 @@ either_from : (low high : ℕ) (reached : Bool) (lines : List Line) → PlacesFr
 either_from low high true lines from = from
 either_from low high false lines from = none_from low high [] refl
 
+checked_from : (low high passed : ℕ) (hs : List Holding) (t : ℕ) (check : Option Failure) (lines : List Line) → PlacesFrom low high lines
+    → PlacesFrom low high (checked_code passed hs t check lines)
+checked_from low high passed hs t None lines from = from
+checked_from low high passed hs t (Some f) lines from = none_from low high (check_code passed hs t f) (check_none passed hs t f)
+
 -- ---- statements
 
 -- The labels of a statement's code are numbered from `next` on. A choice and a loop have two of their own: `next`, and the one behind those of the first part;
@@ -115,8 +121,9 @@ mutual
       let others : PlacesFrom behind end (second ++ last) =
       join behind end (statements_places left (naming (names_after_all these u.names) u) (behind + 1) out again those)
       (behind_from those behind) (omega arith) (omega arith) (omega arith) (omega arith) (inr (omega arith)) in
-      subst (PlacesFrom next end) (sym (append_assoc (front ++ over) second last))
-      (join next end choice others (omega arith) (omega arith) (omega arith) (omega arith) (inl (omega arith)))
+      checked_from next end u.passed u.held t (check_of these those) (front ++ over ++ second ++ last)
+      (subst (PlacesFrom next end) (sym (append_assoc (front ++ over) second last))
+      (join next end choice others (omega arith) (omega arith) (omega arith) (omega arith) (inl (omega arith))))
   statement_places flags u next out again (While test t body) =
       let left = drop (results_all test) flags in
       let behind = next + 1 + labels_of test in

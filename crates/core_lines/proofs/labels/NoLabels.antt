@@ -9,8 +9,9 @@ use Rattle.core_lines.specs.Frames.{epilogue_code}
 use Rattle.core_lines.specs.Held.{Holding}
 use Rattle.core_lines.specs.Operands.{operand_in, operand_code, call_code, return_code, prologue_code}
 use Rattle.core_lines.specs.Choosing.{jump_if_zero, choice_code}
+use Rattle.core_lines.specs.Checks.{Failure, check_code}
 use Rattle.core_lines.specs.Selected.{Surroundings, operation_code}
-use Rattle.core_lines.proofs.labels.Bare.{bare_places, operand_bare, operation_bare, call_bare, return_bare, epilogue_bare, prologue_bare}
+use Rattle.core_lines.proofs.labels.Bare.{bare_places, operand_bare, operation_bare, check_bare, call_bare, return_bare, epilogue_bare, prologue_bare}
 
 pub labels_placed-append : (first second : List Line) → labels_placed (first ++ second) ≡ labels_placed first ++ labels_placed second
 labels_placed-append [] second = refl
@@ -33,6 +34,9 @@ choice_code_none wide passed hs t label =
     by : (b : Bool) → labels_placed ((if b then JumpIfZero (operand_in hs 5 t) label else BranchIfZero (operand_in hs 5 t) label) ∷ []) ≡ []
     by true = refl
     by false = refl
+
+pub check_none : (passed : ℕ) (hs : List Holding) (t : ℕ) (f : Failure) → labels_placed (check_code passed hs t f) ≡ []
+check_none passed hs t f = bare_places (check_code passed hs t f) (check_bare passed hs t f)
 
 pub call_none : (flags : List Bool) (passed : ℕ) (hs : List Holding) (results : List ℕ) (f : ℕ) (arguments : List ℕ)
     → labels_placed (call_code flags passed hs results f arguments) ≡ []

@@ -9,8 +9,9 @@ use Rattle.core_lines.specs.Frames.{epilogue_code}
 use Rattle.core_lines.specs.Held.{Holding}
 use Rattle.core_lines.specs.Operands.{operand_in, operand_code, call_code, return_code, prologue_code}
 use Rattle.core_lines.specs.Choosing.{jump_if_zero, choice_code, between_code, behind_code}
+use Rattle.core_lines.specs.Checks.{Failure, check_code}
 use Rattle.core_lines.specs.Selected.{Surroundings, operation_code}
-use Rattle.core_lines.proofs.labels.Bare.{bare_targets, operand_bare, operation_bare, call_bare, return_bare, epilogue_bare, prologue_bare}
+use Rattle.core_lines.proofs.labels.Bare.{bare_targets, operand_bare, operation_bare, check_bare, call_bare, return_bare, epilogue_bare, prologue_bare}
 
 pub targets_append : (first second : List Line) → targets (first ++ second) ≡ targets first ++ targets second
 targets_append [] second = refl
@@ -44,6 +45,9 @@ between_none false (MoreStatements s ss) behind next = refl
 pub behind_none : (those : Statements) (behind : ℕ) → targets (behind_code those behind) ≡ []
 behind_none NoStatements behind = refl
 behind_none (MoreStatements s ss) behind = refl
+
+pub check_none : (passed : ℕ) (hs : List Holding) (t : ℕ) (f : Failure) → targets (check_code passed hs t f) ≡ []
+check_none passed hs t f = bare_targets (check_code passed hs t f) (check_bare passed hs t f)
 
 pub call_none : (flags : List Bool) (passed : ℕ) (hs : List Holding) (results : List ℕ) (f : ℕ) (arguments : List ℕ)
     → targets (call_code flags passed hs results f arguments) ≡ []

@@ -46,6 +46,7 @@ use Rattle.core_lines.specs.Frames.{environment_code, raise_code, epilogue_code}
 use Rattle.core_lines.specs.Homes.{saved_by, saved_slot, flag_at}
 use Rattle.core_lines.specs.Held.{Holding, held_behind, held_behind_all, source_of, result_register, same_as}
 use Rattle.core_lines.specs.Operands.{operand_in, operand_code, call_code, return_code, prologue_code}
+use Rattle.core_lines.specs.Checks.{Failure, check_of, check_code, checked_code}
 use Rattle.core_lines.specs.Choosing.{far, jump_if_zero, choice_code, between_code, behind_code}
 use Rattle.core_lines.specs.Completing.{can_complete, can_complete_all, ends_in_return_all}
 use Rattle.core_lines.specs.Saved.{results_in, results_all, live_at_start, saves_at}
@@ -55,7 +56,7 @@ use Rattle.core_lines.specs.Selected.{labels_within, holding, naming, names_afte
 use Rattle.core_lines.specs.Selected.{ended_code, function_code, functions_code, program_code}
 use Rattle.core_meaning.specs.Selectable.{IsSelectable}
 use Rattle.core_lines.specs.Running.{DoesAsCore}
-use Rattle.core_lines.proofs.labels.NoTargets.{operand_none, operation_none, between_none, behind_none, call_none, return_none, epilogue_none, prologue_none}
+use Rattle.core_lines.proofs.labels.NoTargets.{operand_none, operation_none, check_none, between_none, behind_none, call_none, return_none, epilogue_none, prologue_none}
 use Rattle.core_lines.proofs.labels.TargetsOnce.{program_targets_once}
 use Rattle.core_lines.proofs.Returning.{ended_short}
 use Rattle.core_lines.proofs.DoesAsCore.{lines_do_as_core}
@@ -186,6 +187,11 @@ module _ (wide : ℕ → Bool) where
       both operand (jump_if_zero far register label ∷ []) operand (jump_if_zero wide register label ∷ [])
       (no_targets_stay wide operand (operand_none passed hs 5 t)) refl
 
+  checked_short : (passed : ℕ) (hs : List Holding) (t : ℕ) (check : Option Failure) (lines short : List Line) → shortened_to wide lines ≡ short
+      → shortened_to wide (checked_code passed hs t check lines) ≡ checked_code passed hs t check short
+  checked_short passed hs t None lines short is = is
+  checked_short passed hs t (Some f) lines short is = no_targets_stay wide (check_code passed hs t f) (check_none passed hs t f)
+
   mutual
     statement_short : (flags : List Bool) (u : Surroundings) (next out again : ℕ) (s : Statement)
         → shortened_to wide (statement_code flags (with_wide far u) next out again s) ≡ statement_code flags (with_wide wide u) next out again s
@@ -204,12 +210,13 @@ module _ (wide : ℕ → Bool) where
         let b' = statements_code flags (with_wide wide u) (next + 1) out again these in
         let c = statements_code left (with_wide far v) (behind + 1) out again those in
         let c' = statements_code left (with_wide wide v) (behind + 1) out again those in
-        both (((a ++ b) ++ over) ++ c) last (((a' ++ b') ++ over) ++ c') last
+        checked_short u.passed u.held t (check_of these those) ((((a ++ b) ++ over) ++ c) ++ last) ((((a' ++ b') ++ over) ++ c') ++ last)
+        (both (((a ++ b) ++ over) ++ c) last (((a' ++ b') ++ over) ++ c') last
         (both ((a ++ b) ++ over) c ((a' ++ b') ++ over) c'
         (both (a ++ b) over (a' ++ b') over
         (both a b a' b' (choice_short u.passed u.held t next) (statements_short flags u (next + 1) out again these))
         (no_targets_stay wide over (between_none (can_complete_all these) those behind next)))
-        (statements_short left v (behind + 1) out again those)) (no_targets_stay wide last (behind_none those behind))
+        (statements_short left v (behind + 1) out again those)) (no_targets_stay wide last (behind_none those behind)))
     statement_short flags u next out again (While test t body) =
         let left = drop (results_all test) flags in
         let behind = next + 1 + labels_of test in

@@ -1,7 +1,7 @@
 -- No two jumps on zero of a program go to one label.
 use Rattle.std.proofs.Common.{Bool, ◌≡◌, ℕ, ◌+◌, ◌≤◌, ◌<◌, ◌⊎◌, inl, true, false, nat_eq, List, [], ◌∷◌, ◌++◌, refl}
 use Rattle.std.proofs.Common.{sym, subst, arith}
-use Rattle.std.specs.Prelude.{length, drop, if◌then◌else◌}
+use Rattle.std.specs.Prelude.{Option, Some, None, length, drop, if◌then◌else◌}
 use Rattle.std.specs.List.{All}
 use Rattle.std.proofs.lemmas.List.Elements.{All-nil, All-cons, All-head, All-tail, All-same, All-append, All-weaker}
 use Rattle.std.proofs.lemmas.Bool.Decides.{nat_tests}
@@ -13,8 +13,9 @@ use Rattle.core_lines.specs.Lines.{AreOnce}
 use Rattle.core_lines.specs.Relaxed.{targets}
 use Rattle.core_lines.specs.Frames.{raise_code, epilogue_code}
 use Rattle.core_lines.specs.Selected.{frame_bytes, Surroundings}
-use Rattle.core_lines.specs.Held.{held_behind, held_behind_all}
+use Rattle.core_lines.specs.Held.{Holding, held_behind, held_behind_all}
 use Rattle.core_lines.specs.Operands.{call_code, return_code, prologue_code}
+use Rattle.core_lines.specs.Checks.{Failure, check_of, check_code, checked_code}
 use Rattle.core_lines.specs.Choosing.{choice_code, between_code, behind_code}
 use Rattle.core_lines.specs.Completing.{can_complete, can_complete_all, ends_in_return_all}
 use Rattle.core_lines.specs.Saved.{results_in, results_all, live_at_start, saves_at}
@@ -22,7 +23,7 @@ use Rattle.core_lines.specs.Selected.{operation_code, labels_in, labels_of, labe
 use Rattle.core_lines.specs.Selected.{statement_code, statements_code, around, ended_code, function_code, functions_code, program_code}
 use Rattle.core_lines.specs.Running.{data_offsets}
 use Rattle.core_lines.specs.Homes.{saved_by, saved_slot, flag_at}
-use Rattle.core_lines.proofs.labels.NoTargets.{targets_append, operation_none, choice_one, between_none, behind_none, call_none, return_none}
+use Rattle.core_lines.proofs.labels.NoTargets.{check_none, targets_append, operation_none, choice_one, between_none, behind_none, call_none, return_none}
 use Rattle.core_lines.proofs.Returning.{statements_jump_last, ended_targets}
 use Rattle.core_lines.proofs.labels.NoTargets.{epilogue_none, prologue_none}
 
@@ -79,6 +80,11 @@ either_from : (low high : ℕ) (reached : Bool) (lines : List Line) → TargetsF
 either_from low high true lines from = from
 either_from low high false lines from = none_from low high [] refl
 
+checked_from : (low high passed : ℕ) (hs : List Holding) (t : ℕ) (check : Option Failure) (lines : List Line) → TargetsFrom low high lines
+    → TargetsFrom low high (checked_code passed hs t check lines)
+checked_from low high passed hs t None lines from = from
+checked_from low high passed hs t (Some f) lines from = none_from low high (check_code passed hs t f) (check_none passed hs t f)
+
 -- ---- statements
 
 -- The labels of a statement's code are numbered from `next` on. A choice and a loop have two of their own: `next`, and the one behind those of the first part.
@@ -104,7 +110,8 @@ mutual
       join next behind a (none_from behind behind over (between_none (can_complete_all these) those behind next)) (omega arith) (omega arith) (omega arith) (omega arith) (inl (omega arith)) in
       let c : TargetsFrom next end (((choice ++ first) ++ over) ++ second) =
       join next end b (statements_targets left v (behind + 1) out again those) (omega arith) (omega arith) (omega arith) (omega arith) (inl (omega arith)) in
-      join next end c (none_from end end last (behind_none those behind)) (omega arith) (omega arith) (omega arith) (omega arith) (inl (omega arith))
+      checked_from next end u.passed u.held t (check_of these those) ((((choice ++ first) ++ over) ++ second) ++ last)
+      (join next end c (none_from end end last (behind_none those behind)) (omega arith) (omega arith) (omega arith) (omega arith) (inl (omega arith)))
   statement_targets flags u next out again (While test t body) =
       let left = drop (results_all test) flags in
       let behind = next + 1 + labels_of test in

@@ -346,8 +346,8 @@ put_statements-returns t c =
 
 -- ---- a choice, a loop, and what is left
 
-pub put_if-returns-clause-code : goal.put_if-returns-clause-code
-put_if-returns-clause-code t c =
+pub put_ways-returns-clause-code : goal.put_ways-returns-clause-code
+put_ways-returns-clause-code t c =
     let a = c.args in
     let first = surroundings c.put_statements.new.place in
     let between = c.in_ok-put_between.ensures
@@ -358,10 +358,10 @@ put_if-returns-clause-code t c =
     c.put_behind.new.lines.items (saves_left a.place.now) (saves_left c.exchange-first.new.self) a.next c.in_ok-inside.inside c.in_ok-behind.behind
     c.in_ok-other.other a.ways.out a.ways.again c.in_ok-inside.ensures.code c.in_ok-inside.ensures.next c.in_ok-behind.ensures.code
     c.in_ok-behind.ensures.free between c.in_ok-other.ensures
-    (ap reverse c.exchange-first.ensures.saves ∙ c.in_ok-behind.ensures.saves) c.in_ok-free.ensures.code c.in_ok-put_behind.ensures
+    (ap reverse c.exchange-first.ensures.saves ∙ c.in_ok-behind.ensures.saves) c.in_ok-free.ensures.code c.in_ok-put_behind.ensures c.requires
 
-pub put_if-returns-clause-saves : goal.put_if-returns-clause-saves
-put_if-returns-clause-saves t c =
+pub put_ways-returns-clause-saves : goal.put_ways-returns-clause-saves
+put_ways-returns-clause-saves t c =
     let one = results_all (body_tree c.args.these.now) in
     let other = results_all (body_tree c.args.those.now) in
     ap reverse c.join.ensures.saves ∙ c.in_ok-free.ensures.saves

@@ -1,4 +1,4 @@
-use Rattle.std.proofs.Common.{◌≡◌, ◌+◌, ◌≤◌, ◌++◌, [], drop, if◌then◌else◌}
+use Rattle.std.proofs.Common.{◌≡◌, ◌+◌, ◌*◌, ◌≤◌, ◌++◌, [], drop, if◌then◌else◌}
 use Rattle.cyc_core.specs.Trees.{statement_tree, body_tree}
 use Rattle.core_lines.specs.Held.{held_behind_all}
 use Rattle.core_lines.specs.Selected.{statements_code, labels_of, names_after_all, holding, naming}
@@ -8,22 +8,25 @@ use Rattle.rv32_select.proofs.Sizes.{statement_size, statements_size}
 use Rattle.rv32_select.proofs.statement.+statement.Given as goal
 
 abbrev pub decreases-put_statement : goal.decreases-put_statement
-decreases-put_statement l = statement_size (statement_tree l.statement.now)
+decreases-put_statement l = 2 * statement_size (statement_tree l.statement.now)
 
 abbrev pub decreases-put_statements : goal.decreases-put_statements
-decreases-put_statements l = statements_size (body_tree l.statements.now)
+decreases-put_statements l = 2 * statements_size (body_tree l.statements.now)
 
 abbrev pub decreases-put_if : goal.decreases-put_if
-decreases-put_if l = statements_size (body_tree l.these.now) + statements_size (body_tree l.those.now) + 1
+decreases-put_if l = 2 * (statements_size (body_tree l.these.now) + statements_size (body_tree l.those.now)) + 3
+
+abbrev pub decreases-put_ways : goal.decreases-put_ways
+decreases-put_ways l = 2 * (statements_size (body_tree l.these.now) + statements_size (body_tree l.those.now)) + 2
 
 abbrev pub decreases-put_while : goal.decreases-put_while
-decreases-put_while l = statements_size (body_tree l.test.now) + statements_size (body_tree l.body.now) + 1
+decreases-put_while l = 2 * (statements_size (body_tree l.test.now) + statements_size (body_tree l.body.now)) + 2
 
 abbrev pub decreases-put_block : goal.decreases-put_block
-decreases-put_block l = statements_size (body_tree l.body.now) + 1
+decreases-put_block l = 2 * statements_size (body_tree l.body.now) + 1
 
 abbrev pub decreases-put_leavable : goal.decreases-put_leavable
-decreases-put_leavable l = statements_size (body_tree l.body.now) + 1
+decreases-put_leavable l = 2 * statements_size (body_tree l.body.now) + 1
 
 -- what is appended, and the code of the statements that are left, is the code of all; so with the labels; the place is the same but for names
 abbrev pub invariant-put_statements-each : goal.invariant-put_statements-each

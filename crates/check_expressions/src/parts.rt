@@ -176,11 +176,7 @@ pub fn given_after<'p>(
 }
 
 /// The count of elements of an operand.
-pub fn counted_part<'p>(
-    alloc: Global,
-    at: u32,
-    operand: Verdict<Value<'p>>,
-) -> Verdict<Value<'p>>
+pub fn counted_part<'p>(alloc: Global, at: u32, operand: Verdict<Value<'p>>) -> Verdict<Value<'p>>
     ensures { short_of value_of result ≡ short_after (short_of value_of operand.entry) (λ a. shortened (counted at a)) }
 {
     match operand {

@@ -1,12 +1,12 @@
 -- What the forms of expressions do, by what their parts do.
-use Rattle.std.proofs.Common.{Bool, List, [], ap, arith, false, length, map, refl, subst, sym, true, ◌≤◌, ◌∙◌, ◌∷◌, ◌≡◌}
-use Rattle.std.specs.Prelude.{IfOk, Result, ◌==◌}
+use Rattle.std.proofs.Common.{Bool, List, [], ap, arith, false, length, map, sym, ◌≤◌, ◌∙◌, ◌∷◌, ◌≡◌}
+use Rattle.std.specs.Prelude.{◌==◌}
 use Rattle.std.proofs.lemmas.List.{length-map}
 use Rattle.std.specs.Vec.{vec_len}
 use Rattle.std.specs.declared.alloc.Global.{Global}
 use Rattle.std.specs.declared.vec.Vec.{Vec}
 use Rattle.cyc_tree.specs.Tree.{Expression, Expressions, Name}
-use Rattle.cyc_tree.specs.View.{OneSuffix, expression_tree, expressions_of, link_tree, links_of, suffix_tree, suffixes_of}
+use Rattle.cyc_tree.specs.View.{OneSuffix, expression_tree, expressions_of, link_tree, links_of, suffixes_of}
 use Rattle.cyc_tree.specs.declared.expression.Expression as code
 use Rattle.cyc_tree.specs.declared.expression.Link as code_link
 use Rattle.cyc_tree.specs.declared.expression.Operator.{Operator}
@@ -17,12 +17,8 @@ use Rattle.flow_summaries.specs.Uses.{Uses, uses_as_value}
 use Rattle.source_typing.specs.Expressions.{judge}
 use Rattle.source_typing.specs.Scope.{Env}
 use Rattle.check_faults.specs.Verdicts.{shortened}
-use Rattle.flow_effects.specs.Used.{IsUsed}
-use Rattle.flow_effects.specs.declared.used.Usage.{Usage}
-use Rattle.flow_effects.specs.declared.used.Used.{Used}
 use Rattle.flow_check.proofs.Folds.{all_passed, links_after, suffixes_shortly, tests_after}
 use Rattle.flow_check.specs.Folded.{all_short_uses, passed_all, passed_links, passed_tests}
-use Rattle.check_types.proofs.Places.{some_there}
 
 -- whether a vector has items, from the test of its length
 pub tested_length : {A : Type 0} (v : Vec A Global) (b : Bool) → b ≡ (vec_len v == 0) → (length v.items == 0) ≡ b

@@ -34,6 +34,11 @@ pub record AreGiven (s all : Short (List Value)) (p whole : Passage) : Type 0 wh
   pub passed : p ≡ whole
 
 module _ (g : Env) where
+  -- an expression without parts, by which nothing is used
+  pub idle_form : (e : code.Expression) (x : Expression) → expression_tree e ≡ x → uses_of g x ≡ uses_as_value unchanged
+      → uses_of g (expression_tree e) ≡ uses_as_value unchanged
+  idle_form e x is idle = ap (uses_of g) is ∙ idle
+
   -- operators of one level
   pub linked_same : (P : Short Value → Uses → Type 0) (e : code.Expression) (ls : List code_link.Link) (s : Short Value) (p : Passage) → (length ls == 0) ≡ false
       → s ≡ judged g e → p ≡ (uses_of g (expression_tree e)).look

@@ -128,7 +128,15 @@ pub(crate) fn seen<'p>(
             let is_unique = is_unique_region(handle);
             let handle = seen(scope, alloc, around, Usage::Look, handle)?;
             let goal = goal_part(scope, is_unique, handle.judged);
-            made(scope, alloc, around.inside(&goal), *at, goal, handle.used.passed, new)
+            made(
+                scope,
+                alloc,
+                around.inside(&goal),
+                *at,
+                goal,
+                handle.used.passed,
+                new,
+            )
         }
     }
 }

@@ -1,5 +1,5 @@
 mod Suffixes
-use Rattle.std.proofs.Common.{⊎_elim, IfOk, List, [], ap, ap₂, arith, drop, length, map, refl, subst, sym, ◌≤◌, ◌∙◌, ◌≡◌}
+use Rattle.std.proofs.Common.{IfOk, List, [], ap, ap₂, arith, drop, inl, inr, length, map, refl, subst, sym, ◌≤◌, ◌∙◌, ◌≡◌}
 use Rattle.std.proofs.lemmas.List.{drop_all}
 use Rattle.cyc_tree.proofs.Forms.{all_of_tree, any_of_tree, assign_tree, call_tree, chain_tree, character_tree, grouped_tree, heap_region_tree}
 use Rattle.cyc_tree.proofs.Forms.{make_union_tree, new_in_tree, new_tree, null_tree, num_elts_tree, number_tree, prefixed_tree, suffixed_tree, text_tree}
@@ -15,9 +15,10 @@ use Rattle.flow_summaries.specs.Uses.{uses_as_value}
 use Rattle.source_meaning.specs.Expressions.{is_unique_region}
 use Rattle.source_typing.specs.Calls.{union_made, union_tag}
 use Rattle.source_typing.specs.Expressions.{judge}
-use Rattle.source_typing.specs.Making.{enclosed, inside}
+use Rattle.source_typing.specs.Making.{To, enclosed, inside}
 use Rattle.source_typing.specs.Operators.{applied, counted, tested_both}
 use Rattle.source_typing.specs.Places.{assigned, grouped}
+use Rattle.source_typing.specs.Regions.{TheHeap}
 use Rattle.source_typing.specs.Scope.{meant}
 use Rattle.check_faults.proofs.Shortened.{shortened_after}
 use Rattle.check_faults.specs.Verdicts.{Is, short_after, short_both, short_of, shortened}
@@ -35,7 +36,7 @@ use Rattle.flow_effects.specs.Used.{IsUsed}
 use Rattle.flow_effects.specs.declared.used.Usage.TheVariants as usage
 use Rattle.flow_check.proofs.Forms.{some_suffixes, tested_length}
 use Rattle.flow_check.proofs.PrefixUses.{look_alone}
-use Rattle.flow_check.proofs.Seeing.{SeenAs, alone_chain, alone_seen, alone_tests, call_same, linked_same, seen_told, suffixed_same, tested_same}
+use Rattle.flow_check.proofs.Seeing.{SeenAs, alone_chain, alone_seen, alone_tests, call_same, idle_form, linked_same, seen_told, suffixed_same, tested_same}
 use Rattle.flow_check.proofs.Steps.{all_step, links_step, tests_step}
 use Rattle.flow_check.proofs.Within.{inside_goal}
 use Rattle.flow_check.specs.Folded.{all_short_uses, passed_all, passed_links, passed_tests}
@@ -47,23 +48,15 @@ use Rattle.flow_check.proofs.expression.+seen.Goals as goal
 
 pub seen-returns-in_ok-judged-in-Number : goal.seen-returns-in_ok-judged-in-Number
 seen-returns-in_ok-judged-in-Number t c = λ g h.
-    let idle : uses_of g (expression_tree c.args.expression.now) ≡ uses_as_value unchanged =
-    ⊎_elim
-    (λ w. ap (uses_of g) (ap (λ e. expression_tree e) w.3 ∙ number_tree w.0 w.1 w.2))
-    (λ r1. ⊎_elim
-    (λ w. ap (uses_of g) (ap (λ e. expression_tree e) w.2 ∙ character_tree w.0 w.1))
-    (λ r2. ⊎_elim
-    (λ w. ap (uses_of g) (ap (λ e. expression_tree e) w.2 ∙ text_tree w.0 w.1))
-    (λ r3. ⊎_elim
-    (λ w. ap (uses_of g) (ap (λ e. expression_tree e) w.1 ∙ null_tree w.0))
-    (λ r4. ⊎_elim
-    (λ w. ap (uses_of g) (ap (λ e. expression_tree e) w.1 ∙ heap_region_tree w.0))
-    (λ w. ap (uses_of g) (ap (λ e. expression_tree e) w.1 ∙ unique_region_tree w.0))
-    r4)
-    r3)
-    r2)
-    r1)
-    c.in-Number.is in
+    let e = c.args.expression.now in
+    let idle : uses_of g (expression_tree e) ≡ uses_as_value unchanged = elim c.in-Number.is [
+      | inl w ↦ idle_form g e (Expression.Number w.0 w.1 w.2) (ap expression_tree w.3 ∙ number_tree w.0 w.1 w.2) refl
+      | inr (inl w) ↦ idle_form g e (Expression.Character w.0 w.1) (ap expression_tree w.2 ∙ character_tree w.0 w.1) refl
+      | inr (inr (inl w)) ↦ idle_form g e (Expression.Text w.0 w.1.items) (ap expression_tree w.2 ∙ text_tree w.0 w.1) refl
+      | inr (inr (inr (inl w))) ↦ idle_form g e (Expression.Null w.0) (ap expression_tree w.1 ∙ null_tree w.0) refl
+      | inr (inr (inr (inr (inl w)))) ↦ idle_form g e (Expression.HeapRegion w.0) (ap expression_tree w.1 ∙ heap_region_tree w.0) refl
+      | inr (inr (inr (inr (inr w)))) ↦ idle_form g e (Expression.UniqueRegion w.0) (ap expression_tree w.1 ∙ unique_region_tree w.0) refl
+    ] in
     record {
       judged = c.in_ok-judged-in-Number.ensures g h.scope;
       used = subst (λ u. IsUsed c.args.how u c.idle-used.result) (sym idle) (c.idle-used.ensures c.args.how);
@@ -272,7 +265,7 @@ seen-returns-in-New t c = λ g h.
     let x = Expression.New at m in
     seen_told g c.args.how c.made.result c.args.expression.now x (ap (λ e. expression_tree e) c.in-New.is ∙ new_tree at c.in-New.new)
     (subst (λ v. IfOk c.made.result (IsSeen c.args.how v (uses_of g x))) (new_is g at m)
-    (subst (λ p. IfOk c.made.result (IsSeen c.args.how (short_made g at (short_of goal_in c.made.goal) m) (uses_made g m p))) c.nothing.ensures
+    (subst (λ p. IfOk c.made.result (IsSeen c.args.how (short_made g at (Is (To TheHeap)) m) (uses_made g m p))) c.nothing.ensures
     (c.made.ensures g c.args.how h)))
 
 pub seen-returns-in_ok-handle-in-NewIn : goal.seen-returns-in_ok-handle-in-NewIn

@@ -1,4 +1,4 @@
-use Rattle.std.proofs.Common.{◌≡◌, [], drop, map}
+use Rattle.std.proofs.Common.{[], drop, map}
 use Rattle.cyc_tree.specs.View.{expression_tree, expressions_of, link_tree, links_of, suffix_tree}
 use Rattle.flow_summaries.specs.Passages.{unchanged}
 use Rattle.flow_summaries.specs.Uses.{Uses}

@@ -40,8 +40,8 @@ module _ (g : Env) where
   idle_form e x is idle = ap (uses_of g) is ∙ idle
 
   -- operators of one level
-  pub linked_same : (P : Short Value → Uses → Type 0) (e : code.Expression) (ls : List code_link.Link) (s : Short Value) (p : Passage) → (length ls == 0) ≡ false
-      → s ≡ judged g e → p ≡ (uses_of g (expression_tree e)).look
+  pub linked_same : (P : Short Value → Uses → Type 0) (e : code.Expression) (ls : List code_link.Link) (s : Short Value) (p : Passage)
+      → (length ls == 0) ≡ false → s ≡ judged g e → p ≡ (uses_of g (expression_tree e)).look
       → P (short_links g s (links_of (map link_tree ls))) (uses_as_value (passed_links g p (links_of (map link_tree ls))))
       → P (shortened (judge g (Expression.Chain (expression_tree e) (links_of (map link_tree ls)))))
       (uses_of g (Expression.Chain (expression_tree e) (links_of (map link_tree ls))))
@@ -51,21 +51,23 @@ module _ (g : Env) where
       (ap (λ q. uses_as_value (passed_links g q (links_of (map link_tree ls)))) looks ∙ sym (chain_uses g (expression_tree e) ls some)) k)
 
   -- `&&`, and `||`, which is judged like it
-  pub tested_same : (P : Short Value → Uses → Type 0) (e : code.Expression) (es : List code.Expression) (s : Short Value) (p : Passage) → (length es == 0) ≡ false
-      → s ≡ judged g e → p ≡ (uses_of g (expression_tree e)).look
+  pub tested_same : (P : Short Value → Uses → Type 0) (e : code.Expression) (es : List code.Expression) (s : Short Value) (p : Passage)
+      → (length es == 0) ≡ false → s ≡ judged g e → p ≡ (uses_of g (expression_tree e)).look
       → P (short_tests g s (expressions_of (map expression_tree es))) (uses_as_value (passed_tests g p (expressions_of (map expression_tree es))))
       → P (shortened (judge g (Expression.AllOf (expression_tree e) (expressions_of (map expression_tree es)))))
       (uses_of g (Expression.AllOf (expression_tree e) (expressions_of (map expression_tree es))))
   tested_same P e es s p some is looks k =
       subst (λ t. P t (uses_of g (Expression.AllOf (expression_tree e) (expressions_of (map expression_tree es))))) (tests_is g e es s is)
       (subst (λ u. P (short_tests g s (expressions_of (map expression_tree es))) u)
-      (ap (λ q. uses_as_value (passed_tests g q (expressions_of (map expression_tree es)))) looks ∙ sym (tests_joined g (uses_of g (expression_tree e)) es some)) k)
+      (ap (λ q. uses_as_value (passed_tests g q (expressions_of (map expression_tree es)))) looks
+      ∙ sym (tests_joined g (uses_of g (expression_tree e)) es some)) k)
 
   -- a call, by its arguments
   pub call_same : (P : Short Value → Uses → Type 0) (x : Name) (es : List code.Expression) (t : Short (List Value)) (p : Passage) → t ≡ given_from g (Is []) es
       → p ≡ passed_all g unchanged (expressions_of (map expression_tree es))
       → P (short_both (shortened (target x.at (meant g x.text))) t (λ t vs. shortened (called g x.at t vs))) (uses_as_value p)
-      → P (shortened (judge g (Expression.Call x (expressions_of (map expression_tree es))))) (uses_of g (Expression.Call x (expressions_of (map expression_tree es))))
+      → P (shortened (judge g (Expression.Call x (expressions_of (map expression_tree es)))))
+      (uses_of g (Expression.Call x (expressions_of (map expression_tree es))))
   call_same P x es t p are passed k =
       subst (λ s. P s (uses_of g (Expression.Call x (expressions_of (map expression_tree es)))))
       (call_is g x es (shortened (target x.at (meant g x.text))) t refl are)
@@ -100,7 +102,8 @@ module _ (g : Env) (how : Usage) where
 
   pub suffixed_same : (P : Short Value → Uses → Type 0) (e : Expression) (xs : List code_suffix.Suffix)
       → P (short_suffixes g (shortened (judge g e)) (map suffix_tree xs)) (all_short_uses g (shortened (judge g e)) (uses_of g e) (map suffix_tree xs))
-      → P (shortened (judge g (Expression.Suffixed e (suffixes_of (map suffix_tree xs))))) (uses_of g (Expression.Suffixed e (suffixes_of (map suffix_tree xs))))
+      → P (shortened (judge g (Expression.Suffixed e (suffixes_of (map suffix_tree xs)))))
+      (uses_of g (Expression.Suffixed e (suffixes_of (map suffix_tree xs))))
   suffixed_same P e xs k =
       subst (λ s. P s (uses_of g (Expression.Suffixed e (suffixes_of (map suffix_tree xs))))) (suffixed_is g e xs (shortened (judge g e)) refl)
       (subst (λ u. P (short_suffixes g (shortened (judge g e)) (map suffix_tree xs)) u) (sym (suffixed_uses g e (map suffix_tree xs))) k)

@@ -1,3 +1,4 @@
+mod Folded
 mod Suffixes
 use Rattle.std.proofs.Common.{IfOk, List, [], ap, ap₂, arith, drop, inl, inr, length, map, refl, subst, sym, ◌≤◌, ◌∙◌, ◌≡◌}
 use Rattle.std.proofs.lemmas.List.{drop_all}
@@ -41,6 +42,7 @@ use Rattle.flow_check.proofs.Steps.{all_step, links_step, tests_step}
 use Rattle.flow_check.proofs.Within.{inside_goal}
 use Rattle.flow_check.specs.Folded.{all_short_uses, passed_all, passed_links, passed_tests}
 use Rattle.flow_check.specs.Seen.{IsSeen}
+use Rattle.flow_check.proofs.expression.+seen.Answers.Folded as Folded
 use Rattle.flow_check.proofs.expression.+seen.Answers.Suffixes as Suffixes
 use Rattle.flow_check.proofs.expression.+seen.Goals as goal
 
@@ -65,8 +67,8 @@ seen-returns-in_ok-judged-in-Number t c = λ g h.
 pub seen-returns-in_ok-used-in-Variable : goal.seen-returns-in_ok-used-in-Variable
 seen-returns-in_ok-used-in-Variable t c = λ g h. record {
   judged = c.in_ok-judged-in-Variable.ensures g h.scope;
-  used = subst (λ e. IsUsed c.args.how (uses_of g e) c.in_ok-used-in-Variable.used) (sym (ap (λ e. expression_tree e) c.in-Variable.is ∙ variable_tree c.in-Variable.name))
-      (c.in_ok-used-in-Variable.ensures g h);
+  used = subst (λ e. IsUsed c.args.how (uses_of g e) c.in_ok-used-in-Variable.used)
+      (sym (ap (λ e. expression_tree e) c.in-Variable.is ∙ variable_tree c.in-Variable.name)) (c.in_ok-used-in-Variable.ensures g h);
 }
 
 -- ---- forms with parts
@@ -288,97 +290,33 @@ seen-returns-in_ok-handle-in-NewIn t c = λ g h.
     (ap (λ e. expression_tree e) c.in-NewIn.is ∙ new_in_tree at c.in-NewIn.handle c.in-NewIn.new)
     (subst (λ v. IfOk c.made-in-NewIn.result (IsSeen c.args.how v (uses_of g x)))
     (new_in_is g at (expression_tree handle) m (short_of goal_in c.goal_part-goal.result) goal_known)
-    (subst (λ p. IfOk c.made-in-NewIn.result (IsSeen c.args.how (short_made (inside to g) at (short_of goal_in c.goal_part-goal.result) m) (uses_made (inside to g) m p)))
+    (subst (λ p. IfOk c.made-in-NewIn.result (IsSeen c.args.how
+    (short_made (inside to g) at (short_of goal_in c.goal_part-goal.result) m) (uses_made (inside to g) m p)))
     looked.used.passed
     (c.made-in-NewIn.ensures (inside to g) c.args.how (inside_goal c.inside.result to h c.inside.ensures.counters inside_known))))
 
 -- ---- parts one after another
 
 pub linked-each-preserved : goal.linked-each-preserved
-linked-each-preserved t c = λ g h.
-    let so_far = c.each.found in
-    let next = c.in_ok-found.found in
-    let operand = c.in_ok-operand.ensures g h in
-    record {
-      judged = judging.links_step g c.args.links.now c.each.link-index c.link-item.result (short_of value_of so_far.judged) (short_of value_of next.judged)
-          c.each-test.true c.link-item.is
-          (c.in_ok-found.ensures.judged g h.scope.sees
-          ∙ ap (λ s. short_both (short_of value_of so_far.judged) s (λ a b. shortened (applied g c.link-item.result.operator a b))) operand.judged)
-          ∙ (c.each.invariant g h).judged;
-      passed = links_step g c.args.links.now c.each.link-index c.link-item.result (passage_of so_far.used.passed) (passage_of next.used.passed)
-          c.each-test.true c.link-item.is (c.in_ok-found.ensures.passed ∙ ap (λ p. in_turn (passage_of so_far.used.passed) p) operand.used.passed)
-          ∙ (c.each.invariant g h).passed;
-    }
+linked-each-preserved = Folded.linked-each-preserved
 
 pub linked-returns : goal.linked-returns
-linked-returns t c = λ g how h.
-    let ls = c.args.links.now in
-    let done : drop c.each.link-index ls ≡ [] = drop_all c.each.link-index ls (omega (arith, c.each-test.false)) in
-    let all = c.each.invariant g h in
-    subst (λ s. IsSeen how s (uses_as_value (passed_links g (passage_of c.args.first.used.passed) (links_of (map link_tree ls)))) c.as_value.result)
-    (ap (λ xs. links_from g (short_of value_of c.each.found.judged) xs) (sym done) ∙ all.judged)
-    (c.as_value.ensures how (passed_links g (passage_of c.args.first.used.passed) (links_of (map link_tree ls)))
-    (ap (λ xs. passed_links g (passage_of c.each.found.used.passed) (links_of (map link_tree xs))) (sym done) ∙ all.passed))
+linked-returns = Folded.linked-returns
 
 pub all_tested-each-preserved : goal.all_tested-each-preserved
-all_tested-each-preserved t c = λ g h.
-    let so_far = c.each.found in
-    let next = c.tested-found.result in
-    let operand = c.in_ok-operand.ensures g h in
-    record {
-      judged = judging.tests_step g c.args.others.now c.each.expression-index c.expression-item.result (short_of value_of so_far.judged)
-          (short_of value_of next.judged) c.each-test.true c.expression-item.is
-          (c.tested-found.ensures.judged ∙ ap (λ s. short_both (short_of value_of so_far.judged) s (λ a b. shortened (tested_both a b))) operand.judged)
-          ∙ (c.each.invariant g h).judged;
-      passed = tests_step g c.args.others.now c.each.expression-index c.expression-item.result (passage_of so_far.used.passed) (passage_of next.used.passed)
-          c.each-test.true c.expression-item.is (c.tested-found.ensures.passed ∙ ap (λ p. in_turn_or_not (passage_of so_far.used.passed) p) operand.used.passed)
-          ∙ (c.each.invariant g h).passed;
-    }
+all_tested-each-preserved = Folded.all_tested-each-preserved
 
 pub all_tested-returns : goal.all_tested-returns
-all_tested-returns t c = λ g how h.
-    let es = c.args.others.now in
-    let done : drop c.each.expression-index es ≡ [] = drop_all c.each.expression-index es (omega (arith, c.each-test.false)) in
-    let all = c.each.invariant g h in
-    subst (λ s. IsSeen how s (uses_as_value (passed_tests g (passage_of c.args.first.used.passed) (expressions_of (map expression_tree es)))) c.as_value.result)
-    (ap (λ xs. tests_from g (short_of value_of c.each.found.judged) xs) (sym done) ∙ all.judged)
-    (c.as_value.ensures how (passed_tests g (passage_of c.args.first.used.passed) (expressions_of (map expression_tree es)))
-    (ap (λ xs. passed_tests g (passage_of c.each.found.used.passed) (expressions_of (map expression_tree xs))) (sym done) ∙ all.passed))
+all_tested-returns = Folded.all_tested-returns
 
 pub called-each-init : goal.called-each-init
-called-each-init t c = λ g h.
-    let es = c.args.arguments.now in
-    record {
-      values = ap (λ s. given_from g s es) c.none-given.ensures.values;
-      passed = ap (λ p. passed_all g p (expressions_of (map expression_tree es))) c.none-given.ensures.passed;
-    }
+called-each-init = Folded.called-each-init
 
 pub called-each-preserved : goal.called-each-preserved
-called-each-preserved t c = λ g h.
-    let so_far = c.each.given in
-    let next = c.in_ok-given.given in
-    let argument = c.in_ok-argument.ensures g h in
-    record {
-      values = given_step g c.args.arguments.now c.each.argument-index c.argument-item.result (short_of (λ vs. values_of vs.items) so_far.values)
-          (short_of (λ vs. values_of vs.items) next.values) c.each-test.true c.argument-item.is
-          (c.in_ok-given.ensures.values ∙ ap (λ s. short_both (short_of (λ vs. values_of vs.items) so_far.values) s one_more) argument.judged)
-          ∙ (c.each.invariant g h).values;
-      passed = all_step g c.args.arguments.now c.each.argument-index c.argument-item.result (passage_of so_far.passed) (passage_of next.passed)
-          c.each-test.true c.argument-item.is (c.in_ok-given.ensures.passed ∙ ap (λ p. in_turn (passage_of so_far.passed) p) argument.used.passed)
-          ∙ (c.each.invariant g h).passed;
-    }
+called-each-preserved = Folded.called-each-preserved
 
 pub called-returns : goal.called-returns
-called-returns t c = λ g how h.
-    let es = c.args.arguments.now in
-    let given = c.each.given in
-    let done : drop c.each.argument-index es ≡ [] = drop_all c.each.argument-index es (omega (arith, c.each-test.false)) in
-    let all = c.each.invariant g h in
-    call_same g (λ s u. IfOk c.call.result (IsSeen how s u)) (name_tree c.args.name.now) es (short_of (λ vs. values_of vs.items) given.values)
-    (passage_of given.passed)
-    (ap (λ xs. given_from g (short_of (λ vs. values_of vs.items) given.values) xs) (sym done) ∙ all.values)
-    (ap (λ xs. passed_all g (passage_of given.passed) (expressions_of (map expression_tree xs))) (sym done) ∙ all.passed)
-    (c.call.ensures g how h.scope)
+called-returns = Folded.called-returns
 
 -- ---- operators before an operand
 

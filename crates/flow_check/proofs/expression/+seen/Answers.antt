@@ -1,7 +1,6 @@
 mod Folded
 mod Suffixes
-use Rattle.std.proofs.Common.{IfOk, List, [], ap, ap₂, arith, drop, inl, inr, length, map, refl, subst, sym, ◌≤◌, ◌∙◌, ◌≡◌}
-use Rattle.std.proofs.lemmas.List.{drop_all}
+use Rattle.std.proofs.Common.{IfOk, List, [], ap, ap₂, inl, inr, length, map, refl, subst, sym, ◌≤◌, ◌∙◌, ◌≡◌}
 use Rattle.cyc_tree.proofs.Forms.{all_of_tree, any_of_tree, assign_tree, call_tree, chain_tree, character_tree, grouped_tree, heap_region_tree}
 use Rattle.cyc_tree.proofs.Forms.{make_union_tree, new_in_tree, new_tree, null_tree, num_elts_tree, number_tree, prefixed_tree, suffixed_tree, text_tree}
 use Rattle.cyc_tree.proofs.Forms.{unique_region_tree, variable_tree}
@@ -11,13 +10,13 @@ use Rattle.cyc_tree.specs.declared.expression.Expression as code
 use Rattle.cyc_tree.specs.declared.expression.Link as code_link
 use Rattle.cyc_tree.specs.declared.expression.Suffix.{Suffix}
 use Rattle.flow_summaries.specs.Expressions.{uses_made, uses_of}
-use Rattle.flow_summaries.specs.Passages.{Passage, in_turn, in_turn_or_not, unchanged}
+use Rattle.flow_summaries.specs.Passages.{in_turn, unchanged}
 use Rattle.flow_summaries.specs.Uses.{uses_as_value}
 use Rattle.source_meaning.specs.Expressions.{is_unique_region}
 use Rattle.source_typing.specs.Calls.{union_made, union_tag}
 use Rattle.source_typing.specs.Expressions.{judge}
 use Rattle.source_typing.specs.Making.{To, enclosed, inside}
-use Rattle.source_typing.specs.Operators.{applied, counted, tested_both}
+use Rattle.source_typing.specs.Operators.{counted}
 use Rattle.source_typing.specs.Places.{assigned, grouped}
 use Rattle.source_typing.specs.Regions.{TheHeap}
 use Rattle.source_typing.specs.Scope.{meant}
@@ -26,21 +25,19 @@ use Rattle.check_faults.specs.Verdicts.{Is, short_after, short_both, short_of, s
 use Rattle.check_operators.specs.Goals.{goal_in}
 use Rattle.check_operators.specs.Values.{value_of}
 use Rattle.check_calls.specs.Enclosings.{enclosing_of}
-use Rattle.check_expressions.proofs.Forms.{assigned_is, counted_is, given_from, given_step, judged, links_from, tests_from, union_is}
-use Rattle.check_expressions.proofs.Forms as judging
+use Rattle.check_expressions.proofs.Forms.{assigned_is, counted_is, judged, union_is}
 use Rattle.check_expressions.proofs.Makings.{enclosed_is, goal_is, handle_goal, new_in_is, new_is}
 use Rattle.check_expressions.specs.Goals.{enclosed_short, short_made}
-use Rattle.check_expressions.specs.Joined.{one_more, short_links, short_tests, values_of}
+use Rattle.check_expressions.specs.Joined.{short_links, short_tests}
 use Rattle.check_expressions.specs.Suffixes.{short_suffixes}
 use Rattle.flow_effects.specs.Passed.{passage_of}
 use Rattle.flow_effects.specs.Used.{IsUsed}
 use Rattle.flow_effects.specs.declared.used.Usage.TheVariants as usage
 use Rattle.flow_check.proofs.Forms.{some_suffixes, tested_length}
 use Rattle.flow_check.proofs.PrefixUses.{look_alone}
-use Rattle.flow_check.proofs.Seeing.{SeenAs, alone_chain, alone_seen, alone_tests, call_same, idle_form, linked_same, seen_told, suffixed_same, tested_same}
-use Rattle.flow_check.proofs.Steps.{all_step, links_step, tests_step}
+use Rattle.flow_check.proofs.Seeing.{SeenAs, alone_chain, alone_seen, alone_tests, idle_form, linked_same, seen_told, suffixed_same, tested_same}
 use Rattle.flow_check.proofs.Within.{inside_goal}
-use Rattle.flow_check.specs.Folded.{all_short_uses, passed_all, passed_links, passed_tests}
+use Rattle.flow_check.specs.Folded.{all_short_uses, passed_links, passed_tests}
 use Rattle.flow_check.specs.Seen.{IsSeen}
 use Rattle.flow_check.proofs.expression.+seen.Answers.Folded as Folded
 use Rattle.flow_check.proofs.expression.+seen.Answers.Suffixes as Suffixes

@@ -7,7 +7,7 @@ use Rattle.flow_summaries.specs.Uses.{uses_as_value}
 use Rattle.source_typing.specs.Operators.{applied, tested_both}
 use Rattle.check_faults.specs.Verdicts.{short_both, short_of, shortened}
 use Rattle.check_operators.specs.Values.{value_of}
-use Rattle.check_expressions.proofs.Forms.{assigned_is, counted_is, given_from, given_step, judged, links_from, tests_from, union_is}
+use Rattle.check_expressions.proofs.Forms.{given_from, given_step, links_from, tests_from}
 use Rattle.check_expressions.proofs.Forms as judging
 use Rattle.check_expressions.specs.Joined.{one_more, values_of}
 use Rattle.flow_effects.specs.Passed.{passage_of}

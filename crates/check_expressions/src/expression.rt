@@ -17,11 +17,11 @@ ghost use Rattle.check_expressions.specs.Suffixes.{short_suffixes};
 use crate::around::{Around, meaning, with_counter};
 use crate::making::{array_parts, goal_part, is_unique_region, made_parts};
 use crate::parts::{
-    applied_parts, assigned_parts, called_parts, counted_part, given_after, grouped_part,
+    applied_parts, assigned_parts, call_part, counted_part, given_after, grouped_part,
     prefixed_part, refused, tested_parts, union_parts,
 };
 use crate::suffixes::{arrow_part, indexed_parts, member_part};
-use check_calls::{Enclosing, called_target};
+use check_calls::Enclosing;
 use check_faults::Verdict;
 use check_operators::{Goal, Value, character, heap_region, null, number, string, variable};
 use check_scopes::Scope;
@@ -179,9 +179,7 @@ fn judge_call<'p>(
         let argument = judge_inside(scope, alloc, around, argument)?;
         given = given_after(given, argument)?;
     }
-    let named = meaning(scope, around, &name.text);
-    let callee = called_target(scope.tables, name.at, &name.text, named);
-    called_parts(scope, alloc, around.enclosing, name.at, callee, given)
+    call_part(scope, alloc, around, name, given)
 }
 
 /// Members and subscripts, after what stands before them.

@@ -9,6 +9,9 @@ mod suffixes;
 
 pub use around::{Around, is_counter, with_counter};
 pub use expression::{judge, judge_inside};
-pub use making::{goal_part, is_unique_region};
-pub use parts::prefixed_part;
+pub use making::{array_parts, goal_part, is_unique_region, made_parts};
+pub use parts::{
+    applied_parts, assigned_parts, call_part, counted_part, given_after, prefixed_part,
+    tested_parts, union_parts,
+};
 pub use suffixes::{arrow_part, indexed_parts, member_part};

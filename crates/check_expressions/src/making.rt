@@ -86,7 +86,7 @@ fn made_both<'p>(
 /// What is made of a value, by where it is made and what it is. What should be a handle and is none is at fault here, whether or not
 /// the value is judged.
 #[tactic(auto, using(crate::proofs::Makings::with_refused, crate::proofs::Makings::with_judged))]
-pub(crate) fn made_parts<'p>(
+pub fn made_parts<'p>(
     at: u32,
     goal: Verdict<Goal>,
     value: Verdict<Value<'p>>,
@@ -121,7 +121,7 @@ fn array_both<'p>(
 /// An array that is made, by where it is made and what its count and element are. What should be a handle and is none is at fault here,
 /// whether or not these are judged.
 #[tactic(auto, using(crate::proofs::Makings::array_refused))]
-pub(crate) fn array_parts<'p>(
+pub fn array_parts<'p>(
     at: u32,
     goal: Verdict<Goal>,
     count: Verdict<Value<'p>>,

@@ -4,7 +4,7 @@ ghost use Rattle.std.specs.Prelude.{◌≡◌, IfOk};
 ghost use Rattle.cyc_tree.specs.View.{name_tree};
 ghost use Rattle.source_typing.specs.Operators.{applied, counted, prefixed, tested_both};
 ghost use Rattle.source_typing.specs.Places.{assigned, grouped};
-ghost use Rattle.source_typing.specs.Calls.{called, union_made, union_tag};
+ghost use Rattle.source_typing.specs.Calls.{called, target, union_made, union_tag};
 ghost use Rattle.source_typing.specs.Scope.{Env, meant};
 ghost use Rattle.source_typing.specs.Faults.{fault, type_rule};
 ghost use Rattle.check_faults.specs.Verdicts.{Wrong, short_after, short_both, short_of, shortened};
@@ -17,7 +17,7 @@ ghost use Rattle.check_expressions.specs.Within.{IsIn};
 ghost use Rattle.check_expressions.specs.Joined.{one_more, values_of};
 
 use crate::around::{Around, meaning};
-use check_calls::{Enclosing, Target, UnionMember, called, union_made, union_tag};
+use check_calls::{Enclosing, Target, UnionMember, called, called_target, union_made, union_tag};
 use check_faults::{Fault, FaultKind, Verdict};
 use check_operators::{Value, applied, assigned, counted, grouped, prefixed, tested_both};
 use check_scopes::Scope;
@@ -65,7 +65,7 @@ pub(crate) fn grouped_part<'p>(at: u32, inner: Verdict<Value<'p>>) -> Verdict<Va
 
 /// Two operands of an operator.
 #[tactic(auto, using(check_faults::proofs::Shortened::pair_wrong, check_faults::proofs::Shortened::pair_not_judged))]
-pub(crate) fn applied_parts<'p>(
+pub fn applied_parts<'p>(
     scope: &Scope<'_, 'p>,
     alloc: Global,
     operator: Operator,
@@ -84,7 +84,7 @@ pub(crate) fn applied_parts<'p>(
 
 /// Two operands of `&&` or `||`.
 #[tactic(auto, using(check_faults::proofs::Shortened::pair_known, check_faults::proofs::Shortened::pair_wrong, check_faults::proofs::Shortened::pair_not_judged))]
-pub(crate) fn tested_parts<'p>(
+pub fn tested_parts<'p>(
     alloc: Global,
     one: Verdict<Value<'p>>,
     two: Verdict<Value<'p>>,
@@ -100,7 +100,7 @@ pub(crate) fn tested_parts<'p>(
 
 /// A place, and what is assigned to it.
 #[tactic(auto, using(check_faults::proofs::Shortened::pair_wrong, check_faults::proofs::Shortened::pair_not_judged))]
-pub(crate) fn assigned_parts<'p>(
+pub fn assigned_parts<'p>(
     scope: &Scope<'_, 'p>,
     alloc: Global,
     to: Verdict<Value<'p>>,
@@ -118,7 +118,7 @@ pub(crate) fn assigned_parts<'p>(
 
 /// What is called, and its arguments.
 #[tactic(auto, using(check_faults::proofs::Shortened::pair_wrong, check_faults::proofs::Shortened::pair_not_judged))]
-pub(crate) fn called_parts<'p>(
+fn called_parts<'p>(
     scope: &Scope<'_, 'p>,
     alloc: Global,
     enclosing: Enclosing,
@@ -139,9 +139,26 @@ pub(crate) fn called_parts<'p>(
     }
 }
 
+/// A call of a name with these arguments.
+pub fn call_part<'p>(
+    scope: &Scope<'_, 'p>,
+    alloc: Global,
+    around: Around<'_>,
+    name: &Name,
+    given: Verdict<Vec<Value<'p>>>,
+) -> Result<Verdict<Value<'p>>, AllocError>
+    ensures { (g : Env) → IsIn scope.now around.entry g → let x = name_tree name.now in IfOk result
+        (λ v. short_of value_of v
+        ≡ short_both (shortened (target x.at (meant g x.text))) (short_of (λ vs. values_of vs.items) given.entry) (λ t vs. shortened (called g x.at t vs))) }
+{
+    let named = meaning(scope, around, &name.text);
+    let callee = called_target(scope.tables, name.at, &name.text, named);
+    called_parts(scope, alloc, around.enclosing, name.at, callee, given)
+}
+
 /// Arguments, and one after them.
 #[tactic(auto, using(check_faults::proofs::Shortened::pair_wrong, check_faults::proofs::Shortened::pair_not_judged))]
-pub(crate) fn given_after<'p>(
+pub fn given_after<'p>(
     given: Verdict<Vec<Value<'p>>>,
     argument: Verdict<Value<'p>>,
 ) -> Result<Verdict<Vec<Value<'p>>>, AllocError>
@@ -159,11 +176,7 @@ pub(crate) fn given_after<'p>(
 }
 
 /// The count of elements of an operand.
-pub(crate) fn counted_part<'p>(
-    alloc: Global,
-    at: u32,
-    operand: Verdict<Value<'p>>,
-) -> Verdict<Value<'p>>
+pub fn counted_part<'p>(alloc: Global, at: u32, operand: Verdict<Value<'p>>) -> Verdict<Value<'p>>
     ensures { short_of value_of result ≡ short_after (short_of value_of operand.entry) (λ a. shortened (counted at a)) }
 {
     match operand {
@@ -195,7 +208,7 @@ fn made_union<'p>(
 }
 
 /// A value of a union that is made of a member's value.
-pub(crate) fn union_parts<'p>(
+pub fn union_parts<'p>(
     scope: &Scope<'_, 'p>,
     alloc: Global,
     around: Around<'_>,

@@ -1,12 +1,12 @@
 -- What the forms of expressions do, by what their parts do.
-use Rattle.std.proofs.Common.{Bool, List, [], ap, arith, false, length, map, refl, subst, sym, true, ◌≤◌, ◌∙◌, ◌∷◌, ◌≡◌}
-use Rattle.std.specs.Prelude.{IfOk, Result, ◌==◌}
+use Rattle.std.proofs.Common.{Bool, List, [], ap, arith, false, length, map, sym, ◌≤◌, ◌∙◌, ◌∷◌, ◌≡◌}
+use Rattle.std.specs.Prelude.{◌==◌}
 use Rattle.std.proofs.lemmas.List.{length-map}
 use Rattle.std.specs.Vec.{vec_len}
 use Rattle.std.specs.declared.alloc.Global.{Global}
 use Rattle.std.specs.declared.vec.Vec.{Vec}
 use Rattle.cyc_tree.specs.Tree.{Expression, Expressions, Name}
-use Rattle.cyc_tree.specs.View.{OneSuffix, expression_tree, expressions_of, link_tree, links_of, suffix_tree, suffixes_of}
+use Rattle.cyc_tree.specs.View.{OneSuffix, expression_tree, expressions_of, link_tree, links_of, suffixes_of}
 use Rattle.cyc_tree.specs.declared.expression.Expression as code
 use Rattle.cyc_tree.specs.declared.expression.Link as code_link
 use Rattle.cyc_tree.specs.declared.expression.Operator.{Operator}
@@ -17,35 +17,14 @@ use Rattle.flow_summaries.specs.Uses.{Uses, uses_as_value}
 use Rattle.source_typing.specs.Expressions.{judge}
 use Rattle.source_typing.specs.Scope.{Env}
 use Rattle.check_faults.specs.Verdicts.{shortened}
-use Rattle.flow_effects.specs.Used.{IsUsed}
-use Rattle.flow_effects.specs.declared.used.Usage.{Usage}
-use Rattle.flow_effects.specs.declared.used.Used.{Used}
 use Rattle.flow_check.proofs.Folds.{all_passed, links_after, suffixes_shortly, tests_after}
 use Rattle.flow_check.specs.Folded.{all_short_uses, passed_all, passed_links, passed_tests}
-use Rattle.check_types.proofs.Places.{some_there}
 
 -- whether a vector has items, from the test of its length
 pub tested_length : {A : Type 0} (v : Vec A Global) (b : Bool) → b ≡ (vec_len v == 0) → (length v.items == 0) ≡ b
 tested_length v b test = ap (λ n. n == 0) (sym v.ok.0) ∙ sym test
 
 module _ (g : Env) where
-  -- what a function answers of a phrase that it takes apart
-  of_form : {E : Type 0} (how : Usage) (r : Result Used E) (e : code.Expression) (x : Expression) → expression_tree e ≡ x
-      → IfOk r (IsUsed how (uses_of g x)) → IfOk r (IsUsed how (uses_of g (expression_tree e)))
-  of_form how r e x p h = subst (λ y. IfOk r (IsUsed how (uses_of g y))) (sym p) h
-
-  answers : {E : Type 0} (how : Usage) (r : Result Used E) (u v : Uses) → u ≡ v → IfOk r (IsUsed how u) → IfOk r (IsUsed how v)
-  answers how r u v p h = subst (λ x. IfOk r (IsUsed how x)) p h
-
-  -- the same, where what it does is what the rules say of the form
-  pub told : {E : Type 0} (how : Usage) (r : Result Used E) (e : code.Expression) (x : Expression) (u : Uses) → expression_tree e ≡ x → uses_of g x ≡ u
-      → IfOk r (IsUsed how u) → IfOk r (IsUsed how (uses_of g (expression_tree e)))
-  told how r e x u p q h = of_form how r e x p (answers how r u (uses_of g x) (sym q) h)
-
-  pub does : (how : Usage) (r : Used) (e : code.Expression) (x : Expression) (u : Uses) → expression_tree e ≡ x → uses_of g x ≡ u → IsUsed how u r
-      → IsUsed how (uses_of g (expression_tree e)) r
-  does how r e x u p q h = subst (λ v. IsUsed how v r) (sym (ap (λ y. uses_of g y) p ∙ q)) h
-
   -- ---- operands, of which there is one at least
 
   links_joined : (u : Uses) (ls : List (Operator × Expression)) → (length ls == 0) ≡ false
@@ -61,22 +40,6 @@ module _ (g : Env) where
       → uses_tests g u (expressions_of (map expression_tree es)) ≡ uses_as_value (passed_tests g u.look (expressions_of (map expression_tree es)))
   tests_joined u [] h = absurd cc
   tests_joined u (e ∷ es) h = tests_after g (in_turn_or_not u.look (uses_of g (expression_tree e)).look) (expressions_of (map expression_tree es))
-
-  -- ---- an operand alone
-
-  pub chain_alone : (e : Expression) (ls : List code_link.Link) → (length ls == 0) ≡ true
-      → uses_of g (Expression.Chain e (links_of (map link_tree ls))) ≡ uses_of g e
-  chain_alone e [] h = refl
-  chain_alone e (l ∷ ls) h = absurd (some_there (length ls) h)
-
-  pub tested_alone : (u : Uses) (es : List code.Expression) → (length es == 0) ≡ true → uses_tests g u (expressions_of (map expression_tree es)) ≡ u
-  tested_alone u [] h = refl
-  tested_alone u (e ∷ es) h = absurd (some_there (length es) h)
-
-  pub suffixed_alone : (e : Expression) (xs : List code_suffix.Suffix) → (length xs == 0) ≡ true
-      → uses_of g (Expression.Suffixed e (suffixes_of (map suffix_tree xs))) ≡ uses_of g e
-  suffixed_alone e [] h = refl
-  suffixed_alone e (x ∷ xs) h = absurd (some_there (length xs) h)
 
   -- ---- calls
 

@@ -1,16 +1,17 @@
-// What expressions do to locals that can't be copied.
+// What expressions are, beside what they do to locals that can't be copied.
 
 ghost use Rattle.std.specs.Prelude.{◌≡◌, ◌≤◌, IfOk, length, map};
 ghost use Rattle.cyc_tree.specs.Tree as tree;
-ghost use Rattle.cyc_tree.specs.View.{expression_tree, expressions_of, link_tree, links_of, made_tree, suffix_tree};
+ghost use Rattle.cyc_tree.specs.View.{expression_tree, expressions_of, link_tree, links_of, made_tree, name_tree, suffix_tree};
 ghost use Rattle.flow_summaries.specs.Expressions.{uses_made, uses_of};
-ghost use Rattle.flow_summaries.specs.Passages.{unchanged};
 ghost use Rattle.flow_summaries.specs.Uses.{Uses, uses_as_value};
 ghost use Rattle.source_typing.specs.Expressions.{judge};
 ghost use Rattle.source_typing.specs.Scope.{Env, Value as TheValue};
 ghost use Rattle.check_faults.specs.Verdicts.{Short, short_of, shortened};
+ghost use Rattle.check_expressions.specs.Goals.{short_made};
+ghost use Rattle.check_expressions.specs.Joined.{short_links, short_tests};
 ghost use Rattle.check_expressions.specs.Suffixes.{short_suffix, short_suffixes};
-ghost use Rattle.flow_check.specs.Folded.{all_short_uses, passed_all, passed_links, passed_tests, short_uses};
+ghost use Rattle.flow_check.specs.Folded.{all_short_uses, passed_links, passed_tests, short_uses};
 ghost use Rattle.flow_check.specs.Seen.{IsSeen};
 ghost use Rattle.flow_effects.specs.Passed.{passage_of};
 ghost use Rattle.flow_check.specs.Suffixed.{IsSuffixed};
@@ -18,9 +19,12 @@ ghost use Rattle.flow_effects.specs.Used.{IsUsed};
 ghost use Rattle.flow_check.specs.Within.{IsWithin};
 ghost use Rattle.flow_effects.specs.declared.used.Usage.TheVariants as usage;
 ghost use Rattle.flow_effects.specs.declared.used.Usage.{Usage as TheUsage};
+ghost use Rattle.check_operators.specs.Goals.{goal_in};
 ghost use Rattle.check_operators.specs.Values.{value_of};
 
 use crate::facts::place_of;
+use crate::joining::{Given, applied, assigned, counted, made_union, tested};
+use crate::making::{made_array, made_one};
 use crate::name::uses_of_name;
 use crate::parts::{idle, locals_around};
 use crate::pointing::{addressed, dereferenced, is_part, looked_at, pointed};
@@ -31,88 +35,17 @@ use check_expressions::{
     with_counter,
 };
 use check_faults::Verdict;
-use check_operators::Value;
+use check_operators::{Goal, Value};
 use check_scopes::Scope;
-use cyc_tree::{Expression, Link, Made, Prefix, Suffix};
+use cyc_tree::{Expression, Link, Made, Name, Prefix, Suffix};
+use cyc_types::RegionId;
 use flow_effects::{Passed, Usage, Used};
 use std::alloc::{AllocError, Global};
 
-/// What an expression does that is used in this way, with this around. Fails only where no host memory is left.
-#[cycle(uses)]
-pub(crate) fn uses<'p>(
-    scope: &Scope<'_, 'p>,
-    alloc: Global,
-    around: Around<'_>,
-    how: Usage,
-    expression: &Expression,
-) -> Result<Used, AllocError>
-    ensures { (g : Env) → IsWithin scope.now around.entry g
-        → IfOk result (IsUsed how (uses_of g (expression_tree expression.now))) }
-{
-    match expression {
-        Expression::Number(_, _, _) => Ok(idle()),
-        Expression::Character(_, _) => Ok(idle()),
-        Expression::Text(_, _) => Ok(idle()),
-        Expression::Null(_) => Ok(idle()),
-        Expression::HeapRegion(_) => Ok(idle()),
-        Expression::UniqueRegion(_) => Ok(idle()),
-        Expression::Variable(name) => uses_of_name(scope, alloc, around, how, name),
-        Expression::Call(_, arguments) => called(scope, alloc, around, arguments),
-        Expression::MakeUnion(_, _, value) => given(scope, alloc, around, value),
-        Expression::NumElts(_, operand) => looked(scope, alloc, around, operand),
-        Expression::Grouped(_, inner) => uses(scope, alloc, around, how, inner),
-        Expression::Suffixed(primary, suffixes) => {
-            if suffixes.is_empty() {
-                return uses(scope, alloc, around, how, primary);
-            }
-            let first = seen(scope, alloc, around, Usage::Look, primary)?;
-            Ok(suffixed(scope, alloc, around, how, first, suffixes)?.used)
-        }
-        Expression::Prefixed(at, operator, operand) => {
-            prefixed(scope, alloc, around, how, *at, *operator, operand)
-        }
-        Expression::New(_, new) => made(scope, alloc, around, Passed::nothing(), new),
-        Expression::NewIn(_, handle, new) => {
-            let looked = seen(scope, alloc, around, Usage::Look, handle)?;
-            let goal = goal_part(scope, is_unique_region(handle), looked.judged);
-            made(scope, alloc, around.inside(&goal), looked.used.passed, new)
-        }
-        Expression::Chain(first, links) => {
-            if links.is_empty() {
-                return uses(scope, alloc, around, how, first);
-            }
-            let first = uses(scope, alloc, around, Usage::Look, first)?;
-            let passed = passed_links(scope, alloc, around, first.passed, links)?;
-            Ok(Used::value(passed))
-        }
-        Expression::AllOf(first, others) => {
-            if others.is_empty() {
-                return uses(scope, alloc, around, how, first);
-            }
-            let first = uses(scope, alloc, around, Usage::Look, first)?;
-            let passed = passed_tests(scope, alloc, around, first.passed, others)?;
-            Ok(Used::value(passed))
-        }
-        Expression::AnyOf(first, others) => {
-            if others.is_empty() {
-                return uses(scope, alloc, around, how, first);
-            }
-            let first = uses(scope, alloc, around, Usage::Look, first)?;
-            let passed = passed_tests(scope, alloc, around, first.passed, others)?;
-            Ok(Used::value(passed))
-        }
-        Expression::Assign(to, from) => {
-            let from = uses(scope, alloc, around, Usage::Value, from)?;
-            let to = uses(scope, alloc, around, Usage::Target, to)?;
-            Ok(Used::value(from.passed.in_turn(to.passed)))
-        }
-    }
-}
-
-/// What an expression is and what it does that is used in this way, with this around. Of `*`, `&`, members and subscripts within one
-/// another each is judged once; an expression of another kind is judged as a whole. Fails only where no host memory is left.
-#[cycle(uses)]
-fn seen<'p>(
+/// What an expression is and what it does that is used in this way, with this around. Each expression within another one is judged once.
+/// Fails only where no host memory is left.
+#[cycle(seen)]
+pub(crate) fn seen<'p>(
     scope: &Scope<'_, 'p>,
     alloc: Global,
     around: Around<'_>,
@@ -123,12 +56,27 @@ fn seen<'p>(
         IfOk result (IsSeen how (shortened (judge g e)) (uses_of g e)) }
 {
     match expression {
+        Expression::Number(_, _, _)
+        | Expression::Character(_, _)
+        | Expression::Text(_, _)
+        | Expression::Null(_)
+        | Expression::HeapRegion(_)
+        | Expression::UniqueRegion(_) => {
+            let judged = judge_inside(scope, alloc, around, expression)?;
+            let used = idle();
+            Ok(Seen { judged, used })
+        }
+        Expression::Variable(name) => {
+            let judged = judge_inside(scope, alloc, around, expression)?;
+            let used = uses_of_name(scope, alloc, around, how, name)?;
+            Ok(Seen { judged, used })
+        }
         Expression::Grouped(at, inner) => {
             let inner = seen(scope, alloc, around, how, inner)?;
             Ok(inner.grouped(*at))
         }
         Expression::Prefixed(at, operator, operand) => {
-            seen_prefixed(scope, alloc, around, how, *at, *operator, operand)
+            prefixed(scope, alloc, around, how, *at, *operator, operand)
         }
         Expression::Suffixed(primary, suffixes) => {
             if suffixes.is_empty() {
@@ -137,143 +85,128 @@ fn seen<'p>(
             let first = seen(scope, alloc, around, Usage::Look, primary)?;
             suffixed(scope, alloc, around, how, first, suffixes)
         }
-        _ => {
-            let judged = judge_inside(scope, alloc, around, expression)?;
-            let used = uses(scope, alloc, around, how, expression)?;
-            Ok(Seen { judged, used })
+        Expression::Chain(first, links) => {
+            if links.is_empty() {
+                return seen(scope, alloc, around, how, first);
+            }
+            let first = seen(scope, alloc, around, Usage::Look, first)?;
+            linked(scope, alloc, around, first, links)
+        }
+        Expression::AllOf(first, others) => {
+            if others.is_empty() {
+                return seen(scope, alloc, around, how, first);
+            }
+            let first = seen(scope, alloc, around, Usage::Look, first)?;
+            all_tested(scope, alloc, around, first, others)
+        }
+        Expression::AnyOf(first, others) => {
+            if others.is_empty() {
+                return seen(scope, alloc, around, how, first);
+            }
+            let first = seen(scope, alloc, around, Usage::Look, first)?;
+            all_tested(scope, alloc, around, first, others)
+        }
+        Expression::Assign(to, from) => {
+            let from = seen(scope, alloc, around, Usage::Value, from)?;
+            let to = seen(scope, alloc, around, Usage::Target, to)?;
+            assigned(scope, alloc, to, from)
+        }
+        Expression::Call(name, arguments) => called(scope, alloc, around, name, arguments),
+        Expression::NumElts(at, operand) => {
+            let operand = seen(scope, alloc, around, Usage::Look, operand)?;
+            Ok(counted(alloc, *at, operand))
+        }
+        Expression::MakeUnion(tag, field, value) => {
+            let value = seen(scope, alloc, around, Usage::Value, value)?;
+            made_union(scope, alloc, around, tag, field, value)
+        }
+        Expression::New(at, new) => {
+            let goal = Verdict::Of(Goal::To(RegionId::Heap));
+            made(scope, alloc, around, *at, goal, Passed::nothing(), new)
+        }
+        Expression::NewIn(at, handle, new) => {
+            let is_unique = is_unique_region(handle);
+            let handle = seen(scope, alloc, around, Usage::Look, handle)?;
+            let goal = goal_part(scope, is_unique, handle.judged);
+            made(
+                scope,
+                alloc,
+                around.inside(&goal),
+                *at,
+                goal,
+                handle.used.passed,
+                new,
+            )
         }
     }
 }
 
-/// What is given away. Fails only where no host memory is left.
-#[cycle(uses)]
-fn given(
-    scope: &Scope<'_, '_>,
+/// Operators of one level, by what stands before them. Fails only where no host memory is left.
+#[cycle(seen)]
+fn linked<'p>(
+    scope: &Scope<'_, 'p>,
     alloc: Global,
     around: Around<'_>,
-    value: &Expression,
-) -> Result<Used, AllocError>
-    ensures { (g : Env) (how : TheUsage) → IsWithin scope.now around.entry g
-        → IfOk result (IsUsed how (uses_as_value (uses_of g (expression_tree value.now)).value)) }
-{
-    let used = uses(scope, alloc, around, Usage::Value, value)?;
-    Ok(Used::value(used.passed))
-}
-
-/// What is looked at. Fails only where no host memory is left.
-#[cycle(uses)]
-fn looked(
-    scope: &Scope<'_, '_>,
-    alloc: Global,
-    around: Around<'_>,
-    operand: &Expression,
-) -> Result<Used, AllocError>
-    ensures { (g : Env) (how : TheUsage) → IsWithin scope.now around.entry g
-        → IfOk result (IsUsed how (uses_as_value (uses_of g (expression_tree operand.now)).look)) }
-{
-    let used = uses(scope, alloc, around, Usage::Look, operand)?;
-    Ok(Used::value(used.passed))
-}
-
-/// A call of a function with these arguments. Fails only where no host memory is left.
-#[cycle(uses)]
-fn called(
-    scope: &Scope<'_, '_>,
-    alloc: Global,
-    around: Around<'_>,
-    arguments: &[Expression],
-) -> Result<Used, AllocError>
-    ensures { (g : Env) (how : TheUsage) → IsWithin scope.now around.entry g
-        → IfOk result (IsUsed how (uses_as_value (passed_all g unchanged (expressions_of (map expression_tree arguments.now))))) }
-{
-    let passed = passed_all(scope, alloc, around, arguments)?;
-    Ok(Used::value(passed))
-}
-
-/// Arguments, which are given away. Fails only where no host memory is left.
-#[cycle(uses)]
-fn passed_all(
-    scope: &Scope<'_, '_>,
-    alloc: Global,
-    around: Around<'_>,
-    arguments: &[Expression],
-) -> Result<Passed, AllocError>
-    ensures { (g : Env) → IsWithin scope.now around.entry g → IfOk result (λ p. passage_of p
-        ≡ passed_all g unchanged (expressions_of (map expression_tree arguments.now))) }
-{
-    let mut passed = Passed::nothing();
-    'each: for argument in arguments {
-        let argument = uses(scope, alloc, around, Usage::Value, argument)?;
-        passed = passed.in_turn(argument.passed);
-    }
-    Ok(passed)
-}
-
-/// The operands of operators of one level, after what stands before them. Fails only where no host memory is left.
-#[cycle(uses)]
-fn passed_links(
-    scope: &Scope<'_, '_>,
-    alloc: Global,
-    around: Around<'_>,
-    first: Passed,
+    first: Seen<'p>,
     links: &[Link],
-) -> Result<Passed, AllocError>
-    ensures { (g : Env) → IsWithin scope.now around.entry g → IfOk result (λ p. passage_of p
-        ≡ passed_links g (passage_of first) (links_of (map link_tree links.now))) }
+) -> Result<Seen<'p>, AllocError>
+    ensures { (g : Env) (how : TheUsage) → IsWithin scope.now around.entry g → let ls = links_of (map link_tree links.now) in
+        IfOk result (IsSeen how (short_links g (short_of value_of first.entry.judged) ls)
+        (uses_as_value (passed_links g (passage_of first.entry.used.passed) ls))) }
 {
-    let mut passed = first;
+    let mut found = first;
     'each: for link in links {
-        let operand = uses(scope, alloc, around, Usage::Look, &link.operand)?;
-        passed = passed.in_turn(operand.passed);
+        let operand = seen(scope, alloc, around, Usage::Look, &link.operand)?;
+        found = applied(scope, alloc, link.operator, found, operand)?;
     }
-    Ok(passed)
+    Ok(found.as_value())
 }
 
-/// The operands of `&&` or `||`, after what stands before them. Fails only where no host memory is left.
-#[cycle(uses)]
-fn passed_tests(
-    scope: &Scope<'_, '_>,
+/// `&&` or `||`, by what stands before them. Fails only where no host memory is left.
+#[cycle(seen)]
+fn all_tested<'p>(
+    scope: &Scope<'_, 'p>,
     alloc: Global,
     around: Around<'_>,
-    first: Passed,
+    first: Seen<'p>,
     others: &[Expression],
-) -> Result<Passed, AllocError>
-    ensures { (g : Env) → IsWithin scope.now around.entry g → IfOk result (λ p. passage_of p
-        ≡ passed_tests g (passage_of first) (expressions_of (map expression_tree others.now))) }
+) -> Result<Seen<'p>, AllocError>
+    ensures { (g : Env) (how : TheUsage) → IsWithin scope.now around.entry g → let es = expressions_of (map expression_tree others.now) in
+        IfOk result (IsSeen how (short_tests g (short_of value_of first.entry.judged) es)
+        (uses_as_value (passed_tests g (passage_of first.entry.used.passed) es))) }
 {
-    let mut passed = first;
-    'each: for operand in others {
-        let operand = uses(scope, alloc, around, Usage::Look, operand)?;
-        passed = passed.in_turn_or_not(operand.passed);
+    let mut found = first;
+    'each: for expression in others {
+        let operand = seen(scope, alloc, around, Usage::Look, expression)?;
+        found = tested(alloc, found, operand);
     }
-    Ok(passed)
+    Ok(found.as_value())
 }
 
-/// An operator before an operand. Fails only where no host memory is left.
-#[cycle(uses)]
-fn prefixed(
-    scope: &Scope<'_, '_>,
+/// A call of a name with these arguments. Fails only where no host memory is left.
+#[cycle(seen)]
+fn called<'p>(
+    scope: &Scope<'_, 'p>,
     alloc: Global,
     around: Around<'_>,
-    how: Usage,
-    at: u32,
-    operator: Prefix,
-    operand: &Expression,
-) -> Result<Used, AllocError>
-    ensures { (g : Env) → IsWithin scope.now around.entry g → IfOk result (IsUsed how (uses_of g
-        (tree.Prefixed at operator (expression_tree operand.now)))) }
+    name: &Name,
+    arguments: &[Expression],
+) -> Result<Seen<'p>, AllocError>
+    ensures { (g : Env) (how : TheUsage) → IsWithin scope.now around.entry g
+        → let e = tree.Call (name_tree name.now) (expressions_of (map expression_tree arguments.now)) in
+        IfOk result (IsSeen how (shortened (judge g e)) (uses_of g e)) }
 {
-    match operator {
-        Prefix::Negate | Prefix::Not | Prefix::Complement => looked(scope, alloc, around, operand),
-        Prefix::Dereference | Prefix::AddressOf => {
-            Ok(seen_prefixed(scope, alloc, around, how, at, operator, operand)?.used)
-        }
+    let mut given = Given::none(alloc);
+    'each: for argument in arguments {
+        let argument = seen(scope, alloc, around, Usage::Value, argument)?;
+        given = given.with(argument)?;
     }
+    given.call(scope, alloc, around, name)
 }
 
 /// What an operator before an operand is, and what it does. Fails only where no host memory is left.
-#[cycle(uses)]
-fn seen_prefixed<'p>(
+#[cycle(seen)]
+fn prefixed<'p>(
     scope: &Scope<'_, 'p>,
     alloc: Global,
     around: Around<'_>,
@@ -302,7 +235,7 @@ fn seen_prefixed<'p>(
 }
 
 /// One suffix, after what stands before it. Fails only where no host memory is left.
-#[cycle(uses)]
+#[cycle(seen)]
 fn suffix_after<'p>(
     scope: &Scope<'_, 'p>,
     alloc: Global,
@@ -337,7 +270,7 @@ fn suffix_after<'p>(
 }
 
 /// Suffixes, of which there is one at least, after what stands before them. Fails only where no host memory is left.
-#[cycle(uses)]
+#[cycle(seen)]
 fn suffixed<'p>(
     scope: &Scope<'_, 'p>,
     alloc: Global,
@@ -361,34 +294,35 @@ fn suffixed<'p>(
     Ok(suffixed.seen(how))
 }
 
-/// What is made, after its handle is looked at. Fails only where no host memory is left.
-#[cycle(uses)]
-fn made(
-    scope: &Scope<'_, '_>,
+/// What is made at a place, by where it is made and after its handle is looked at. Fails only where no host memory is left.
+#[cycle(seen)]
+fn made<'p>(
+    scope: &Scope<'_, 'p>,
     alloc: Global,
     around: Around<'_>,
+    at: u32,
+    goal: Verdict<Goal>,
     handle: Passed,
     new: &Made,
-) -> Result<Used, AllocError>
-    ensures { (g : Env) (how : TheUsage) → IsWithin scope.now around.entry g
-        → IfOk result (IsUsed how (uses_made g (made_tree new.now) (passage_of handle))) }
+) -> Result<Seen<'p>, AllocError>
+    ensures { (g : Env) (how : TheUsage) → IsWithin scope.now around.entry g → IfOk result (IsSeen how
+        (short_made g at (short_of goal_in goal) (made_tree new.now)) (uses_made g (made_tree new.now) (passage_of handle))) }
 {
     match new {
         Made::One(value) => {
-            let value = uses(scope, alloc, around, Usage::Value, value)?;
-            Ok(Used::value(handle.in_turn(value.passed)))
+            let value = seen(scope, alloc, around, Usage::Value, value)?;
+            made_one(at, goal, handle, value)
         }
         Made::Array(index, count, element) => {
-            let count = uses(scope, alloc, around, Usage::Look, count)?;
+            let count = seen(scope, alloc, around, Usage::Look, count)?;
             let counters = with_counter(alloc, around.counters, &index.text)?;
             let locals = locals_around(scope, around)?;
             let inside = Around {
                 enclosing: around.enclosing,
                 counters: counters.as_slice(),
             };
-            let element = uses(scope, alloc, inside, Usage::Value, element)?;
-            let elements = element.passed.repeated(locals);
-            Ok(Used::value(handle.in_turn(count.passed).in_turn(elements)))
+            let element = seen(scope, alloc, inside, Usage::Value, element)?;
+            made_array(at, goal, handle, count, locals, element)
         }
     }
 }

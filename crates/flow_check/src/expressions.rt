@@ -10,7 +10,7 @@ ghost use Rattle.check_scopes.specs.Knows.{Knows};
 ghost use Rattle.check_scopes.specs.Matching.{AreLocals};
 ghost use Rattle.flow_effects.specs.Passed.{passage_of};
 
-use crate::expression::uses;
+use crate::expression::seen;
 use check_calls::Enclosing;
 use check_expressions::Around;
 use check_scopes::Scope;
@@ -32,8 +32,8 @@ pub(crate) fn given(
         enclosing: Enclosing::In(RegionId::Heap),
         counters: &[],
     };
-    let used = uses(scope, alloc, around, Usage::Value, expression)?;
-    Ok(used.passed)
+    let found = seen(scope, alloc, around, Usage::Value, expression)?;
+    Ok(found.used.passed)
 }
 
 /// An expression that is looked at. Fails only where no host memory is left.
@@ -49,8 +49,8 @@ pub(crate) fn looked(
         enclosing: Enclosing::In(RegionId::Heap),
         counters: &[],
     };
-    let used = uses(scope, alloc, around, Usage::Look, expression)?;
-    Ok(used.passed)
+    let found = seen(scope, alloc, around, Usage::Look, expression)?;
+    Ok(found.used.passed)
 }
 
 /// The value of a `return`, where it has one. Fails only where no host memory is left.

@@ -10,6 +10,8 @@ mod expression;
 mod expressions;
 mod facts;
 mod function;
+mod joining;
+mod making;
 mod name;
 mod parts;
 mod pointing;

@@ -5,7 +5,9 @@ ghost use Rattle.check_faults.specs.Verdicts.{Short, short_after, short_of, shor
 ghost use Rattle.check_operators.specs.Values.{value_of};
 ghost use Rattle.flow_check.specs.Seen.{IsSeen};
 ghost use Rattle.flow_effects.specs.declared.used.Usage.{Usage as TheUsage};
-ghost use Rattle.flow_summaries.specs.Uses.{Uses};
+ghost use Rattle.flow_summaries.specs.Passages.{Passage};
+ghost use Rattle.flow_summaries.specs.Uses.{Uses, uses_as_value};
+ghost use Rattle.flow_effects.specs.Passed.{passage_of};
 ghost use Rattle.source_typing.specs.Places.{grouped};
 ghost use Rattle.source_typing.specs.Scope.{Value as TheValue};
 
@@ -32,6 +34,16 @@ fn grouped_value<'p>(at: u32, inner: Verdict<Value<'p>>) -> Verdict<Value<'p>>
 }
 
 impl<'p> Seen<'p> {
+    /// The same where it is no place.
+    pub(crate) fn as_value(self) -> Seen<'p>
+        ensures { (how : TheUsage) (p : Passage) → passage_of self.entry.used.passed ≡ p
+            → IsSeen how (short_of value_of self.entry.judged) (uses_as_value p) result }
+    {
+        let Seen { judged, used } = self;
+        let used = Used::value(used.passed);
+        Seen { judged, used }
+    }
+
     /// The same in parentheses.
     pub(crate) fn grouped(self, at: u32) -> Seen<'p>
         ensures { (how : TheUsage) (s : Short TheValue) (u : Uses) → IsSeen how s u self.entry

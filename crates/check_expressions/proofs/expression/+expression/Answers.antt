@@ -1,5 +1,5 @@
 use Rattle.std.proofs.Common.{◌≡◌, ◌∙◌, IfOk, List, [], ap, arith, drop, map, refl, subst, sym, ℕ}
-use Rattle.std.specs.Prelude.{bytes_eq, option_map, ◌||◌}
+use Rattle.std.specs.Prelude.{bytes_eq, ◌||◌}
 use Rattle.std.proofs.lemmas.List.{drop_all}
 use Rattle.source_typing.specs.Calls.{target}
 use Rattle.cyc_tree.specs.Tree.{Array, Expression}
@@ -25,9 +25,7 @@ use Rattle.source_typing.specs.Scope.{meant}
 use Rattle.check_faults.specs.Verdicts.{Is, short_both, short_of, shortened}
 use Rattle.check_operators.specs.Goals.{goal_in}
 use Rattle.check_operators.specs.Values.{value_of}
-use Rattle.check_scopes.specs.Means.{Means, meaning_of}
 use Rattle.check_calls.specs.Enclosings.{enclosing_of}
-use Rattle.check_calls.specs.Targets.{target_of}
 use Rattle.check_expressions.specs.Joined.{values_of}
 use Rattle.check_expressions.specs.Goals.{enclosed_short, short_made}
 use Rattle.check_expressions.specs.Within.{is_counter}
@@ -122,14 +120,9 @@ judge_call-returns t c = λ g h.
     let done : drop c.each.argument-index arguments ≡ [] = drop_all c.each.argument-index arguments (omega (arith, c.each-test.false)) in
     let given : short_of (λ vs. values_of vs.items) c.each.given ≡ given_from g (Is []) arguments =
     ap (λ es. given_from g (short_of (λ vs. values_of vs.items) c.each.given) es) (sym done) ∙ c.each.invariant g h in
-    let callee : short_of target_of c.called_target-callee.result ≡ shortened (target name.at (meant g name.text)) =
-    subst (λ x. short_of target_of c.called_target-callee.result ≡ shortened (target name.at (meant g x))) c.deref-2.ensures.value
-    (c.called_target-callee.ensures g h.sees.tags
-    (subst (λ x. Means (meant g x) (option_map meaning_of c.meaning-named.result)) (c.deref.ensures.value ∙ sym c.deref-2.ensures.value)
-    (c.meaning-named.ensures.by_the_rules g h))) in
-    answers g c.called_parts.result _ _
-    (call_is g name arguments (short_of target_of c.called_target-callee.result) (short_of (λ vs. values_of vs.items) c.each.given) callee given)
-    (c.called_parts.ensures g h.sees h.enclosing)
+    answers g c.call_part.result _ _
+    (call_is g name arguments (shortened (target name.at (meant g name.text))) (short_of (λ vs. values_of vs.items) c.each.given) refl given)
+    (c.call_part.ensures g h)
 
 pub judge_links-each-preserved : goal.judge_links-each-preserved
 judge_links-each-preserved t c = λ g h.

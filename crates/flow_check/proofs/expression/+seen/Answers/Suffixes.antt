@@ -1,28 +1,32 @@
 -- Suffixes, and making: what they use.
-use Rattle.std.proofs.Common.{List, [], ap, ap₂, arith, drop, false, length, map, not, refl, subst, sym, ◌+◌, ◌∙◌, ◌≡◌, ℕ}
+use Rattle.std.proofs.Common.{IfOk, List, [], ap, ap₂, arith, drop, false, length, map, not, refl, subst, sym, ◌+◌, ◌∙◌, ◌≡◌, ℕ}
 use Rattle.std.specs.Prelude.{bytes_eq, ◌&&◌, ◌||◌}
 use Rattle.std.proofs.lemmas.List.{drop_all}
 use Rattle.cyc_tree.proofs.PartForms.{array_tree, arrow_tree, dot_tree, index_tree, one_tree}
+use Rattle.cyc_tree.specs.Tree.{Array}
 use Rattle.cyc_tree.specs.View.{OneSuffix, expression_tree, made_tree, name_tree, suffix_tree}
 use Rattle.flow_summaries.specs.Expressions.{uses_made, uses_of}
 use Rattle.flow_summaries.specs.Passages.{copied_if, in_turn, repeated}
-use Rattle.flow_summaries.specs.Uses.{uses_as_place}
-use Rattle.source_typing.specs.Making.{with_counter}
+use Rattle.flow_summaries.specs.Uses.{uses_as_place, uses_as_value}
+use Rattle.source_typing.specs.Making.{made, with_counter}
 use Rattle.source_typing.specs.Places.{indexed}
 use Rattle.check_faults.specs.Verdicts.{short_both, short_of, shortened}
+use Rattle.check_operators.specs.Goals.{goal_in}
 use Rattle.check_operators.specs.Values.{value_of}
 use Rattle.check_expressions.proofs.Forms.{judged}
+use Rattle.check_expressions.proofs.Makings.{made_array as array_short}
+use Rattle.check_expressions.specs.Goals.{short_array, short_made, with_short_goal}
 use Rattle.check_expressions.specs.Suffixes.{short_suffix, short_suffixes}
 use Rattle.check_expressions.specs.Within.{is_counter}
 use Rattle.flow_effects.specs.Passed.{passage_of}
-use Rattle.flow_effects.specs.Used.{IsUsed}
 use Rattle.flow_effects.specs.declared.used.Usage.TheVariants as usage
 use Rattle.flow_check.proofs.SuffixUses.{Rest, after_all, after_arrow, after_dot, after_first, after_index, after_next, looked_is}
+use Rattle.flow_check.proofs.Seeing.{SeenAs}
 use Rattle.flow_check.proofs.Within.{counter_around}
 use Rattle.flow_check.specs.Folded.{all_short_uses}
 use Rattle.flow_check.specs.Seen.{IsSeen}
 use Rattle.flow_check.specs.Short.{is_unique_short, place_short}
-use Rattle.flow_check.proofs.expression.+uses.Goals as goal
+use Rattle.flow_check.proofs.expression.+seen.Goals as goal
 
 pub suffix_after-returns-in_ok-index-in-Index : goal.suffix_after-returns-in_ok-index-in-Index
 suffix_after-returns-in_ok-index-in-Index t c = λ g u h used.
@@ -87,20 +91,28 @@ suffixed-returns t c = λ g s u h seen some.
 
 pub made-returns-in_ok-value-in-One : goal.made-returns-in_ok-value-in-One
 made-returns-in_ok-value-in-One t c = λ g how h.
-    let e = expression_tree c.in-One.value.value in
+    let e = c.in-One.value.value in
     let p = passage_of c.args.handle in
-    let both = in_turn p (uses_of g e).value in
-    let passes : passage_of c.in_ok-value-in-One.value.passed ≡ (uses_of g e).value =
-    (c.in_ok-value-in-One.ensures g h).passed ∙ ap (λ x. (uses_of g (expression_tree x)).value) c.deref.ensures in
-    subst (λ m. IsUsed how (uses_made g m p) c.value.result) (sym (ap (λ m. made_tree m) c.in-One.is ∙ one_tree c.in-One.value))
-    (c.value.ensures how both (c.in_turn.ensures ∙ ap (in_turn p) passes))
+    let to = short_of goal_in c.args.goal in
+    let found = c.in_ok-value-in-One.value in
+    let value : SeenAs g usage.Value (expression_tree e) found =
+    subst (λ x. SeenAs g usage.Value (expression_tree x) found) c.deref.ensures (c.in_ok-value-in-One.ensures g h) in
+    subst (λ m. IfOk c.made_one.result (IsSeen how (short_made g c.args.at to m) (uses_made g m p)))
+    (sym (ap (λ m. made_tree m) c.in-One.is ∙ one_tree c.in-One.value))
+    (subst (λ s. IfOk c.made_one.result (IsSeen how (with_short_goal c.args.at to s (λ a b. shortened (made c.args.at a b)))
+    (uses_as_value (in_turn p (uses_of g (expression_tree e)).value)))) value.judged
+    (subst (λ q. IfOk c.made_one.result (IsSeen how
+    (with_short_goal c.args.at to (short_of value_of found.judged) (λ a b. shortened (made c.args.at a b))) (uses_as_value (in_turn p q))))
+    value.used.passed (c.made_one.ensures how)))
 
 pub made-returns-in_ok-element-in-Array : goal.made-returns-in_ok-element-in-Array
 made-returns-in_ok-element-in-Array t c = λ g how h.
     let x = name_tree c.in-Array.index in
     let n = expression_tree c.in-Array.count.value in
     let e = expression_tree c.in-Array.element.value in
+    let at = c.args.at in
     let p = passage_of c.args.handle in
+    let to = short_of goal_in c.args.goal in
     let inner = with_counter x g in
     let more : (y : List ℕ) → is_counter c.as_slice.result.now y ≡ (is_counter c.args.around.counters.now y || bytes_eq x.text y) =
     λ y. ap (λ cs. is_counter cs y) c.as_slice.ensures.value ∙ c.in_ok-counters-in-Array.ensures.found y
@@ -108,15 +120,18 @@ made-returns-in_ok-element-in-Array t c = λ g how h.
     let one : length c.as_slice.result.now ≡ length c.args.around.counters.now + 1 =
     ap (λ cs. length cs) c.as_slice.ensures.value ∙ c.in_ok-counters-in-Array.ensures.one_more in
     let locals : c.in_ok-locals-in-Array.locals ≡ length g.locals = omega (arith, c.in_ok-locals-in-Array.ensures, h.count) in
-    let count_is : passage_of c.in_ok-count-in-Array.count.passed ≡ (uses_of g n).look =
-    (c.in_ok-count-in-Array.ensures g h).passed ∙ ap (λ y. (uses_of g (expression_tree y)).look) c.deref-in-Array.ensures in
-    let element_is : passage_of c.in_ok-element-in-Array.element.passed ≡ (uses_of inner e).value =
-    (c.in_ok-element-in-Array.ensures inner (counter_around _ x h refl more one)).passed
-    ∙ ap (λ y. (uses_of inner (expression_tree y)).value) c.deref-in-Array-3.ensures in
-    let elements_are : passage_of c.repeated-elements.result ≡ repeated (length g.locals) (uses_of inner e).value =
-    c.repeated-elements.ensures ∙ ap₂ repeated locals element_is in
-    let first : passage_of c.in_turn-in-Array.result ≡ in_turn p (uses_of g n).look = c.in_turn-in-Array.ensures ∙ ap (in_turn p) count_is in
-    let all = in_turn (in_turn p (uses_of g n).look) (repeated (length g.locals) (uses_of inner e).value) in
-    subst (λ m. IsUsed how (uses_made g m p) c.value-in-Array.result)
+    let count : SeenAs g usage.Look n c.in_ok-count-in-Array.count =
+    subst (λ y. SeenAs g usage.Look (expression_tree y) c.in_ok-count-in-Array.count) c.deref-in-Array.ensures (c.in_ok-count-in-Array.ensures g h) in
+    let element : SeenAs inner usage.Value e c.in_ok-element-in-Array.element =
+    subst (λ y. SeenAs inner usage.Value (expression_tree y) c.in_ok-element-in-Array.element) c.deref-in-Array-3.ensures
+    (c.in_ok-element-in-Array.ensures inner (counter_around _ x h refl more one)) in
+    let s = short_of value_of c.in_ok-count-in-Array.count.judged in
+    let r = short_of value_of c.in_ok-element-in-Array.element.judged in
+    let uses_are : in_turn (in_turn p (passage_of c.in_ok-count-in-Array.count.used.passed))
+    (repeated c.in_ok-locals-in-Array.locals (passage_of c.in_ok-element-in-Array.element.used.passed))
+    ≡ in_turn (in_turn p (uses_of g n).look) (repeated (length g.locals) (uses_of inner e).value) =
+    ap₂ (λ a b. in_turn (in_turn p a) b) count.used.passed (ap₂ repeated locals element.used.passed) in
+    subst (λ m. IfOk c.made_array.result (IsSeen how (short_made g at to m) (uses_made g m p)))
     (sym (ap (λ m. made_tree m) c.in-Array.is ∙ array_tree c.in-Array.index c.in-Array.count c.in-Array.element))
-    (c.value-in-Array.ensures how all (c.in_turn-in-Array-2.ensures ∙ ap₂ in_turn first elements_are))
+    (subst (λ v. IfOk c.made_array.result (IsSeen how v (uses_made g (Array x n e) p))) (array_short g at to x n e s r count.judged element.judged)
+    (subst (λ q. IfOk c.made_array.result (IsSeen how (short_array at to s r) (uses_as_value q))) uses_are (c.made_array.ensures how)))

@@ -1,6 +1,7 @@
 -- What the code of a check does: a branch over what raises its exception.
 use Rattle.std.specs.Prelude.{nat_eq, not, if◌then◌else◌}
-use Rattle.std.proofs.Common.{◌≡◌, ℕ, suc, pos, ◌+◌, ◌%◌, ◌<◌, ◌≤◌, Bool, true, false, List, [], ◌∷◌, ◌++◌, Option, Some, None, refl, sym, ap, subst, ◌∙◌, arith}
+use Rattle.std.proofs.Common.{◌≡◌, ℕ, suc, pos, ◌+◌, ◌%◌, ◌<◌, ◌≤◌, Bool, true, false, List, [], ◌∷◌, ◌++◌, Option, Some, None}
+use Rattle.std.proofs.Common.{refl, sym, ap, subst, ◌∙◌, arith}
 use Rattle.std.proofs.lemmas.Bool.{eq-eqb}
 use Rattle.std.proofs.lemmas.Option.{none-some}
 use Rattle.cyc_words.specs.declared.faults.Kind.{Kind}
@@ -21,7 +22,8 @@ use Rattle.core_lines.specs.Lines.{code_length}
 use Rattle.core_lines.specs.Frames.{raise_code}
 use Rattle.core_lines.specs.Held.{Holding, held_behind}
 use Rattle.core_lines.specs.Operands.{operand_in, operand_code}
-use Rattle.core_lines.specs.Checks.{kind_of, kind_in, Failure, Always, ByTest, either_failure, failure_of, failure_in, check_of, failure_code, check_code, checked_code}
+use Rattle.core_lines.specs.Checks.{kind_of, kind_in, Failure, Always, ByTest, either_failure, failure_of, failure_in, check_of}
+use Rattle.core_lines.specs.Checks.{failure_code, check_code, checked_code}
 use Rattle.core_lines.specs.Completing.{can_complete}
 use Rattle.core_lines.specs.Lies.{Maps}
 use Rattle.core_lines.proofs.Lengths.{failure_within}
@@ -144,7 +146,8 @@ module _ (w : World) (order : IsInOrder w) (x : Waiting) (outer : List Waiting) 
     steps : (to : ℕ) (b : Bool) → ((r : ℕ) → Has w at_branch (Plain (branch_by zero (suc r) over) ∷ []) → (s : Machine) (a : At_branch (suc r) s)
         → nat_eq (s.registers (suc r)) 0 ≡ b → Reach w.areas 1 (AtHolding w x outer mem to held) s)
         → is_such b → (q r : ℕ) → q ≡ suc r → Has w at_branch (Plain (branch_by zero q over) ∷ []) → Comes w (At_branch q) (AtHolding w x outer mem to held)
-    steps to b step such q r e = subst (λ q. Has w at_branch (Plain (branch_by zero q over) ∷ []) → Comes w (At_branch q) (AtHolding w x outer mem to held)) (sym e)
+    steps to b step such q r e =
+        subst (λ q. Has w at_branch (Plain (branch_by zero q over) ∷ []) → Comes w (At_branch q) (AtHolding w x outer mem to held)) (sym e)
         (λ there. record { count = 1; by = λ s a. step r there s a (such a.maps s.registers (suc r) a.holds) })
 
     abbrev last : Has w at_branch (Plain (branch_by zero (operand_in held 5 t) over) ∷ [])
@@ -220,7 +223,8 @@ module _ (w : World) (order : IsInOrder w) (x : Waiting) (outer : List Waiting) 
   either_goes : (kept : List Bool) (fuel : ℕ) (held : List Holding) (t : ℕ) (first second : Kind) (place : ℕ) (k : Exit → Config → Step)
       → t < x.fn.temporaries → IsServed w (keeping kept x) held t → Has w place (failure_code x.fn.passed held (ByTest t first second))
       → GoesHolding w (keeping kept x) outer fuel place held
-      (λ c. core.branch (c.temps t) (core.statements (MoreStatements (Raise first) NoStatements) k c) (core.statements (MoreStatements (Raise second) NoStatements) k c))
+      (λ c. core.branch (c.temps t) (core.statements (MoreStatements (Raise first) NoStatements) k c)
+      (core.statements (MoreStatements (Raise second) NoStatements) k c))
   either_goes kept fuel held t first second place k named served has =
       let operand = operand_code x.fn.passed held 5 t in
       let branch : List Line = Plain (Beq (operand_in held 5 t) 0 (pos 16)) ∷ [] in
@@ -322,7 +326,8 @@ module _ (w : World) (order : IsInOrder w) (x : Waiting) (outer : List Waiting) 
       (either_goes w order x outer other fuel held p first second place (λ exit. core.falls_to exit (core.statements NoStatements k) k) has.2.0.0
       (choice_served w x hss names held needs p a b whole has.2.0.0) lines)
 
-  check_does : (f : Failure) → HasLinesIn (scoped w x ns) (If t NoStatements (failing f)) → Choice_does NoStatements (failing f) (check_code x.fn.passed held t f)
+  check_does : (f : Failure) → HasLinesIn (scoped w x ns) (If t NoStatements (failing f))
+      → Choice_does NoStatements (failing f) (check_code x.fn.passed held t f)
   check_does f has = by f has (knows_all f)
     where
       -- what is known behind it is what was known before

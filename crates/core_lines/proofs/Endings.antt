@@ -58,8 +58,8 @@ module _ (w : World) (order : IsInOrder w) (x : Waiting) (outer : List Waiting) 
       let last = (other ends).before in
       subst (λ lines. Does w x outer most others_complete held end start needs lines out again (core.statements (MoreStatements s ss)))
       (sym (append_assoc first last (exit_of w x)))
-      (sequence_does w order x outer most (test w order x outer most) (jumps w order x outer most) true others_complete held between end start middle_needs needs
-      first (last ++ exit_of w x) out again s ss does (others_do ends))
+      (sequence_does w order x outer most (test w order x outer most) (jumps w order x outer most) true others_complete held between end start middle_needs
+      needs first (last ++ exit_of w x) out again s ss does (others_do ends))
   sequence_ends false others_complete held between end start middle_needs needs first second out again s ss one_ends other_ends ends one other does others
       one_does others_do =
       let lines = (one ends).before ++ exit_of w x in
@@ -110,12 +110,14 @@ module _ (w : World) (order : IsInOrder w) (outer : List Waiting) (small : DataS
         block_does w order x outer most p ls body (can_complete_all body) held (held_behind_all (hs ∷ hss) w.data_offsets held body) start needs lines out again
         (offsets_lie low placed (shrunk_layouts ls hs has.0)) (omega (arith, upto, below, framed)) around.nest
         (tiny ls hs has.0 fine.0.short) (fit x.fn ls names ns x.nest oss hss around.blocks fine.0) around.inside
-        (λ k. statements_end (within_block x p k) (length ls ∷ ns) (offsets_from low placed ∷ oss) (hs ∷ hss) inner high held needs flags rest next out again body
-        whole are (in_block w order outer small bytes most calls x ns oss hss names low k ls around fine.0 (omega (arith, upto, below))) has.1 fine.1 below ends)
+        (λ k. statements_end (within_block x p k) (length ls ∷ ns) (offsets_from low placed ∷ oss) (hs ∷ hss) inner high held needs flags rest next out again
+        body whole are (in_block w order outer small bytes most calls x ns oss hss names low k ls around fine.0 (omega (arith, upto, below))) has.1 fine.1
+        below ends)
     statement_ends x ns oss hss names low held needs flags rest next out again (Leave body) whole are around has fine below ends = absurd (cc ends)
     statement_ends x ns oss hss names low held needs flags rest next out again Break whole are around has fine below ends = absurd (cc ends)
     statement_ends x ns oss hss names low held needs flags rest next out again Continue whole are around has fine below ends = absurd (cc ends)
-    statement_ends x ns oss hss names low held needs flags rest next out again (Call results f arguments) whole are around has fine below ends = absurd (cc ends)
+    statement_ends x ns oss hss names low held needs flags rest next out again (Call results f arguments) whole are around has fine below ends =
+        absurd (cc ends)
     statement_ends x ns oss hss names low held needs flags rest next out again (Return values) whole are around has fine below ends = record {
       goes = λ place fuel le k aligned lines ways.
           let y = keeping (showing w hss names held needs (Return values)) x in
@@ -157,7 +159,8 @@ module _ (w : World) (order : IsInOrder w) (outer : List Waiting) (small : DataS
         are_first around has.0 fine.0 b.0)
         (statements_do w order outer small bytes most calls x ns oss hss behind low last needs flags_others rest (next + labels_in s) out again ss whole
         are_others around has.1 fine.1 b.1)
-        (λ e. statement_ends x ns oss hss names low held needs_first flags (saved_others ++ rest) next out again s whole_first are_first around has.0 fine.0 b.0 e)
+        (λ e. statement_ends x ns oss hss names low held needs_first flags (saved_others ++ rest) next out again s whole_first are_first around has.0 fine.0
+        b.0 e)
         (λ e. statements_end x ns oss hss behind low last needs flags_others rest (next + labels_in s) out again ss whole are_others around has.1 fine.1 b.1 e)
 
   -- what is so of lines, or of those before their last jump, is so of ended ones

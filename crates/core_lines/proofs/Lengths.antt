@@ -1,5 +1,6 @@
 -- How long lines are: those of each statement, function and program, by the operations that they are made from.
-use Rattle.std.proofs.Common.{◌≡◌, ℕ, zero, suc, ◌+◌, ◌*◌, ◌/◌, ◌%◌, ◌^◌, ◌≤◌, nat_eq, refl, length-append, Bool, true, false, nat_lt, if◌then◌else◌, List, [], ◌∷◌, ◌++◌, length, arith}
+use Rattle.std.proofs.Common.{◌≡◌, ℕ, zero, suc, ◌+◌, ◌*◌, ◌/◌, ◌%◌, ◌^◌, ◌≤◌, nat_eq, Bool, true, false, nat_lt}
+use Rattle.std.proofs.Common.{if◌then◌else◌, List, [], ◌∷◌, ◌++◌, length, refl, arith, length-append}
 use Rattle.std.specs.Prelude.{pos, Option, Some, None, drop}
 use Rattle.rv32_isa.specs.declared.instruction.Instr.TheVariants.{Beq, Bne}
 use Rattle.core_lines.specs.declared.line.Line.{Line}

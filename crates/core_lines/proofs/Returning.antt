@@ -1,6 +1,7 @@
 -- Statements that end in a `Return`: their lines end in a jump, which isn't needed where the function ends behind them.
 use Rattle.std.specs.Prelude.{◌-◌, take, drop, length, if◌then◌else◌}
-use Rattle.std.proofs.Common.{◌≡◌, ℕ, zero, suc, ◌+◌, ◌≤◌, Bool, true, false, List, [], ◌∷◌, ◌++◌, refl, sym, ap, subst, ◌∙◌, arith, append_assoc, append-nil, length-append}
+use Rattle.std.proofs.Common.{◌≡◌, ℕ, zero, suc, ◌+◌, ◌≤◌, Bool, true, false, List, [], ◌∷◌, ◌++◌, refl, sym, ap, subst, ◌∙◌}
+use Rattle.std.proofs.Common.{arith, append_assoc, append-nil, length-append}
 use Rattle.std.proofs.lemmas.Bool.{false≢true}
 use Rattle.std.proofs.lemmas.List.{take-append-le, take_all}
 use Rattle.cyc_words.specs.declared.faults.Kind.{Kind}
@@ -67,7 +68,8 @@ abbrev mutual
       (statements_jump_last (drop (results_in s) flags) v (next + labels_in s) out again ss)
 
 -- a block's `Return` is the last of what is reached; one within a choice isn't
-in_a_block : (kind : Kind) → ends_in_return_all (MoreStatements (Block [] (MoreStatements (Return []) NoStatements)) (MoreStatements (Raise kind) NoStatements)) ≡ true
+in_a_block : (kind : Kind)
+    → ends_in_return_all (MoreStatements (Block [] (MoreStatements (Return []) NoStatements)) (MoreStatements (Raise kind) NoStatements)) ≡ true
 in_a_block kind = refl
 
 in_a_choice : (t : ℕ) → (let ss = MoreStatements (Return []) NoStatements in ends_in_return_all (MoreStatements (If t ss ss) NoStatements)) ≡ false

@@ -127,8 +127,8 @@ holding held u = record u { held = held }
 
 -- The code of a statement, of whose results these flags say in turn which are saved. The labels that it places are numbered from `next` on; a `break` goes
 -- to the label `out`, and a `continue` to `again`. A choice: the test, the first statements and a jump over the others; a label, the others, and a label. A
--- check is a branch over what raises its exception. A loop: a label, its test, its body and a jump back; and a label behind it. What a `break` leaves without a loop: its statements, and a label behind them.
--- What stands behind a statement that can't complete has no code.
+-- check is a branch over what raises its exception. A loop: a label, its test, its body and a jump back; and a label behind it. What a `break` leaves
+-- without a loop: its statements, and a label behind them. What stands behind a statement that can't complete has no code.
 -- What is known of temporaries is known from one statement to the next, within a block, on both ways of a choice, and from the test of a loop to its choice.
 abbrev mutual
   pub statement_code : (flags : List Bool) → Surroundings → (next out again : ℕ) → Statement → List Line

@@ -28,7 +28,8 @@ module _ (u first second : Surroundings) (t : ℕ) (these those : Statements)
       → past ≡ inside + labels_of these → turned ≡ one ++ between_code (can_complete_all these) those past next → other ≡ past + 1 → left ≡ drop (results_all these) kept
       → two ≡ turned ++ statements_code left second other out loop those → new ≡ two ++ behind_code those past → check_of these those ≡ None
       → new ≡ old ++ statement_code kept u next out loop (If t these those)
-  choice_lines old tested one turned two new kept left next inside past other out loop test_is inside_is one_is past_is turn_is other_is left_is two_is new_is none =
+  choice_lines old tested one turned two new kept left next inside past other out loop test_is inside_is one_is past_is turn_is other_is left_is two_is new_is
+      none =
       let test = choice_code u.wide u.passed u.held t next in
       let these_code = statements_code kept u (next + 1) out loop these in
       let behind = next + 1 + labels_of these in

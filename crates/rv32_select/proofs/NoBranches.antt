@@ -32,7 +32,8 @@ use Rattle.core_lines.specs.Choosing.{far, choice_code, between_code, behind_cod
 use Rattle.core_lines.specs.Completing.{can_complete, can_complete_all, ends_in_return_all}
 use Rattle.core_lines.specs.Saved.{results_in, results_all, live_at_start, saves_at}
 use Rattle.core_lines.specs.Selected.{Surroundings, operation_code, labels_in, labels_of, labels_within, holding, naming, names_after, names_after_all}
-use Rattle.core_lines.specs.Selected.{within_block, statement_code, statements_code, frame_bytes, around, ended_code, function_code, functions_code, program_code}
+use Rattle.core_lines.specs.Selected.{within_block, statement_code, statements_code, frame_bytes, around, ended_code, function_code, functions_code}
+use Rattle.core_lines.specs.Selected.{program_code}
 use Rattle.core_lines.specs.Selected.{offsets_from, datum_locals}
 use Rattle.core_lines.proofs.labels.NoTargets.{check_none, operation_none, operand_none, between_none, behind_none, call_none, return_none}
 use Rattle.core_lines.proofs.labels.NoTargets.{prologue_none, epilogue_none}

@@ -279,7 +279,8 @@ pub return_goes : (w : World) (order : IsInOrder w) (x : Waiting) (outer : List 
     → GoesReturning w (keeping [] x) outer most next → GoesHolding w x outer most place held (core.statement (Return ts) next)
 return_goes w order x outer most ts next held place ends inside named served few has =
     returned w x outer most ts next held place (λ c.
-    returns w order (with_config x c) outer c.memory held ts place ends inside named served few (let e = length_of_values c.temps ts in omega (arith, e, few)) has)
+    returns w order (with_config x c) outer c.memory held ts place ends inside named served few
+    (let e = length_of_values c.temps ts in omega (arith, e, few)) has)
 
 -- one behind whose values the function ends
 pub return_last_goes : (w : World) (order : IsInOrder w) (x : Waiting) (outer : List Waiting) (most : ℕ) (ts : List ℕ) (next : Exit → Config → Step)

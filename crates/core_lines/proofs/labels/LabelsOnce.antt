@@ -23,7 +23,8 @@ use Rattle.core_lines.specs.Selected.{operation_code, labels_in, labels_of, labe
 use Rattle.core_lines.specs.Selected.{statement_code, statements_code, around, ended_code, function_code, functions_code, program_code}
 use Rattle.core_lines.specs.Running.{data_offsets}
 use Rattle.core_lines.specs.Homes.{saved_by, saved_slot, flag_at}
-use Rattle.core_lines.proofs.labels.NoLabels.{labels_placed-append, operation_none, choice_code_none, check_none, call_none, return_none, epilogue_none, prologue_none}
+use Rattle.core_lines.proofs.labels.NoLabels.{labels_placed-append, operation_none, choice_code_none, check_none, call_none, return_none}
+use Rattle.core_lines.proofs.labels.NoLabels.{epilogue_none, prologue_none}
 use Rattle.core_lines.proofs.Returning.{statements_jump_last, ended_places}
 
 -- ---- lists of labels

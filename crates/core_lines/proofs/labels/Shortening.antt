@@ -56,7 +56,8 @@ use Rattle.core_lines.specs.Selected.{labels_within, holding, naming, names_afte
 use Rattle.core_lines.specs.Selected.{ended_code, function_code, functions_code, program_code}
 use Rattle.core_meaning.specs.Selectable.{IsSelectable}
 use Rattle.core_lines.specs.Running.{DoesAsCore}
-use Rattle.core_lines.proofs.labels.NoTargets.{operand_none, operation_none, check_none, between_none, behind_none, call_none, return_none, epilogue_none, prologue_none}
+use Rattle.core_lines.proofs.labels.NoTargets.{operand_none, operation_none, check_none, between_none, behind_none, call_none, return_none}
+use Rattle.core_lines.proofs.labels.NoTargets.{epilogue_none, prologue_none}
 use Rattle.core_lines.proofs.labels.TargetsOnce.{program_targets_once}
 use Rattle.core_lines.proofs.Returning.{ended_short}
 use Rattle.core_lines.proofs.DoesAsCore.{lines_do_as_core}

@@ -3,7 +3,7 @@ use Rattle.std.proofs.Common.{ℕ, suc, ◌≤◌, List, ◌++◌, Option, Some,
 use Rattle.cyc_tree.specs.Tree.{Expression, Name}
 use Rattle.source_meaning.specs.Shapes.{MayBeNull, NeverNull}
 use Rattle.source_meaning.specs.Places.{bound_to}
-use Rattle.source_meaning.specs.Steps.{Entity, Fixed, Variable, World}
+use Rattle.source_meaning.specs.Steps.{Entity, Variable, World}
 use Rattle.source_meaning.specs.Shapes.{
   Shape,
   IntShape,
@@ -21,7 +21,7 @@ use Rattle.source_meaning.specs.Shapes.{
 use Rattle.core_meaning.specs.Core as core
 use Rattle.core_meaning.specs.Core.{Do, Narrow, Put}
 use Rattle.source_lowering.specs.Members.{distance, valued}
-use Rattle.source_lowering.specs.Lowered.{Home, InBlock, InTemporary, Named, conversion_code, get_by, get_home, put_local, get_local, load_global, local_named}
+use Rattle.source_lowering.specs.Lowered.{Home, InBlock, Named, conversion_code, get_by, get_home, put_local, get_local, load_global, local_named}
 use Rattle.source_lowering.specs.Lowered.{get_code, shape_by, static_shape}
 use Rattle.source_lowering.specs.Programs.{value_code}
 use Rattle.source_lowering.specs.Lowerable.{IsThinShape, IsWordShape}
@@ -65,9 +65,7 @@ moved_costs t p d (Some l) e h below k = by l.home k
   where
     by : (home : Home) → taken_at home ≤ t → Costs t p 0 2 (get_home l.shape home d)
     by (InBlock out index) less = moved_get_costs t p d out index l.shape h below
-    by (InTemporary from) less = does_few t p 2 (core.Move d from) (omega (arith, below, less)) (omega arith)
 moved_costs t p d None (Some (Variable s from)) h below k = moved_load_costs t p d from.object s h below
-moved_costs t p d None (Some (Fixed s v)) h below k = nothing t p 2
 moved_costs t p d None None h below k = nothing t p 2
 
 -- it is converted to a word, and that is stored

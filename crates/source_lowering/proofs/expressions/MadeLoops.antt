@@ -22,7 +22,6 @@ use Rattle.core_meaning.specs.Steps.{Config, Exit, Falls, LoopTurn, with_temp}
 use Rattle.core_meaning.specs.Meaning as meaning
 use Rattle.source_lowering.specs.Lowered.{all_of, next_number, number_named, put}
 use Rattle.source_lowering.specs.Simulation.{AreKept, GrownAt, Next, Point, Same, SameAt, SameOutcome, SameState, within}
-use Rattle.source_lowering.proofs.memory.Held.{numbers_kept, numbers_more}
 use Rattle.source_lowering.proofs.memory.Keeping.{later_on, later_self}
 use Rattle.source_lowering.proofs.Runs.{less_fuel, put_all}
 use Rattle.source_lowering.proofs.values.Tests.{two_words}

@@ -19,7 +19,7 @@ use Rattle.source_meaning.specs.Shapes.{
 use Rattle.source_meaning.specs.Memory as source
 use Rattle.source_meaning.specs.Memory.{AsUnsigned, Integer, Scalar, Spot, any_moved}
 use Rattle.source_meaning.specs.Steps as steps
-use Rattle.source_meaning.specs.Steps.{Variable, Fixed, give}
+use Rattle.source_meaning.specs.Steps.{Variable, give}
 use Rattle.source_meaning.specs.Conversions.{cells_of}
 use Rattle.source_meaning.specs.Places.{span_at, place_sense, entity_sense, bound_to, or_else}
 use Rattle.source_meaning.specs.Programs.{heap_spot}
@@ -43,7 +43,7 @@ use Rattle.source_lowering.proofs.memory.Moving.{taking}
 use Rattle.source_lowering.proofs.Runs.{stuck_same}
 use Rattle.source_lowering.proofs.values.Integers.{value_taken, object_value, object_target}
 use Rattle.source_lowering.proofs.memory.Members.{lies_here}
-use Rattle.source_lowering.proofs.expressions.Names.{AreObjectNames, AreGlobals, FoundLocal, FoundNumber, MissingLocal, find_local, FoundGlobal, find_global}
+use Rattle.source_lowering.proofs.expressions.Names.{AreObjectNames, AreGlobals, FoundLocal, MissingLocal, find_local, FoundGlobal, find_global}
 use Rattle.source_lowering.proofs.expressions.Places.{LocalVariable, GlobalVariable, addressed, local_placed, global_placed}
 use Rattle.source_lowering.proofs.expressions.Reaching.{placed_reached}
 use Rattle.source_lowering.proofs.expressions.ValuePlaces.{value_read, value_stored}

@@ -101,11 +101,11 @@ entered_fits w fs locals names outer shapes m c own owned kept regions agree blo
     }
 
 -- its region ends in both
-agree_gone : (w : World) (m : source.Memory) (c : core.Memory) (k j : ℕ) → k ≡ j → SameMemory w m c
+pub agree_gone : (w : World) (m : source.Memory) (c : core.Memory) (k j : ℕ) → k ≡ j → SameMemory w m c
     → SameMemory w (with_state m (source.Frame k) Dead) (with_standing c (core.Frame j) core.Dead)
 agree_gone w m c k j e a = subst (λ z. SameMemory w (with_state m (source.Frame k) Dead) (with_standing c (core.Frame z) core.Dead)) e (agree_left w m c k a)
 
-later_gone : (b : Bound) (m : source.Memory) (c : core.Memory) (k j : ℕ) → k ≡ j → Grown b m c (with_state m (source.Frame k) Dead)
+pub later_gone : (b : Bound) (m : source.Memory) (c : core.Memory) (k j : ℕ) → k ≡ j → Grown b m c (with_state m (source.Frame k) Dead)
     (with_standing c (core.Frame j) core.Dead)
 later_gone b m c k j e = subst (λ z. Grown b m c (with_state m (source.Frame k) Dead) (with_standing c (core.Frame z) core.Dead)) e (left_later b m c k)
 

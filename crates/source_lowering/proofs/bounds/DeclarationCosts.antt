@@ -63,7 +63,7 @@ unset_costs w s d index t p h = by s
     by of = word of
 
 value_bounded : (w : World) (names : List Named) (s : Shape) (e : Expression) (d index own t p : ℕ) → TakesValue w names s e
-    → max (taken_by names) (d + 4 * expression_count e) ≤ t → 3 * expression_count e ≤ p → IsDeclared t p (tokens_of e) (value_code w names s e d index own)
+    → d + 4 * expression_count e ≤ t → 3 * expression_count e ≤ p → IsDeclared t p (tokens_of e) (value_code w names s e d index own)
 value_bounded w names s e d index own t p h f g = by s h
   where
     word : (of : Shape) → Takes w names e → IsDeclared t p (tokens_of e)
@@ -97,7 +97,7 @@ value_bounded w names s e d index own t p h f g = by s h
     by of h = word of h
 
 pub declaration_bounded : (w : World) (names : List Named) (declared : Declaration) (d index own t p : ℕ) → TakesDeclaration w names declared
-    → max (taken_by names) (d + 4 * declaration_count declared + 1) ≤ t → 3 * declaration_count declared ≤ p
+    → d + 4 * declaration_count declared + 1 ≤ t → 3 * declaration_count declared ≤ p
     → IsDeclared t p (declaration_tokens declared) (declaration_code w names declared d index own)
 declaration_bounded w names (tree.Local of name Initializer.Unset) d index own t p h f g =
     record { operations = 2; costs = unset_costs w (settled (written of)) d index t p (omega (arith, f)); less = omega arith }

@@ -39,7 +39,7 @@ use Rattle.source_meaning.specs.Expressions.{is_unique_region}
 mutual
   -- a value is stored; it takes three temporaries at most
   pub stores_costs : (w : World) (names : List Named) (e : Expression) (t p d own : ℕ) → TakesPlace w names e
-      → max (taken_by names) (d + 3 + 4 * expression_count e) ≤ t
+      → d + 3 + 4 * expression_count e ≤ t
       → 3 * expression_count e ≤ p → IsCheap t p (tokens_of e) (put_code w names e d own)
   stores_costs w names (Expression.Variable name) t p d own h f g =
       one_cheap t p 1 4 _ (put_costs t p d (local_named names name.text) (bound_to w.globals name.text) (omega (arith, f))) (omega arith)
@@ -68,7 +68,7 @@ mutual
 
   -- a pointer to a place
   pub place_costs : (w : World) (names : List Named) (e : Expression) (t p d own : ℕ) → TakesPlace w names e
-      → max (taken_by names) (d + 4 * expression_count e) ≤ t
+      → d + 4 * expression_count e ≤ t
       → 3 * expression_count e ≤ p → IsPointed t p (tokens_of e) (place_code w names e d own)
   place_costs w names (Expression.Variable name) t p d own h f g = variable_costs w names name.text t p d (omega (arith, f))
   place_costs w names (Expression.Grouped at inner) t p d own h f g =
@@ -88,7 +88,7 @@ mutual
   place_costs w names _ t p d own h f g = absurd h
 
   pub expression_costs : (w : World) (names : List Named) (e : Expression) (t p d own : ℕ) → Takes w names e
-      → max (taken_by names) (d + 4 * expression_count e) ≤ t
+      → d + 4 * expression_count e ≤ t
       → 3 * expression_count e ≤ p → IsCheap t p (tokens_of e) (expression_code w names e d own)
   expression_costs w names (Expression.Number at value suffix) t p d own h f g =
       one_cheap t p 1 1 _ (does_one t p (Constant d value) (omega (arith, f))) (omega arith)
@@ -227,7 +227,7 @@ mutual
       taken h.1.1 (omega (arith, g)) (omega arith) (omega arith) (arrow_left w left f.text t p m n enough (as_value h.0))
 
   pub arguments_costs : (w : World) (names : List Named) (shapes : List Shape) (es : Expressions) (t p d own : ℕ) → TakesAll w names es
-      → max (taken_by names) (d + 4 * argument_count es) ≤ t → 3 * argument_count es ≤ p → AreArguments t p es (arguments_code w names shapes es d own)
+      → d + 4 * argument_count es ≤ t → 3 * argument_count es ≤ p → AreArguments t p es (arguments_code w names shapes es d own)
   arguments_costs w names [] es t p d own h f g = let n = many_tokens es in record { operations = 0; costs = no_costs t p; less = omega (arith, n) }
   arguments_costs w names (s ∷ ss) NoExpressions t p d own h f g = record { operations = 0; costs = no_costs t p; less = omega arith }
   arguments_costs w names (s ∷ ss) (MoreExpressions e es) t p d own h f g =
@@ -245,7 +245,7 @@ mutual
       }
 
   pub links_costs : (w : World) (names : List Named) (links : Links) (left : Shape) (t p d own : ℕ) → TakesLinks w names links
-      → max (taken_by names) (d + 4 * link_count links) ≤ t → 3 * link_count links ≤ p → ArePassed t p (link_tokens links) (links_code w names links left d own)
+      → d + 4 * link_count links ≤ t → 3 * link_count links ≤ p → ArePassed t p (link_tokens links) (links_code w names links left d own)
   links_costs w names NoLinks left t p d own h f g = record { operations = 0; costs = no_costs t p; less = omega arith }
   links_costs w names (MoreLinks operator operand others) left t p d own h f g =
       let few = words_few left in
@@ -260,7 +260,7 @@ mutual
         less = omega (arith, l, k);
       }
 
-  pub all_costs : (w : World) (names : List Named) (es : Expressions) (t p d own : ℕ) → TakesAll w names es → max (taken_by names) (d + 4 * joined_count es) ≤ t
+  pub all_costs : (w : World) (names : List Named) (es : Expressions) (t p d own : ℕ) → TakesAll w names es → d + 4 * joined_count es ≤ t
       → 3 * joined_count es ≤ p → IsJoined t p es (all_code w names es d own)
   all_costs w names NoExpressions t p d own h f g = record { operations = 0; costs = no_costs t p; less = omega arith }
   all_costs w names (MoreExpressions e es) t p d own h f g =
@@ -277,7 +277,7 @@ mutual
         less = omega (arith, l, k);
       }
 
-  pub any_costs : (w : World) (names : List Named) (es : Expressions) (t p d own : ℕ) → TakesAll w names es → max (taken_by names) (d + 4 * joined_count es) ≤ t
+  pub any_costs : (w : World) (names : List Named) (es : Expressions) (t p d own : ℕ) → TakesAll w names es → d + 4 * joined_count es ≤ t
       → 3 * joined_count es ≤ p → IsJoined t p es (any_code w names es d own)
   any_costs w names NoExpressions t p d own h f g = record { operations = 0; costs = no_costs t p; less = omega arith }
   any_costs w names (MoreExpressions e es) t p d own h f g =
@@ -295,7 +295,7 @@ mutual
       }
 
   -- what `new` and `rnew` make, whose value comes into the next temporary
-  pub new_costs : (w : World) (names : List Named) (unique : Bool) (new : Made) (t p d own : ℕ) → TakesNew w names new → max (taken_by names) (d + 4 + 4 * made_count new) ≤ t
+  pub new_costs : (w : World) (names : List Named) (unique : Bool) (new : Made) (t p d own : ℕ) → TakesNew w names new → d + 4 + 4 * made_count new ≤ t
       → 3 * made_count new ≤ p → IsMade t p (made_tokens new) (new_code w names unique new d own)
   new_costs w names unique (One e) t p d own h f g =
       let n = one_node e in
@@ -316,7 +316,7 @@ mutual
 
   -- a struct or a union
   pub whole_costs : (w : World) (names : List Named) (e : Expression) (t p d own : ℕ) → TakesWhole w names e
-      → max (taken_by names) (d + 4 * expression_count e) ≤ t
+      → d + 4 * expression_count e ≤ t
       → 3 * expression_count e ≤ p → IsWhole t p (tokens_of e) (whole_code w names e d own)
   whole_costs w names (Expression.Call name arguments) t p d own h f g =
       let a = members_costs w names (parts_of w.structs name.text) arguments t p d 0 0 (suc own) h.1 (omega (arith, f)) (omega (arith, g)) in
@@ -354,7 +354,7 @@ mutual
   whole_costs w names _ t p d own h f g = absurd h
 
   pub members_costs : (w : World) (names : List Named) (ps : List Part) (arguments : Expressions) (t p d cells bytes own : ℕ)
-      → TakesMade w names ps arguments → max (taken_by names) (d + 4 + 4 * argument_count arguments) ≤ t → 3 * argument_count arguments ≤ p
+      → TakesMade w names ps arguments → d + 4 + 4 * argument_count arguments ≤ t → 3 * argument_count arguments ≤ p
       → ArePassed t p (argument_tokens arguments) (members_code w names ps arguments d cells bytes own)
   members_costs w names [] NoExpressions t p d cells bytes own h f g = record { operations = 0; costs = no_costs t p; less = omega arith }
   members_costs w names [] (MoreExpressions first others) t p d cells bytes own h f g = absurd h

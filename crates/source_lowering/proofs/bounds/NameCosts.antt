@@ -89,7 +89,7 @@ word_put t p d index (FatShape of) h less = absurd h
 word_put t p d index _ h less = does_one t p _ less
 
 pub alias_costs : (w : World) (names : List Named) (name : Name) (s : Shape) (d index own t p : ℕ)
-    → IsThinShape (static_shape w names (Expression.Variable name)) → IsWordShape s → max (taken_by names) (suc d) ≤ t
+    → IsThinShape (static_shape w names (Expression.Variable name)) → IsWordShape s → suc d ≤ t
     → Costs t p 0 7 (value_code w names s (Expression.Variable name) d index own)
 alias_costs w names name s d index own t p thin is_word h = by s is_word
   where

@@ -142,7 +142,7 @@ case_bounded w names s number t p l n d body items h a =
 
 mutual
   statement_bounded : (w : World) (result : Shape) (names : List Named) (r : RegionsAround) (own : ℕ) (s : Statement) (t p : ℕ)
-      → TakesStatement w result names s → max (taken_by names) (r.all + (statement_regions s + 4 * statement_count w s) + 2) ≤ t
+      → TakesStatement w result names s → r.all + (statement_regions s + 4 * statement_count w s) + 2 ≤ t
       → 3 * statement_count w s ≤ p
       → IsBounded t p (statement_locals w names s) (statement_size s + statement_left r s) (statement_code w result names r own s)
   statement_bounded w result names r own (Statement.Empty at) t p h f g = record { operations = 0; costs = no_costs t p; less = omega arith }
@@ -274,7 +274,7 @@ mutual
 
   pub items_bounded : (w : World) (result : Shape) (names : List Named) (r : RegionsAround) (index own : ℕ) (items : BlockItems) (t p : ℕ)
       → TakesItems w result names index items
-      → max (taken_by names) (r.all + (item_regions items + 4 * item_count w items) + 2) ≤ t → 3 * item_count w items ≤ p
+      → r.all + (item_regions items + 4 * item_count w items) + 2 ≤ t → 3 * item_count w items ≤ p
       → ItemsBounded w names index t p (item_locals w names index items) (item_size items + items_left r items) items
       (items_code w result names r index own items)
   items_bounded w result names r index own NoItems t p h f g = record {
@@ -316,7 +316,7 @@ mutual
   -- the pointer to the union and its tag are in the first free temporaries, with two behind them
   clauses_bounded : (w : World) (result : Shape) (names : List Named) (r : RegionsAround) (parts : List Part) (own last : ℕ) (clauses : Clauses) (t p : ℕ)
       → TakesClauses w result names parts clauses → r.all + 4 ≤ t
-      → max (taken_by names) (r.all + (clause_regions clauses + 4 * clause_count w clauses) + 2) ≤ t → 3 * clause_count w clauses ≤ p
+      → r.all + (clause_regions clauses + 4 * clause_count w clauses) + 2 ≤ t → 3 * clause_count w clauses ≤ p
       → ClausesBounded t p (clause_locals w names parts clauses) (clauses_size clauses + clauses_left r clauses)
       (cases_code w result names r parts own clauses) (default_code w result names r last clauses)
   clauses_bounded w result names r parts own last NoClauses t p h e f g = record {

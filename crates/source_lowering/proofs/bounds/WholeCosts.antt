@@ -28,7 +28,7 @@ use Rattle.source_lowering.proofs.bounds.PartCosts.{conversion_costs}
 
 -- the initializer of a struct or a union
 pub source_costs : (w : World) (names : List Named) (e : Expression) (t p d own : ℕ) → TakesWhole w names e
-    → max (taken_by names) (d + 4 * expression_count e) ≤ t → 3 * expression_count e ≤ p
+    → d + 4 * expression_count e ≤ t → 3 * expression_count e ≤ p
     → IsWhole t p (tokens_of e) (source_code w names (is_made w e) e d own)
 source_costs w names e t p d own h f g = by (is_made w e) refl
   where
@@ -40,14 +40,14 @@ source_costs w names e t p d own h f g = by (is_made w e) refl
 
 -- ---- expressions that are statements
 
-word_run : (w : World) (names : List Named) (e : Expression) (t p d own : ℕ) → Takes w names e → max (taken_by names) (d + 4 * expression_count e) ≤ t
+word_run : (w : World) (names : List Named) (e : Expression) (t p d own : ℕ) → Takes w names e → d + 4 * expression_count e ≤ t
     → 3 * expression_count e ≤ p
     → ArePassed t p (tokens_of e) (expression_code w names e d own)
 word_run w names e t p d own h f g =
     let a = expression_costs w names e t p d own h f g in let l = a.less in
     record { operations = a.operations; costs = a.costs; less = omega (arith, l) }
 
-whole_run : (w : World) (names : List Named) (e : Expression) (t p d own : ℕ) → TakesWhole w names e → max (taken_by names) (d + 4 * expression_count e) ≤ t
+whole_run : (w : World) (names : List Named) (e : Expression) (t p d own : ℕ) → TakesWhole w names e → d + 4 * expression_count e ≤ t
     → 3 * expression_count e ≤ p
     → ArePassed t p (tokens_of e) (whole_code w names e d own)
 whole_run w names e t p d own h f g =
@@ -55,7 +55,7 @@ whole_run w names e t p d own h f g =
     record { operations = a.operations; costs = a.costs; less = omega (arith, l) }
 
 assigned_costs : (w : World) (names : List Named) (s : Shape) (place value : Expression) (t p d own : ℕ) → TakesAssigned w names s place value
-    → max (taken_by names) (d + 4 * (expression_count place + expression_count value)) ≤ t → 3 * (expression_count place + expression_count value) ≤ p
+    → d + 4 * (expression_count place + expression_count value) ≤ t → 3 * (expression_count place + expression_count value) ≤ p
     → ArePassed t p (tokens_of place + (1 + tokens_of value)) (assigned_code w names s place value d own)
 assigned_costs w names s place value t p d own h f g = by s h
   where
@@ -92,7 +92,7 @@ assigned_costs w names s place value t p d own h f g = by s h
         }
 
 dropped_costs : (w : World) (names : List Named) (s : Shape) (e : Expression) (t p d own : ℕ) → TakesDropped w names s e
-    → max (taken_by names) (d + 4 * expression_count e) ≤ t
+    → d + 4 * expression_count e ≤ t
     → 3 * expression_count e ≤ p → ArePassed t p (tokens_of e) (dropped_code w names s e d own)
 dropped_costs w names (StructShape tag) e t p d own h f g = whole_run w names e t p d own h f g
 dropped_costs w names (UnionShape tag) e t p d own h f g = whole_run w names e t p d own h f g
@@ -101,7 +101,7 @@ dropped_costs w names _ e t p d own h f g = word_run w names e t p d own h f g
 -- a call may have no value
 call_run : (w : World) (names : List Named) (name : Name) (arguments : Expressions) (t p d own : ℕ)
     → TakesCalled (makes_struct w name.text) (TakesWhole w names (Expression.Call name arguments)) (Takes w names (Expression.Call name arguments))
-    → suc d ≤ t → max (taken_by names) (d + 4 * run_count w (Expression.Call name arguments)) ≤ t → 3 * run_count w (Expression.Call name arguments) ≤ p
+    → suc d ≤ t → d + 4 * run_count w (Expression.Call name arguments) ≤ t → 3 * run_count w (Expression.Call name arguments) ≤ p
     → ArePassed t p (tokens_of (Expression.Call name arguments)) (run_code w names (Expression.Call name arguments) d own)
 call_run w names name arguments t p d own h free f g = by (makes_struct w name.text) refl h
   where
@@ -119,7 +119,7 @@ call_run w names name arguments t p d own h free f g = by (makes_struct w name.t
         record { operations = a.operations; costs = a.costs; less = omega (arith, l) }
 
 pub run_costs : (w : World) (names : List Named) (e : Expression) (t p d own : ℕ) → TakesRun w names e → suc d ≤ t
-    → max (taken_by names) (d + 4 * run_count w e) ≤ t → 3 * run_count w e ≤ p
+    → d + 4 * run_count w e ≤ t → 3 * run_count w e ≤ p
     → ArePassed t p (tokens_of e) (run_code w names e d own)
 run_costs w names (Expression.Assign place value) t p d own h free f g = assigned_costs w names (static_shape w names place) place value t p d own h f g
 run_costs w names (Expression.Grouped at inner) t p d own h free f g =

@@ -16,29 +16,28 @@ use Rattle.core_meaning.specs.Bounds.{operation_count}
 use Rattle.source_lowering.proofs.bounds.Nodes.{result_count}
 use Rattle.source_lowering.proofs.bounds.Costs.{Costs, one_costs, does_one, does_then, does_few, at_most, nothing}
 use Rattle.source_lowering.proofs.bounds.ValueCosts.{check_costs, to_fat_costs, to_thin_costs, turned_costs, compared_costs, null_costs, moved_costs, local_costs, global_costs, put_local_costs, put_global_costs}
-use Rattle.source_lowering.proofs.bounds.Taken.{taken_at, taken_found}
 
--- an expression takes less than eight operations a token, and no local: four are left
-pub record IsCheap (t p n : ℕ) (code : List Statement) : Type 0 where
+-- an expression takes less than eight operations a token: four are left; its locals are indices
+pub record IsCheap (t p l n : ℕ) (code : List Statement) : Type 0 where
   pub operations : ℕ
-  pub costs : Costs t p 0 operations code
+  pub costs : Costs t p l operations code
   pub less : operations + 4 ≤ 8 * n
 
 -- operands with their operators, members with their stores
-pub record ArePassed (t p n : ℕ) (code : List Statement) : Type 0 where
+pub record ArePassed (t p l n : ℕ) (code : List Statement) : Type 0 where
   pub operations : ℕ
-  pub costs : Costs t p 0 operations code
+  pub costs : Costs t p l operations code
   pub less : operations ≤ 8 * n
 
 -- ---- parts of expressions
 
-pub get_costs : (t p d : ℕ) (l : Option Named) (e : Option Entity) → d + 4 ≤ t → taken_found l ≤ t → Costs t p 0 4 (get_by l e d)
-get_costs t p d (Some l) e h k = by l.home k
+pub get_costs : (t p d : ℕ) (l : Option Named) (e : Option Entity) → d + 4 ≤ t → Costs t p 0 4 (get_by l e d)
+get_costs t p d (Some l) e h = by l.home
   where
-    by : (home : Home) → taken_at home ≤ t → Costs t p 0 4 (get_home l.shape home d)
-    by (InBlock out index) less = local_costs l.shape t p d out index h
-get_costs t p d None (Some (Variable s at)) h k = global_costs s t p d at.object h
-get_costs t p d None None h k = nothing t p 4
+    by : (home : Home) → Costs t p 0 4 (get_home l.shape home d)
+    by (InBlock out index) = local_costs l.shape t p d out index h
+get_costs t p d None (Some (Variable s at)) h = global_costs s t p d at.object h
+get_costs t p d None None h = nothing t p 4
 
 pub put_costs : (t p d : ℕ) (l : Option Named) (e : Option Entity) → d + 4 ≤ t → Costs t p 0 4 (put_by l e d)
 put_costs t p d (Some l) e h = by l.home

@@ -120,6 +120,7 @@ find_local unions structs blocks (b ∷ bs) (l ∷ ls) name all integers =
       is_variable = integers.0;
       led = λ w m c h. subst (λ z. IsLed w m c z) stands.is h.0;
     })
+
     by : (t : Bool) → bytes_eq l.name name ≡ t → Found unions structs blocks bs ls name → Found unions structs blocks (b ∷ bs) (l ∷ ls) name
     by true e rest = here e l.home refl one.stands
     by false e rest = other e rest

@@ -70,8 +70,8 @@ locals_around_an_array = refl
 abbrev nested : Expression
 nested = array (named "i") (Expression.NumElts 0 (array (named "j") (number 3) (variable "j"))) (array (named "k") (variable "i") (variable "k"))
 
--- first the index of the count, then the array's own, and then that of its elements
-pub indices_of_nested : expression_order 5 nested ≡ 5 ∷ 6 ∷ 7 ∷ []
+-- first the array's own, which is numbered behind that of the count, then that of the count, and then that of its elements
+pub indices_of_nested : expression_order 5 nested ≡ 6 ∷ 5 ∷ 7 ∷ []
 indices_of_nested = refl
 
 pub all_of_nested : indices_in nested ≡ 3

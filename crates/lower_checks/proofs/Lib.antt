@@ -2,6 +2,7 @@ mod Arguments
 mod Arrays
 mod Bodies
 mod Clauses
+mod Counts
 mod Exchanges
 mod Following
 mod Initials
@@ -12,6 +13,7 @@ mod Mains
 mod Making
 mod Naming
 mod Nothing
+mod Ordered
 mod Parts
 mod Phrases
 mod Pointers

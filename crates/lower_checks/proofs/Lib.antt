@@ -2,7 +2,6 @@ mod Arguments
 mod Arrays
 mod Bodies
 mod Clauses
-mod Counts
 mod Exchanges
 mod Following
 mod Initials

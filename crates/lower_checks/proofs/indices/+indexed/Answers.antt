@@ -1,13 +1,11 @@
-use Rattle.std.proofs.Common.{◌≡◌, ◌∙◌, ◌+◌, ◌-◌, ◌^◌, ◌≤◌, ℕ, min, arith, refl, sym, ap, subst, List, [], ◌∷◌, ◌++◌, map, drop}
+use Rattle.std.proofs.Common.{◌≡◌, ◌∙◌, ◌+◌, ◌-◌, ◌^◌, ◌≤◌, ℕ, min, arith, sym, ap, subst, List, ◌∷◌, map, drop}
 use Rattle.cyc_tree.proofs.PartForms.{arrow_tree, dot_tree, index_tree}
 use Rattle.cyc_tree.specs.Tree as tree
-use Rattle.cyc_tree.specs.Tree.{Expression, Suffixes}
 use Rattle.cyc_tree.specs.View.{OneSuffix, expression_tree, name_tree, suffix_tree, suffixes_of}
 use Rattle.source_lowering.specs.Order.{expression_order, indices_in, indices_in_suffixes, suffix_order}
 use Rattle.lower_checks.specs.Ordering.{AreLeft, IsOrdered}
 use Rattle.lower_checks.specs.declared.order.Order.{Order}
-use Rattle.lower_checks.proofs.Counts.{count_before}
-use Rattle.lower_checks.proofs.Ordered.{left_behind}
+use Rattle.lower_checks.proofs.Ordered.{count_before, left_behind}
 use Rattle.lower_checks.proofs.Remaining.{left_suffixes}
 use Rattle.lower_checks.proofs.indices.+indexed.Goals as goal
 use Rattle.lower_checks.proofs.indices.+indexed.Goals.{order_suffixes-in-Arrow, order_suffixes-in-Dot, order_suffixes-in-Index}

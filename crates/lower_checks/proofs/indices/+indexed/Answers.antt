@@ -30,7 +30,8 @@ order_suffixes-each-preserved t c sound =
     elim c.match-suffix.branch [
       | order_suffixes-in-Index w ↦
           let e = expression_tree w.deref-in-Index.result.now in
-          let is : left ≡ tree.Index e others = begins (OneSuffix.Index (expression_tree w.in-Index.index.value)) (ap suffix_tree w.in-Index.is ∙ index_tree w.in-Index.index)
+          let is : left ≡ tree.Index e others =
+          begins (OneSuffix.Index (expression_tree w.in-Index.index.value)) (ap suffix_tree w.in-Index.is ∙ index_tree w.in-Index.index)
           ∙ ap (λ i. tree.Index (expression_tree i) others) (sym w.deref-in-Index.ensures) in
           let put = w.order_expression.ensures (ap (λ (x : Order). x.failed) (sym w.order-is) ∙ sound) in
           let before = c.each.invariant put.sound in

@@ -12,7 +12,8 @@ returns-in-Some-clause-named c =
     let marks = reverse c.self.inside.marks.items in
     let name = c.args.name.now in
     let is : Some c.in-Some.local ≡ found marks name = sym c.in-Some.is ∙ c.of.ensures ∙ c.self.invariant.means name in
-    ap (λ n. Some (record { name = c.in-Some.local.name.now; shape = stored_tree c.in-Some.local.stored; home = InBlock n c.in-Some.local.index })) c.saturating_sub.ensures
+    ap (λ n. Some (record { name = c.in-Some.local.name.now; shape = stored_tree c.in-Some.local.stored; home = InBlock n c.in-Some.local.index }))
+    c.saturating_sub.ensures
     ∙ ap (option_map (named_at c.self.inside.depth)) is
     ∙ visible_named marks c.self.inside.last c.self.inside.depth c.self.invariant name
     ∙ ap (λ ms. local_named (names_of ms) name) c.self.view_is

@@ -6,5 +6,6 @@ use Rattle.lower_checks.proofs.scope.Scope.named.Goals as goal
 -- an element's number of another name is passed
 pub each-preserved : goal.each-preserved
 each-preserved c =
-    found_more c.args.self.now.numbers.now c.each.out _ c.args.name.now (names_of c.args.self.now.locals.now) c.each-test.true (sym c.eq.ensures ∙ c.if-eq.false)
+    found_more c.args.self.now.numbers.now c.each.out _ c.args.name.now (names_of c.args.self.now.locals.now) c.each-test.true
+    (sym c.eq.ensures ∙ c.if-eq.false)
     ∙ c.each.invariant

@@ -1,5 +1,5 @@
 -- What is written of an array that is made: its count first, and then what makes its elements.
-use Rattle.std.proofs.Common.{◌≡◌, ◌∙◌, ℕ, ◌+◌, sym, ap, subst, Bool, List, ◌∷◌, ◌++◌, length}
+use Rattle.std.proofs.Common.{◌≡◌, ◌∙◌, ℕ, ◌+◌, refl, sym, ap, subst, Bool, List, ◌∷◌, ◌++◌, length}
 use Rattle.std.specs.declared.boxed.Box.{Box}
 use Rattle.std.specs.declared.alloc.Global.{Global}
 use Rattle.cyc_tree.specs.Tree as tree
@@ -18,18 +18,17 @@ use Rattle.source_lowering.specs.Lowered.{
   Named,
   array_code,
   element_by,
+  element_names,
   expression_code,
   expression_values,
   new_code,
   new_values,
-  number_named,
   static_shape,
   values_by,
   whole_code,
   whole_values,
 }
 use Rattle.source_lowering.specs.Lowerable.{IsObject, Takes, TakesMember, TakesWhole}
-use Rattle.source_lowering.proofs.expressions.Homes.{element_values, same_element}
 use Rattle.lower_checks.specs.Writing.{IsWritten, next_of}
 use Rattle.lower_checks.specs.declared.body.Body.{Body}
 use Rattle.lower_checks.proofs.Writing.{next_is, write_write}
@@ -59,16 +58,15 @@ module _ (w : World) (names : List Named) (m : Made) (index : tree.Name) (from c
 
   pub array_written : (unique : Bool) (a b z : Body) (d : ℕ) → m ≡ Made.Array index from of → count ≡ from → element ≡ of
       → IsWritten a b (expression_code w names count (d + 1) (next_of a)) (expression_values w names count)
-      → IsWritten b z (made_code w (number_named index.text (d + 2) ∷ names) element d (next_of b)) (made_shapes w (number_named index.text (d + 2) ∷ names) element)
+      → IsWritten b z (made_code w (element_names index.text names) element d (next_of b)) (made_shapes w (element_names index.text names) element)
       → IsWritten a z (new_code w names unique m d (next_of a)) (new_values w names m)
   array_written unique a b z d m_is count_is element_is one two =
       let own = next_of a in
-      let inner = number_named index.text (d + 2) ∷ names in
+      let inner = element_names index.text names in
       let first = expression_code w names count (d + 1) own in
       let values = expression_values w names count in
       let second : ℕ → List Statement = made_code w inner element d in
       let number = own + length values in
       subst (λ x. IsWritten a z (new_code w names unique x d own) (new_values w names x)) (sym (array_is m_is count_is element_is))
       (write_write a b z first (second (next_of b)) (first ++ second number) values (made_shapes w inner element)
-      (values ++ element_values w names index.text 0 element) one two (ap (λ n. first ++ second n) (sym (next_is a b first values one)))
-      (ap (λ vs. values ++ vs) (same_element w names index.text 0 (d + 2) element)))
+      (values ++ made_shapes w inner element) one two (ap (λ n. first ++ second n) (sym (next_is a b first values one))) refl)

@@ -12,6 +12,7 @@ mod Mains
 mod Making
 mod Naming
 mod Nothing
+mod Ordered
 mod Parts
 mod Phrases
 mod Pointers

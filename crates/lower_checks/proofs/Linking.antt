@@ -122,7 +122,7 @@ moved_if : (own : Bool) (n : Named) (local : Option Named)
 moved_if true n local = refl
 moved_if false n local = refl
 
-named_outward : (ns : List Named) (name : List ℕ) → local_named (outward ns) name ≡ option_map one_out (local_named ns name)
+pub named_outward : (ns : List Named) (name : List ℕ) → local_named (outward ns) name ≡ option_map one_out (local_named ns name)
 named_outward [] name = refl
 named_outward (n ∷ ns) name =
     ap (λ o. if bytes_eq n.name name then Some (one_out n) else o) (named_outward ns name)

@@ -21,6 +21,7 @@ mod first;
 mod freeing;
 mod function;
 mod given;
+mod indices;
 mod last;
 mod layouts;
 mod leaf;

@@ -1,6 +1,6 @@
 // The locals that are visible at a point.
 
-ghost use Rattle.std.specs.Prelude.{◌≡◌, ◌∷◌, [], OnOk, Some, None, option_map};
+ghost use Rattle.std.specs.Prelude.{◌≡◌, ◌<◌, ◌^◌, ◌∷◌, [], IfSome, OnOk, Some, None, option_map};
 ghost use Rattle.cyc_tree.specs.View.{name_tree};
 ghost use Rattle.source_lowering.specs.Lowered.{local_named};
 ghost use Rattle.lower_checks.specs.Views.{named_tree};
@@ -48,9 +48,10 @@ impl<'p> Locals<'p> {
         }
     }
 
-    /// The innermost local of a name.
+    /// The innermost local of a name, which is fewer than 2^63 blocks out.
     pub fn named(&self, name: &[u8]) -> Option<Named<'p>>
-        ensures { option_map named_tree result ≡ local_named (names_of self.now) name.now }
+        ensures named { option_map named_tree result ≡ local_named (names_of self.now) name.now }
+        ensures near { IfSome result (λ local. local.out < 2 ^ 63) }
     {
         match self.last.of(name) {
             Some(local) => Some(Named {

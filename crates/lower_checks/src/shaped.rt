@@ -1,24 +1,23 @@
 // The shapes of expressions, which are known without a run.
 
-ghost use Rattle.std.specs.Prelude.{◌≡◌, ◌∷◌, IfOk, map};
+ghost use Rattle.std.specs.Prelude.{◌≡◌, IfOk, map};
 ghost use Rattle.cyc_tree.specs.View.{expression_tree, link_tree, links_of, made_tree, member_tree, name_tree, suffix_tree, suffixes_of};
 ghost use Rattle.source_meaning.specs.Shapes.{FatShape, part_of, part_shape};
 ghost use Rattle.source_meaning.specs.Calls.{number_type};
 ghost use Rattle.source_meaning.specs.Programs.{world_of, integer_shape};
-ghost use Rattle.source_lowering.specs.Lowered.{call_shape, linked_shape, makes_struct, member_shape, named_shape, new_shape};
-ghost use Rattle.source_lowering.specs.Lowered.{number_named, owner_in, prefix_shape, static_shape, suffixed_shape, valued};
+ghost use Rattle.source_lowering.specs.Lowered.{call_shape, element_names, linked_shape, makes_struct, member_shape, named_shape, new_shape};
+ghost use Rattle.source_lowering.specs.Lowered.{owner_in, prefix_shape, static_shape, suffixed_shape, valued};
 ghost use Rattle.lower_checks.specs.Refusals.{NeverRefused};
 ghost use Rattle.lower_checks.specs.Scoped.{names_in, world_in};
 ghost use Rattle.source_meaning.specs.Expressions.{is_unique_region};
 ghost use Rattle.lower_checks.specs.Views.{owner_tree, shape_tree};
 
 use crate::fault::LowerFault;
-use crate::numbers::{number_named, with_number};
+use crate::numbers::with_number;
 use crate::operator::operator_shape;
 use crate::scope::Scope;
 use crate::shape::{Owner, Shape};
 use crate::table::Table;
-use cyc_core::Temporary;
 use cyc_tree::{Expression, Link, Made, Member, Name, Operator, Prefix, Suffix};
 
 /// Whether an expression is the unique region.
@@ -82,14 +81,10 @@ pub fn call_shape<'p>(program: &Table<'p>, name: &'p [u8]) -> Shape<'p>
 }
 
 /// The shape of the value of the variable of a name: an element's number, a local, or else a global; `void` where there is none.
-#[tactic(auto, using(crate::proofs::Naming::found_first, crate::proofs::Naming::found_behind))]
 pub fn named_shape<'p>(scope: &Scope<'_, 'p>, name: &[u8]) -> Shape<'p>
     ensures { shape_tree result ≡ valued (named_shape (world_in scope.now) (names_in scope.now) name.now) }
 {
-    if let Some(_) = number_named(scope.numbers, name) {
-        return Shape::Unsigned;
-    }
-    if let Some(local) = scope.locals.named(name) {
+    if let Some(local) = scope.named(name) {
         return local.stored.value();
     }
     match scope.program.global_named(name) {
@@ -177,7 +172,7 @@ fn linked_shape<'p>(
     Ok(left)
 }
 
-/// The shape of a fat pointer to elements that are made. Which temporary has an element's number plays no part in it.
+/// The shape of a fat pointer to elements that are made.
 #[cycle(shape)]
 fn elements_shape<'p>(
     scope: &Scope<'_, 'p>,
@@ -187,11 +182,11 @@ fn elements_shape<'p>(
     ensures shape { IfOk result
         (λ shape.
         shape_tree shape ≡
-        FatShape (static_shape (world_in scope.now) (number_named (name_tree index.entry.now).text 0 ∷ names_in scope.now)
+        FatShape (static_shape (world_in scope.now) (element_names (name_tree index.entry.now).text (names_in scope.now))
         (expression_tree element.entry.now))) }
     ensures taken { NeverRefused result }
 {
-    let numbers = with_number(scope.alloc, scope.numbers, &index.text, Temporary(0))?;
+    let numbers = with_number(scope.alloc, scope.numbers, &index.text)?;
     let inside = Scope {
         alloc: scope.alloc,
         program: scope.program,

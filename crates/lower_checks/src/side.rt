@@ -14,7 +14,6 @@ ghost use Rattle.lower_checks.specs.Writing.{Emits, IsSound, Writes, next_of};
 use crate::body::Body;
 use crate::member::Reached;
 use crate::names::Named;
-use crate::numbers::number_named;
 use crate::place::lower_place;
 use crate::scope::Scope;
 use crate::shape::Shape;
@@ -46,14 +45,10 @@ fn local_side(local: &Named<'_>) -> Side
 }
 
 /// How code reaches what a name stands for: a local of one word by its name, and all else by its place.
-#[tactic(auto, using(crate::proofs::Naming::found_first, crate::proofs::Naming::found_behind))]
 fn named_side(scope: &Scope<'_, '_>, name: &[u8]) -> Side
     ensures { side_tree result ≡ named_side (local_named (names_in scope.now) name.now) }
 {
-    if let Some(_) = number_named(scope.numbers, name) {
-        return Side::ByPlace;
-    }
-    match scope.locals.named(name) {
+    match scope.named(name) {
         Some(local) => local_side(&local),
         None => Side::ByPlace,
     }

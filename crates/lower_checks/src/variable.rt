@@ -13,7 +13,6 @@ use crate::body::Body;
 use crate::fat::lower_bounds;
 use crate::member::Reached;
 use crate::names::{Named, behind};
-use crate::numbers::number_named;
 use crate::scope::Scope;
 use crate::shape::Shape;
 use crate::stored::Stored;
@@ -66,7 +65,6 @@ fn lower_load_global(body: &mut Body<'_>, global: &Found<'_>, to: Temporary)
 
 /// Appends what reads the variable of a name into a temporary and those behind it; gives the shape of its value, which is `void` where
 /// there is none of that name.
-#[tactic(auto, using(crate::proofs::Naming::found_first, crate::proofs::Naming::found_behind))]
 pub fn lower_get<'p>(
     scope: &Scope<'_, 'p>,
     body: &mut Body<'_>,
@@ -77,11 +75,7 @@ pub fn lower_get<'p>(
     ensures code { Emits body.old body.new (get_code (world_in scope.now) (names_in scope.now) name.now to.0) }
     ensures shape { shape_tree result ≡ valued (named_shape (world_in scope.now) (names_in scope.now) name.now) }
 {
-    if let Some(number) = number_named(scope.numbers, name) {
-        body.operation(Operation::Move(to, number.held));
-        return Shape::Unsigned;
-    }
-    if let Some(local) = scope.locals.named(name) {
+    if let Some(local) = scope.named(name) {
         lower_get_local(body, &local, to);
         return local.stored.value();
     }
@@ -149,17 +143,12 @@ fn lower_store_global(body: &mut Body<'_>, global: &Found<'_>, from: Temporary)
     }
 }
 
-/// Appends what stores the value in a temporary and those behind it in the variable of a name. An element's number is no place, and
-/// nothing is stored in it.
-#[tactic(auto, using(crate::proofs::Naming::found_first, crate::proofs::Naming::found_behind))]
+/// Appends what stores the value in a temporary and those behind it in the variable of a name.
 pub fn lower_named(scope: &Scope<'_, '_>, body: &mut Body<'_>, name: &[u8], from: Temporary)
     requires room { HasRoom from.0 3 }
     ensures { Emits body.old body.new (put_by (local_named (names_in scope.now) name.now) (bound_to (world_in scope.now).globals name.now) from.0) }
 {
-    if let Some(_) = number_named(scope.numbers, name) {
-        return;
-    }
-    if let Some(local) = scope.locals.named(name) {
+    if let Some(local) = scope.named(name) {
         lower_put_local(body, &local.stored, place_of(&local), from);
     } else if let Some(global) = scope.program.global_named(name) {
         lower_store_global(body, &global, from);
@@ -168,7 +157,6 @@ pub fn lower_named(scope: &Scope<'_, '_>, body: &mut Body<'_>, name: &[u8], from
 
 /// Appends what leaves a pointer to the variable of a name in a temporary; gives the shape of its value, which is `void` where there is
 /// none of that name.
-#[tactic(auto, using(crate::proofs::Naming::found_first, crate::proofs::Naming::found_behind))]
 pub fn lower_address<'p>(
     scope: &Scope<'_, 'p>,
     body: &mut Body<'_>,
@@ -178,10 +166,7 @@ pub fn lower_address<'p>(
     ensures code { Emits body.old body.new (address_by (local_named (names_in scope.now) name.now) (bound_to (world_in scope.now).globals name.now) to.0) }
     ensures shape { shape_tree result ≡ valued (named_shape (world_in scope.now) (names_in scope.now) name.now) }
 {
-    if let Some(_) = number_named(scope.numbers, name) {
-        return Shape::Unsigned;
-    }
-    if let Some(local) = scope.locals.named(name) {
+    if let Some(local) = scope.named(name) {
         body.operation(Operation::LocalAddress(to, place_of(&local)));
         return local.stored.value();
     }

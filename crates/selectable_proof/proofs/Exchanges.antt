@@ -6,7 +6,7 @@ use Rattle.source_meaning.specs.Steps.{World}
 use Rattle.core_meaning.specs.Core.{Statement}
 use Rattle.core_meaning.specs.Selectable.{IsLocal}
 use Rattle.source_lowering.specs.Layouts.{cell_pieces}
-use Rattle.source_lowering.specs.Lowered.{Home, InBlock, InTemporary, Named, local_named}
+use Rattle.source_lowering.specs.Lowered.{Home, InBlock, Named, local_named}
 use Rattle.source_lowering.specs.Members.{words_in}
 use Rattle.source_lowering.specs.Programs.{ByName, ByPlace, Side, exchange_code, home_side, local_side, named_side, side_code, side_of, side_read}
 use Rattle.source_lowering.specs.Programs.{side_written, value_exchange, words_read, words_written}
@@ -31,7 +31,6 @@ local_side_lies blocks s out index h = h
 
 home_side_lies : (blocks : List ℕ) (s : Shape) (home : Home) → HomeLies blocks home → SideLies blocks (home_side s home)
 home_side_lies blocks s (InBlock out index) h = local_side_lies blocks s out index h
-home_side_lies blocks s (InTemporary t) h = tt
 
 pub side_lies : (blocks : List ℕ) (names : List Named) → LocalsLie blocks names → (e : Expression) → SideLies blocks (side_of names e)
 side_lies blocks names h (Expression.Variable name) = by (local_named names name.text) (local_lies blocks names name.text h)

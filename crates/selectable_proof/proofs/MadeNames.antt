@@ -1,18 +1,19 @@
 -- What stands around the code of values names unnamed values of its function: structs and unions that are copied, members, and what `new` and `rnew` make.
-use Rattle.std.proofs.Common.{ℕ, ◌+◌, ◌<◌, ◌≤◌, Bool, true, false, List, ◌++◌, length, ◌∷◌}
-use Rattle.source_meaning.specs.Shapes.{Shape, StructShape, UnionShape}
+use Rattle.std.proofs.Common.{ℕ, ◌+◌, ◌<◌, ◌≤◌, Bool, true, false, List, ◌++◌, length, ◌∷◌, arith}
+use Rattle.source_meaning.specs.Shapes.{Shape, StructShape, UnionShape, UnsignedShape}
 use Rattle.source_meaning.specs.Steps.{World}
-use Rattle.core_meaning.specs.Core.{Statement, Do, Element}
+use Rattle.core_meaning.specs.Core.{Statement, Do, Element, Put}
+use Rattle.core_meaning.specs.Selectable.{IsLocal}
 use Rattle.source_lowering.specs.Members.{words_in}
 use Rattle.source_lowering.specs.Lowered.{stores_code, values_by, copied_code, word_member_code, member_code, request_code, new_code_by, array_code}
-use Rattle.source_lowering.specs.Lowered.{element_by, next_number, union_code, conversion_code, tag_store, held_stores}
+use Rattle.source_lowering.specs.Lowered.{element_by, next_number, union_code, conversion_code, tag_store, held_stores, width_of}
 use Rattle.source_lowering.specs.Lowerable.{IsTarget, IsObject, IsWholeShape, TakesMember}
 use Rattle.source_lowering.proofs.values.Integers.{object_target}
 use Rattle.source_lowering.proofs.expressions.Names.{IsPlainWorld}
 use Rattle.source_lowering.proofs.bounds.WholeObjects.{struct_object}
 use Rattle.selectable_proof.specs.Naming.{CodeNames}
 use Rattle.selectable_proof.proofs.Naming.{both_name, all_name}
-use Rattle.selectable_proof.proofs.Layouts.{object_layout}
+use Rattle.selectable_proof.proofs.Layouts.{object_layout, variable_layout}
 use Rattle.selectable_proof.proofs.Pointers.{stores_names, given_names}
 use Rattle.selectable_proof.proofs.Parts.{conversion_names}
 use Rattle.source_meaning.specs.Conversions.{cells_of}
@@ -109,10 +110,15 @@ module _ (blocks : List ℕ) (own n : ℕ) (w : World) (plain : IsPlainWorld w) 
             (target_small w (UnionShape tag) plain (object_target w.unions w.structs (UnionShape tag) o), ((l.lies, l.full), tt))
         by of o takes room = as_a_word of o (as_word takes room)
 
-  -- the request for an array, and its elements
-  pub array_names : (s : Shape) (d : ℕ) (each : List Statement) → IsObject w.unions w.structs s → CodeNames blocks own n each
+  -- the request for an array, and its elements in the block of their index
+  pub array_names : (s : Shape) (d : ℕ) (each : List Statement) → IsObject w.unions w.structs s → CodeNames (1 ∷ blocks) own n each
       → CodeNames blocks own n (array_code w s d each)
-  array_names s d each object names = (
-    (object_layout w s plain object).lies,
-    (tt, (((tt, tt), all_name blocks own n _ (both_name blocks own n each (next_number d) names (tt, (tt, tt)))), (tt, tt))),
-  )
+  array_names s d each object names =
+      let inside : List ℕ = 1 ∷ blocks in
+      let begun : IsLocal inside 0 0 = omega arith in
+      let code : List Statement = Do (Put 0 0 (width_of UnsignedShape) (d + 2)) ∷ (each ++ next_number d) in
+      let turn : CodeNames inside own n code =
+      (begun, both_name inside own n each (next_number d) names (tt, (tt, tt))) in (
+        (object_layout w s plain object).lies,
+        ((((variable_layout w UnsignedShape plain tt).lies, tt), (tt, (begun, (((tt, tt), all_name inside own n code turn), tt)))), (tt, tt)),
+      )

@@ -1,5 +1,5 @@
 -- The code of an expression's own part names locals of the blocks around it and globals, where its names and the program's globals lie there.
-use Rattle.std.proofs.Common.{ℕ, ◌+◌, ◌%◌, ◌^◌, ◌<◌, List, [], ◌∷◌, ◌++◌, Bool, true, false, Option, Some, None}
+use Rattle.std.proofs.Common.{ℕ, ◌+◌, ◌%◌, ◌^◌, ◌<◌, List, [], ◌∷◌, ◌++◌, Bool, true, false, Option, Some, None, arith}
 use Rattle.std.specs.Prelude.{bytes_eq, codes, if◌then◌else◌}
 use Rattle.cyc_tree.specs.declared.expression.Operator.{Operator}
 use Rattle.cyc_tree.specs.declared.expression.Prefix.{Prefix}
@@ -7,7 +7,7 @@ use Rattle.cyc_tree.specs.declared.expression.Prefix.TheVariants as prefix
 use Rattle.cyc_tree.specs.declared.expression.Operator.TheVariants as operator
 use Rattle.source_meaning.specs.Shapes.{Reach, MayBeNull, NeverNull, Shape, IntShape, CharShape, ThinShape, FatShape, ArrayShape, pointee}
 use Rattle.source_meaning.specs.Memory.{IntegerType}
-use Rattle.source_meaning.specs.Steps.{Entity, Variable, Fixed, Binding, World, Routine}
+use Rattle.source_meaning.specs.Steps.{Entity, Variable, Binding, World, Routine}
 use Rattle.source_meaning.specs.Places.{bound_to}
 use Rattle.source_meaning.specs.Calls.{function_of}
 use Rattle.core_meaning.specs.Core.{Operation, Statement, Do, IsNull, SamePlace, Getchar, Putchar}
@@ -17,9 +17,12 @@ use Rattle.source_lowering.specs.Operators.{enough_code}
 use Rattle.source_lowering.specs.Lowered.{Named, local_named, number_of, get_local, load_global, stored_code, get_by, put_by, address_by, reach_code}
 use Rattle.source_lowering.specs.Lowered.{loads_code, narrow_code, to_fat_code, to_thin_code, thinned_code, conversion_code, type_of, applied_to}
 use Rattle.source_lowering.specs.Lowered.{compared_code, fat_code, operator_code, count_code, word_code, not_code, prefix_code, pointed_code, function_call}
-use Rattle.source_lowering.specs.Lowered.{call_code, Home, InBlock, InTemporary, get_home, put_home, home_address}
+use Rattle.source_lowering.specs.Lowered.{call_code, Home, InBlock, get_home, put_home, home_address}
+use Rattle.source_lowering.specs.Lowered.{element_names}
+use Rattle.source_lowering.specs.Programs.{further_out, outward}
 use Rattle.source_lowering.specs.Lowerable.{IsTarget, TakesPrefix, TakesPointer}
 use Rattle.source_lowering.proofs.expressions.Names.{AreObjectNames, IsPlainWorld}
+use Rattle.source_lowering.proofs.statements.Blocks.{objects_outward}
 use Rattle.selectable_proof.specs.Naming.{NamesIn, CodeNames}
 use Rattle.selectable_proof.proofs.Naming.{both_name, all_name}
 use Rattle.selectable_proof.proofs.Texts.{TextsLie}
@@ -29,13 +32,12 @@ use Rattle.selectable_proof.proofs.Pointers.{loads_names, stores_names, check_na
 
 abbrev pub HomeLies : List ℕ → Home → Type 0
 HomeLies blocks (InBlock out index) = IsLocal blocks out index
-HomeLies blocks (InTemporary t) = Unit {0}
 
 abbrev pub LocalLies : List ℕ → Option Named → Type 0
 LocalLies blocks None = Unit {0}
 LocalLies blocks (Some l) = HomeLies blocks l.home
 
--- each of them is a local of the blocks around, or in a temporary
+-- each of them is a local of the blocks around
 abbrev pub LocalsLie : List ℕ → List Named → Type 0
 LocalsLie blocks [] = Unit {0}
 LocalsLie blocks (l ∷ ls) = HomeLies blocks l.home × LocalsLie blocks ls
@@ -43,7 +45,6 @@ LocalsLie blocks (l ∷ ls) = HomeLies blocks l.home × LocalsLie blocks ls
 abbrev pub GlobalLies : ℕ → Option Entity → Type 0
 GlobalLies n None = Unit {0}
 GlobalLies n (Some (Variable s at)) = at.object < n
-GlobalLies n (Some (Fixed s v)) = Unit {0}
 
 -- each variable among them is one of the first objects
 abbrev pub GlobalsLie : ℕ → List Binding → Type 0
@@ -74,6 +75,37 @@ pub record Around (blocks : List ℕ) (objects : ℕ) (w : World) (names : List 
   pub words : AreObjectNames w.unions w.structs names
   pub plain : IsPlainWorld w
 
+-- ---- names further in
+
+pub outward_lie : (blocks : List ℕ) (k : ℕ) (ls : List Named) → LocalsLie blocks ls → LocalsLie (k ∷ blocks) (outward ls)
+outward_lie blocks k [] h = tt
+outward_lie blocks k (l ∷ ls) h = (by l.home h.0, outward_lie blocks k ls h.1)
+  where
+    by : (home : Home) → HomeLies blocks home → HomeLies (k ∷ blocks) (further_out home)
+    by (InBlock out index) lies = lies
+
+pub further_in : (blocks : List ℕ) (n k : ℕ) (w : World) (names : List Named) → Around blocks n w names → Around (k ∷ blocks) n w (outward names)
+further_in blocks n k w names a = record {
+  locals = outward_lie blocks k names a.locals;
+  globals = a.globals;
+  texts = a.texts;
+  words = objects_outward w.unions w.structs names a.words;
+  plain = a.plain;
+}
+
+-- the names in an array's elements, in the block of their index
+pub index_around : (blocks : List ℕ) (n : ℕ) (w : World) (names : List Named) (index : List ℕ) → Around blocks n w names
+    → Around (1 ∷ blocks) n w (element_names index names)
+index_around blocks n w names index a =
+    let out = further_in blocks n 1 w names a in
+    record {
+      locals = (omega arith, out.locals);
+      globals = out.globals;
+      texts = out.texts;
+      words = (tt, out.words);
+      plain = out.plain;
+    }
+
 -- ---- variables
 
 module _ (blocks : List ℕ) (own n : ℕ) where
@@ -95,9 +127,7 @@ module _ (blocks : List ℕ) (own n : ℕ) where
     where
       by : (home : Home) → HomeLies blocks home → CodeNames blocks own n (get_home l.shape home d)
       by (InBlock out index) lies = local_read l.shape d out index lies
-      by (InTemporary t) lies = (tt, tt)
   get_names d None (Some (Variable s at)) h g = global_read s d at.object g
-  get_names d None (Some (Fixed s v)) h g = tt
   get_names d None None h g = tt
 
   pub put_names : (d : ℕ) (l : Option Named) (e : Option Entity) → LocalLies blocks l → GlobalLies n e → CodeNames blocks own n (put_by l e d)
@@ -105,9 +135,7 @@ module _ (blocks : List ℕ) (own n : ℕ) where
     where
       by : (home : Home) → HomeLies blocks home → CodeNames blocks own n (put_home l.shape home d)
       by (InBlock out index) lies = stored_local l.shape (d + words_in l.shape) d out index lies
-      by (InTemporary t) lies = tt
   put_names d None (Some (Variable s at)) h g = (g, stores_names blocks own n s (d + words_in s) d 0 0)
-  put_names d None (Some (Fixed s v)) h g = tt
   put_names d None None h g = tt
 
   pub address_names : (d : ℕ) (l : Option Named) (e : Option Entity) → LocalLies blocks l → GlobalLies n e → CodeNames blocks own n (address_by l e d)
@@ -115,9 +143,7 @@ module _ (blocks : List ℕ) (own n : ℕ) where
     where
       by : (home : Home) → HomeLies blocks home → CodeNames blocks own n (home_address home d)
       by (InBlock out index) lies = (lies, tt)
-      by (InTemporary t) lies = tt
   address_names d None (Some (Variable s at)) h g = (g, tt)
-  address_names d None (Some (Fixed s v)) h g = tt
   address_names d None None h g = tt
 
   -- ---- conversions

@@ -10,32 +10,16 @@ use Rattle.source_meaning.specs.Steps.{World}
 use Rattle.source_meaning.specs.Places.{bound_to}
 use Rattle.core_meaning.specs.Selectable.{AreLayouts}
 use Rattle.source_lowering.specs.Members.{words_in}
-use Rattle.source_lowering.specs.Lowered.{Named, static_shape, union_parts, put_local, conversion_code, expression_values, expression_code, Home, InBlock}
-use Rattle.source_lowering.specs.Lowered.{InTemporary, local_named}
+use Rattle.source_lowering.specs.Lowered.{Named, static_shape, union_parts, put_local, conversion_code, expression_values, expression_code}
+use Rattle.source_lowering.specs.Lowered.{local_named}
 use Rattle.source_lowering.specs.Programs.{local_shape, names_behind, block_shapes, locals_of, outward, named_here, begun_code, unset_code, value_code}
 use Rattle.source_lowering.specs.Programs.{declaration_code, ending_code, leaving_code, declaration_values, statement_values, item_values, case_values}
 use Rattle.source_lowering.specs.Programs.{default_values, RegionsAround, in_loop, in_switch, regions_with, side_of, statement_code, items_code, cases_code}
-use Rattle.source_lowering.specs.Programs.{default_code, further_out, initial_values}
-use Rattle.source_lowering.specs.Lowerable.{
-  IsTarget,
-  IsObject,
-  IsVariable,
-  IsThinShape,
-  IsWordShape,
-  IsOperandShape,
-  AreObjects,
-  AreValues,
-  Takes,
-  TakesValue,
-  TakesDeclaration,
-  TakesStatement,
-  TakesItems,
-  TakesClauses,
-}
+use Rattle.source_lowering.specs.Programs.{default_code, initial_values}
+use Rattle.source_lowering.specs.Lowerable.{IsTarget, IsObject, IsVariable, IsWordShape, AreObjects, AreValues, Takes, TakesValue, TakesDeclaration, TakesStatement, TakesItems, TakesClauses}
 use Rattle.source_lowering.proofs.values.Integers.{value_object, object_target}
 use Rattle.source_lowering.proofs.expressions.Names.{IsPlainWorld}
 use Rattle.source_lowering.proofs.memory.ObjectShapes.{object_named}
-use Rattle.source_lowering.proofs.statements.Blocks.{objects_outward}
 use Rattle.source_lowering.specs.Objects.{AreVariables}
 use Rattle.source_lowering.proofs.statements.BlockVariables.{block_variables}
 use Rattle.source_lowering.proofs.statements.EachDeclaration.{shape_object}
@@ -44,7 +28,7 @@ use Rattle.source_lowering.proofs.bounds.PartCosts.{results_many}
 use Rattle.selectable_proof.specs.Naming.{CodeNames}
 use Rattle.selectable_proof.proofs.Naming.{both_name, all_name}
 use Rattle.selectable_proof.proofs.Layouts.{object_layout, variable_layout}
-use Rattle.selectable_proof.proofs.Parts.{HomeLies, LocalsLie, Around, local_lies, global_lies, stored_local, get_names, conversion_names}
+use Rattle.selectable_proof.proofs.Parts.{Around, further_in, local_lies, global_lies, stored_local, get_names, conversion_names}
 use Rattle.selectable_proof.proofs.StaticShapes.{union_values, member_value}
 use Rattle.selectable_proof.proofs.Pointers.{held_names}
 use Rattle.selectable_proof.proofs.Exchanges.{exchange_names, side_lies, side_names}
@@ -65,25 +49,6 @@ objects_are unions structs (s ∷ ss) h = (object_named unions structs s h.0, ob
 pub as_many : (w : World) (ss : List Shape) → length (locals_of w ss) ≡ length ss
 as_many w [] = refl
 as_many w (s ∷ ss) = ap suc (as_many w ss)
-
--- ---- names further in
-
-outward_lie : (blocks : List ℕ) (k : ℕ) (ls : List Named) → LocalsLie blocks ls → LocalsLie (k ∷ blocks) (outward ls)
-outward_lie blocks k [] h = tt
-outward_lie blocks k (l ∷ ls) h = (by l.home h.0, outward_lie blocks k ls h.1)
-  where
-    by : (home : Home) → HomeLies blocks home → HomeLies (k ∷ blocks) (further_out home)
-    by (InBlock out index) lies = lies
-    by (InTemporary t) lies = tt
-
-further_in : (blocks : List ℕ) (n k : ℕ) (w : World) (names : List Named) → Around blocks n w names → Around (k ∷ blocks) n w (outward names)
-further_in blocks n k w names a = record {
-  locals = outward_lie blocks k names a.locals;
-  globals = a.globals;
-  texts = a.texts;
-  words = objects_outward w.unions w.structs names a.words;
-  plain = a.plain;
-}
 
 one_more : (k : ℕ) (blocks : List ℕ) (n : ℕ) (w : World) (names : List Named) (name : List ℕ) (s : Shape) (index : ℕ) → index < k
     → IsVariable w.unions w.structs s
@@ -120,7 +85,7 @@ value_names k blocks own n w names s e d index next plain a object takes h f = b
     word : (of : Shape) → IsObject w.unions w.structs of → Takes w names e → next + length (expression_values w names e) ≤ own → CodeNames (k ∷ blocks) own n
         (expression_code w names e d next ++ (conversion_code w of (static_shape w names e) d ++ put_local of d 0 index))
     word of o takes f =
-        both_name (k ∷ blocks) own n _ _ (expression_names (k ∷ blocks) own n w plain names a e d next takes f)
+        both_name (k ∷ blocks) own n _ _ (expression_names own n w plain names a e d next takes f)
         (both_name (k ∷ blocks) own n _ _
         (conversion_names (k ∷ blocks) own n w plain of (static_shape w names e) d (object_target w.unions w.structs of o))
         (stored_local (k ∷ blocks) own n of (d + words_in of) d 0 index h))
@@ -210,21 +175,21 @@ mutual
       let many = length-append (expression_values w names left) (expression_values w names right) in
       let x = side_of names left in
       let y = side_of names right in
-      both_name blocks own n _ _ (side_names blocks own n x _ (place_names blocks own n w plain names a left r.all next h.0 (omega (arith, f, many))))
+      both_name blocks own n _ _ (side_names blocks own n x _ (place_names own n w plain names a left r.all next h.0 (omega (arith, f, many))))
       (both_name blocks own n _ _
       (side_names blocks own n y _
-      (place_names blocks own n w plain names a right (r.all + 1) (next + length (expression_values w names left)) h.1.0 (omega (arith, f, many))))
+      (place_names own n w plain names a right (r.all + 1) (next + length (expression_values w names left)) h.1.0 (omega (arith, f, many))))
       (exchange_names blocks own n w x y (static_shape w names left) r.all (side_lies blocks names a.locals left) (side_lies blocks names a.locals right)))
   statement_names blocks own n w result names plain a t r (Statement.If at condition body) next h f =
       let tested = length (expression_values w names condition) in
       let many = length-append (expression_values w names condition) (statement_values w names body) in
-      both_name blocks own n _ _ (expression_names blocks own n w plain names a condition r.all next h.0 (omega (arith, f, many)))
+      both_name blocks own n _ _ (expression_names own n w plain names a condition r.all next h.0 (omega (arith, f, many)))
       ((all_name blocks own n _ (statement_names blocks own n w result names plain a t r body (next + tested) h.1 (omega (arith, f, many))), tt), tt)
   statement_names blocks own n w result names plain a t r (Statement.IfElse at condition body otherwise) next h f =
       let first = next + length (expression_values w names condition) in
       let both = length-append (statement_values w names body) (statement_values w names otherwise) in
       let many = length-append (expression_values w names condition) (statement_values w names body ++ statement_values w names otherwise) in
-      both_name blocks own n _ _ (expression_names blocks own n w plain names a condition r.all next h.0 (omega (arith, f, many))) (
+      both_name blocks own n _ _ (expression_names own n w plain names a condition r.all next h.0 (omega (arith, f, many))) (
         (
           all_name blocks own n _ (statement_names blocks own n w result names plain a t r body first h.1.0 (omega (arith, f, many, both))),
           all_name blocks own n _ (statement_names blocks own n w result names plain a t r otherwise (first + length (statement_values w names body)) h.1.1
@@ -236,7 +201,7 @@ mutual
       let tested = length (expression_values w names condition) in
       let many = length-append (expression_values w names condition) (statement_values w names body) in (
         (
-          all_name blocks own n _ (expression_names blocks own n w plain names a condition r.all next h.0 (omega (arith, f, many))),
+          all_name blocks own n _ (expression_names own n w plain names a condition r.all next h.0 (omega (arith, f, many))),
           all_name blocks own n _ (statement_names blocks own n w result names plain a t (in_loop r) body (next + tested) h.1 (omega (arith, f, many))),
         ),
         tt,
@@ -248,7 +213,7 @@ mutual
       let both = length-append cases (default_values w names clauses) in
       let many = length-append (expression_values w names place) (cases ++ default_values w names clauses) in (
         all_name blocks own n _
-            (both_name blocks own n _ _ (place_names blocks own n w plain names a place r.all next h.0 (omega (arith, f, many))) (
+            (both_name blocks own n _ _ (place_names own n w plain names a place r.all next h.0 (omega (arith, f, many))) (
               tt,
               both_name blocks own n _ _
                   (cases_names blocks own n w result names plain a t (in_switch r) parts (union_values w (static_shape w names place) plain h.1.0) first clauses
@@ -265,7 +230,7 @@ mutual
       both_name blocks own n _ _ (leaving_names blocks own n r.opened r.all r.all) (omega arith, tt)
   statement_names blocks own n w result names plain a t r (Statement.Return at (Some e)) next h f =
       let few = results_many result r.all in
-      both_name blocks own n _ _ (expression_names blocks own n w plain names a e r.all next h f)
+      both_name blocks own n _ _ (expression_names own n w plain names a e r.all next h f)
       (both_name blocks own n _ _ (conversion_names blocks own n w plain result (static_shape w names e) r.all t)
       (both_name blocks own n _ _ (leaving_names blocks own n r.opened r.all r.all) (omega (arith, few), tt)))
   statement_names blocks own n w result names plain a t r (Statement.FreeUnique at pointer) next h f =

@@ -36,7 +36,7 @@ use Rattle.source_meaning.specs.Expressions.{is_unique_region}
 use Rattle.source_meaning.specs.Programs.{integer_shape}
 use Rattle.source_lowering.specs.Layouts.{extent_of}
 use Rattle.source_lowering.specs.Lowered.{Named, local_named, entity_shape, shape_by, named_shape, valued, member_shape, suffixed_shape, result_shape}
-use Rattle.source_lowering.specs.Lowered.{call_shape, static_shape, owner_in, new_shape, linked_shape, number_named, union_parts}
+use Rattle.source_lowering.specs.Lowered.{call_shape, static_shape, owner_in, new_shape, linked_shape, element_names, union_parts}
 use Rattle.source_lowering.specs.Lowerable.{IsTarget, IsValueShape, IsVariable, IsUnionShape, AreValues, IsMember, Takes, TakesPlace, TakesSuffixes}
 use Rattle.source_lowering.specs.Lowerable.{TakesMembers, TakesLinks, TakesNew}
 use Rattle.source_meaning.proofs.Layouts.{no_parts}
@@ -163,7 +163,7 @@ module _ (w : World) (names : List Named) (plain : IsPlainWorld w) (words : AreO
 
   new_taken : (owner : Owner) (new : Made) → TakesNew w names new → IsTaken (new_shape w names owner new)
   new_taken owner (One value) h = object_target w.unions w.structs (static_shape w names value) h.0
-  new_taken owner (Array index count element) h = object_target w.unions w.structs (static_shape w (number_named index.text 0 ∷ names) element) (h.1 0).0
+  new_taken owner (Array index count element) h = object_target w.unions w.structs (static_shape w (element_names index.text names) element) h.1.0
 
   mutual
     pub place_target : (e : Expression) → TakesPlace w names e → IsTarget (static_shape w names e)

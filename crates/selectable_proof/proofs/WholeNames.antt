@@ -27,8 +27,8 @@ module _ (blocks : List ℕ) (own n : ℕ) (w : World) (names : List Named) (pla
     where
       by : (made : Bool) → is_made w e ≡ made → next + length (if made then whole_values w names e else expression_values w names e) ≤ own
           → CodeNames blocks own n (source_code w names made e d next)
-      by true is f = whole_names blocks own n w plain names around e d next h f
-      by false is f = place_names blocks own n w plain names around e d next (unmade_place w names e h is) f
+      by true is f = whole_names own n w plain names around e d next h f
+      by false is f = place_names own n w plain names around e d next (unmade_place w names e h is) f
 
   -- ---- expressions that are statements
 
@@ -37,22 +37,22 @@ module _ (blocks : List ℕ) (own n : ℕ) (w : World) (names : List Named) (pla
   assigned_names (StructShape tag) place value d next h f =
       let l = object_layout w (StructShape tag) plain h.1.1 in
       let many = length-append (whole_values w names value) (expression_values w names place) in
-      both_name blocks own n _ _ (whole_names blocks own n w plain names around value d next h.1.0 (omega (arith, f, many)))
-      (both_name blocks own n _ _ (place_names blocks own n w plain names around place (d + 1) (next + length (whole_values w names value)) h.0
+      both_name blocks own n _ _ (whole_names own n w plain names around value d next h.1.0 (omega (arith, f, many)))
+      (both_name blocks own n _ _ (place_names own n w plain names around place (d + 1) (next + length (whole_values w names value)) h.0
       (omega (arith, f, many))) ((l.lies, l.full), tt))
   assigned_names (UnionShape tag) place value d next h f =
       let l = object_layout w (UnionShape tag) plain h.1.1 in
       let many = length-append (whole_values w names value) (expression_values w names place) in
-      both_name blocks own n _ _ (whole_names blocks own n w plain names around value d next h.1.0 (omega (arith, f, many)))
-      (both_name blocks own n _ _ (place_names blocks own n w plain names around place (d + 1) (next + length (whole_values w names value)) h.0
+      both_name blocks own n _ _ (whole_names own n w plain names around value d next h.1.0 (omega (arith, f, many)))
+      (both_name blocks own n _ _ (place_names own n w plain names around place (d + 1) (next + length (whole_values w names value)) h.0
       (omega (arith, f, many))) ((l.lies, l.full), tt))
-  assigned_names _ place value d next h f = assign_names blocks own n w plain names around place value d next h.0 h.1.0 f
+  assigned_names _ place value d next h f = assign_names own n w plain names around place value d next h.0 h.1.0 f
 
   dropped_names : (s : Shape) (e : Expression) (d next : ℕ) → TakesDropped w names s e → next + length (dropped_values w names s e) ≤ own
       → CodeNames blocks own n (dropped_code w names s e d next)
-  dropped_names (StructShape tag) e d next h f = whole_names blocks own n w plain names around e d next h f
-  dropped_names (UnionShape tag) e d next h f = whole_names blocks own n w plain names around e d next h f
-  dropped_names _ e d next h f = expression_names blocks own n w plain names around e d next h f
+  dropped_names (StructShape tag) e d next h f = whole_names own n w plain names around e d next h f
+  dropped_names (UnionShape tag) e d next h f = whole_names own n w plain names around e d next h f
+  dropped_names _ e d next h f = expression_names own n w plain names around e d next h f
 
   pub run_names : (e : Expression) (d next : ℕ) → TakesRun w names e → next + length (run_values w names e) ≤ own
       → CodeNames blocks own n (run_code w names e d next)
@@ -66,6 +66,6 @@ module _ (blocks : List ℕ) (own n : ℕ) (w : World) (names : List Named) (pla
       by : (made : Bool) → TakesCalled made (TakesWhole w names e) (Takes w names e)
           → next + length (if made then whole_values w names e else expression_values w names e) ≤ own
           → CodeNames blocks own n (if made then whole_code w names e d next else expression_code w names e d next)
-      by true h f = whole_names blocks own n w plain names around e d next h f
-      by false h f = expression_names blocks own n w plain names around e d next h f
+      by true h f = whole_names own n w plain names around e d next h f
+      by false h f = expression_names own n w plain names around e d next h f
   run_names e d next h f = dropped_names (static_shape w names e) e d next h f

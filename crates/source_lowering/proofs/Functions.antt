@@ -171,7 +171,7 @@ entered_same w fs n number f vss m c c0 s k plain calls numbered routine agree s
     vss routine.parameters routine.body values_numbered
     (omega arith) (record { world = plain; locals = tt; words = tt }) routine.result calls (omega arith) (omega arith) (omega arith) refl
     (source_in m) inside (next_out (left_by f s) m.activations) NoStatements (after_out (ended f number c.calls k) c0)
-    (entered_fits w fs [] [] [] shapes m c0 c.calls (routine_values w f) 0 no_regions agree blocks has tt tt statics)
+    (entered_fits w fs [] [] [] shapes m c0 c.calls (routine_values w f) 0 no_regions agree blocks has tt statics)
     (given_later nothing w m (source_in m) c0.memory inside.memory (part_shapes f.parameters) vss 0 c0.temps
     (entered_later nothing w m c0.memory (locals_of w shapes) agree) given)
     (ways_out w fs n no_regions inside_bound shapes m c0 f.result (left_by f s) (ended f number c.calls k) agree (omega arith) (record {

@@ -1,5 +1,4 @@
 pub mod Nodes
-pub mod Taken
 pub mod LocalWords
 pub mod Costs
 pub mod Counted

@@ -34,7 +34,6 @@ pub mod Asking
 pub mod StoredRequests
 pub mod Requests
 pub mod UnionMembers
-pub mod Homes
 pub mod MadeElements
 pub mod MadeLoops
 pub mod MadeArrays

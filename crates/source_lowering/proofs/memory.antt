@@ -1,7 +1,6 @@
 pub mod StructCells
 pub mod LayoutsKept
 pub mod Lasting
-pub mod Held
 pub mod Keeping
 pub mod CellParts
 pub mod ObjectShapes

@@ -36,7 +36,7 @@ use Rattle.source_meaning.specs.Operators.{operator_shape}
 use Rattle.source_meaning.specs.Expressions.{is_unique_region}
 use Rattle.source_lowering.specs.Layouts.{extent_of}
 use Rattle.source_lowering.specs.Members.{all_words, member_shape}
-use Rattle.source_lowering.specs.Pieces.{Named, number_named, call_shape, prefix_shape, owner_in, new_shape, static_shape, union_parts}
+use Rattle.source_lowering.specs.Pieces.{Named, element_names, call_shape, prefix_shape, owner_in, new_shape, static_shape, union_parts}
 use Rattle.source_lowering.specs.Programs.{RegionsAround, no_regions, in_loop, in_switch, regions_with, local_shape, named_here, names_behind, function_code, outward, parameter_names}
 use Rattle.core_meaning.specs.Bounds.{words_of, core_bound}
 
@@ -83,10 +83,10 @@ abbrev mutual
       node w (new_shape w names (owner_in (is_unique_region handle)) new) + (frame_nodes w names handle + made_nodes w names new)
   frame_nodes w names e = node w (static_shape w names e)
 
-  -- the name of an element's number counts as one word
+  -- the index counts as one word
   pub made_nodes : World → List Named → Made → ℕ
   made_nodes w names (One value) = frame_nodes w names value
-  made_nodes w names (Array index count element) = 1 + (frame_nodes w names count + frame_nodes w (number_named index.text 0 ∷ names) element)
+  made_nodes w names (Array index count element) = 1 + (frame_nodes w names count + frame_nodes w (element_names index.text names) element)
 
   pub argument_nodes : World → List Named → Expressions → ℕ
   argument_nodes w names NoExpressions = 0

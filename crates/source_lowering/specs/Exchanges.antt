@@ -6,7 +6,7 @@ use Rattle.source_meaning.specs.Steps.{World}
 use Rattle.core_meaning.specs.Core.{Do, Get, Load, Move, Put, Statement, Store}
 use Rattle.source_lowering.specs.Layouts.{cell_pieces}
 use Rattle.source_lowering.specs.Members.{loads_code, part_at, stores_code, width_of, words_in}
-use Rattle.source_lowering.specs.Naming.{Home, InBlock, InTemporary, Named, local_named}
+use Rattle.source_lowering.specs.Naming.{Home, InBlock, Named, local_named}
 
 -- ---- sides
 
@@ -26,7 +26,6 @@ local_side s out index = ByName out index (width_of s)
 
 abbrev pub home_side : Shape → Home → Side
 home_side s (InBlock out index) = local_side s out index
-home_side s (InTemporary t) = ByPlace
 
 abbrev pub named_side : Option Named → Side
 named_side (Some l) = home_side l.shape l.home

@@ -43,7 +43,7 @@ use Rattle.source_meaning.specs.Shapes.{UnionShape, Part, part_position, part_sh
 use Rattle.source_meaning.specs.Steps.{World, Routine}
 use Rattle.source_meaning.specs.Programs.{is_main, routine_of, world_of}
 use Rattle.source_meaning.specs.Strings.{Literal, program_strings}
-use Rattle.source_lowering.specs.Lowered.{Named, number_named, static_shape, member_shape, suffixed_shape, union_parts}
+use Rattle.source_lowering.specs.Lowered.{Named, element_names, static_shape, member_shape, suffixed_shape, union_parts}
 use Rattle.source_lowering.specs.Programs.{object_shape, named_here, names_behind, outward, parameter_names}
 use Rattle.source_lowering.specs.Whole.{makes_struct}
 use Rattle.source_lowering.specs.Taken.{IsVoidType, IsIntType, TakesConstant}
@@ -167,15 +167,14 @@ abbrev mutual
   TakesLinks w names NoLinks = Unit {0}
   TakesLinks w names (MoreLinks operator operand others) = Takes w names operand × TakesLinks w names others
 
-  -- An object is made: a struct, a union, a word or a fat pointer; or an array of them, whichever temporary has the number of the element.
+  -- An object is made: a struct, a union, a word or a fat pointer; or an array of them.
   pub TakesNew : World → List Named → Made → Type 0
   TakesNew w names (One value) =
       IsObject w.unions w.structs (static_shape w names value) ×
       TakesMember (static_shape w names value) (TakesWhole w names value) (Takes w names value)
   TakesNew w names (Array index count element) =
       Takes w names count ×
-      ((t : ℕ) →
-      let inner = number_named index.text t ∷ names in
+      (let inner = element_names index.text names in
       IsObject w.unions w.structs (static_shape w inner element) ×
       TakesMember (static_shape w inner element) (TakesWhole w inner element) (Takes w inner element))
 

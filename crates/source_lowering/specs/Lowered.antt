@@ -4,16 +4,16 @@
 use Rattle.std.specs.Prelude.{ℕ, suc, ◌+◌, ◌%◌, Bool, true, false, List, [], ◌∷◌, ◌++◌, length}
 use Rattle.cyc_tree.specs.Tree.{Expression, Expressions, NoExpressions, MoreExpressions, Links, NoLinks, MoreLinks, Suffixes, NoSuffixes, Index, Dot, Arrow}
 use Rattle.cyc_tree.specs.Tree.{Made, One, Array}
-use Rattle.source_meaning.specs.Shapes.{Shape, StructShape, UnionShape, Part, parts_of, part_shape}
+use Rattle.source_meaning.specs.Shapes.{Shape, UnsignedShape, StructShape, UnionShape, Part, parts_of, part_shape}
 use Rattle.source_meaning.specs.Sizes.{rounded_up}
 use Rattle.source_meaning.specs.Steps.{World}
 use Rattle.source_meaning.specs.Operators.{operator_shape}
 use Rattle.source_meaning.specs.Places.{bound_to, string_at}
 use Rattle.source_meaning.specs.Conversions.{cells_of}
 use Rattle.source_meaning.specs.Expressions.{is_unique_region}
-use Rattle.core_meaning.specs.Core.{Add, Apply, Constant, Copy, Do, Element, HeapHandle, If, LessUnsigned, NoStatements, NullPointer, Offset, OwnAddress}
-use Rattle.core_meaning.specs.Core.{RegionAlloc, Statement, UniqueAlloc, While}
-use Rattle.source_lowering.specs.Layouts.{extent_of, layout_of}
+use Rattle.core_meaning.specs.Core.{Add, Apply, Block, Constant, Copy, Do, Element, HeapHandle, If, LessUnsigned, NoStatements, NullPointer, Offset, OwnAddress}
+use Rattle.core_meaning.specs.Core.{Put, RegionAlloc, Statement, UniqueAlloc, While}
+use Rattle.source_lowering.specs.Layouts.{extent_of, layout_of, local_of}
 use Rattle.source_lowering.specs.Members.{words_in}
 pub use Rattle.source_lowering.specs.Pieces.{
   put,
@@ -42,9 +42,8 @@ pub use Rattle.source_lowering.specs.Pieces.{
   store_to,
   Home,
   InBlock,
-  InTemporary,
   Named,
-  number_named,
+  element_names,
   local_named,
   number_of,
   entity_shape,
@@ -148,7 +147,7 @@ abbrev mutual
   pub new_values : World → List Named → Made → List Shape
   new_values w names (One value) = values_by (static_shape w names value) (whole_values w names value) (expression_values w names value)
   new_values w names (Array index count element) =
-      let inner = number_named index.text 0 ∷ names in
+      let inner = element_names index.text names in
       expression_values w names count ++ values_by (static_shape w inner element) (whole_values w inner element) (expression_values w inner element)
 
   -- of a struct or a tagged union: its own, and then those of its parts, or of the place that it is read from
@@ -217,14 +216,21 @@ element_by w s d whole word =
 abbrev pub next_number : ℕ → List Statement
 next_number d = Do (Constant (d + 3) 1) ∷ Do (Apply Add (d + 2) (d + 2) (d + 3)) ∷ []
 
--- each element in its turn, by its number; the index is 0 behind them
+-- each element in its turn, by its number, which the index gets first
 abbrev pub elements_code : ℕ → (each : List Statement) → List Statement
 elements_code d each =
-    While (all_of (Do (Apply LessUnsigned (d + 3) (d + 2) (d + 1)) ∷ [])) (d + 3) (all_of (each ++ next_number d)) ∷ Do (Constant (d + 2) 0) ∷ []
+    While (all_of (Do (Apply LessUnsigned (d + 3) (d + 2) (d + 1)) ∷ [])) (d + 3)
+    (all_of (Do (Put 0 0 (width_of UnsignedShape) (d + 2)) ∷ (each ++ next_number d))) ∷ []
 
--- A block for so many objects as the next temporary says is asked for in the region of the handle in this one, which gets a pointer to it.
+-- The index begins with 0, and then come the elements, in a block of which it is the one local.
+abbrev pub indexed_code : World → ℕ → (each : List Statement) → List Statement
+indexed_code w d each =
+    Block (local_of w UnsignedShape ∷ []) (all_of (Do (Constant (d + 2) 0) ∷ Do (Put 0 0 (width_of UnsignedShape) (d + 2)) ∷ elements_code d each)) ∷ []
+
+-- A block for so many objects as the next temporary says is asked for in the region of the handle in this one, which gets a pointer to it. The index of that
+-- pointer is 0 behind the elements.
 abbrev pub array_code : World → Shape → ℕ → (each : List Statement) → List Statement
-array_code w s d each = Do (RegionAlloc d d (d + 1) (layout_of w s)) ∷ Do (Constant (d + 2) 0) ∷ elements_code d each
+array_code w s d each = Do (RegionAlloc d d (d + 1) (layout_of w s)) ∷ (indexed_code w d each ++ (Do (Constant (d + 2) 0) ∷ []))
 
 -- A tagged union to which this temporary points holds the member of a number and a shape then: its value, of another shape as yet, is in the next temporaries,
 -- and is converted, and the tag is set by way of the one behind them.
@@ -344,7 +350,7 @@ abbrev mutual
   new_code w names unique (One value) d own =
       new_code_by w unique (static_shape w names value) d (whole_code w names value (d + 1) own) (expression_code w names value (d + 1) own)
   new_code w names unique (Array index count element) d own =
-      let inner = number_named index.text (d + 2) ∷ names in
+      let inner = element_names index.text names in
       let first = own + length (expression_values w names count) in
       expression_code w names count (d + 1) own ++
       array_code w (static_shape w inner element) d

@@ -22,13 +22,13 @@ use Rattle.source_meaning.specs.Shapes.{
 }
 use Rattle.source_meaning.specs.Shapes.{MayBeNull, NeverNull, Part, has_tag, parts_of, part_position, pointee, part_shapes}
 use Rattle.source_meaning.specs.Memory.{Scalar, Wide}
-use Rattle.source_meaning.specs.Steps.{Entity, Variable, Fixed, Routine, World}
+use Rattle.source_meaning.specs.Steps.{Entity, Variable, Routine, World}
 use Rattle.source_meaning.specs.Operators.{operator_shape}
 use Rattle.source_meaning.specs.Places.{bound_to}
 use Rattle.source_meaning.specs.Calls.{number_type, function_of}
 use Rattle.source_meaning.specs.Programs.{integer_shape}
 use Rattle.source_meaning.specs.Expressions.{is_unique_region}
-pub use Rattle.source_lowering.specs.Naming.{Home, InBlock, InTemporary, Named, number_named, local_named}
+pub use Rattle.source_lowering.specs.Naming.{Home, InBlock, Named, element_names, local_named}
 pub use Rattle.source_lowering.specs.Members.{
   put,
   all_of,
@@ -60,7 +60,7 @@ pub use Rattle.source_lowering.specs.Members.{
   pointer_to,
   store_to,
 }
-use Rattle.core_meaning.specs.Core.{Constant, Move, LocalAddress, DataAddress, Get, Put, Getchar, Putchar, Statement, Do, Call}
+use Rattle.core_meaning.specs.Core.{Constant, LocalAddress, DataAddress, Get, Put, Getchar, Putchar, Statement, Do, Call}
 pub use Rattle.source_lowering.specs.Operators.{
   narrow_code,
   to_fat_code,
@@ -95,7 +95,6 @@ number_of (f ∷ fs) name = (if bytes_eq f.name name then 0 else suc (number_of 
 abbrev pub entity_shape : Option Entity → Shape
 entity_shape None = VoidShape
 entity_shape (Some (Variable s at)) = s
-entity_shape (Some (Fixed s v)) = s
 
 abbrev pub shape_by : Option Named → Option Entity → Shape
 shape_by (Some l) global = l.shape
@@ -165,7 +164,7 @@ abbrev mutual
   -- a thin pointer to the one object that is made, and a fat one to the first of an array
   pub new_shape : World → List Named → Owner → Made → Shape
   new_shape w names owner (One value) = ThinShape (NeverNull 1) owner (static_shape w names value)
-  new_shape w names owner (Array index count element) = FatShape (static_shape w (number_named index.text 0 ∷ names) element)
+  new_shape w names owner (Array index count element) = FatShape (static_shape w (element_names index.text names) element)
 
   -- that of a chain, from what is on its left
   pub linked_shape : World → List Named → Links → Shape → Shape
@@ -209,13 +208,11 @@ store_global s d object = Do (DataAddress (d + words_in s) object) ∷ stores_co
 
 abbrev pub get_global : Option Entity → ℕ → List Statement
 get_global (Some (Variable s at)) d = load_global s d at.object
-get_global (Some (Fixed s v)) d = []
 get_global None d = []
 
 -- what a name stands for is read
 abbrev pub get_home : Shape → Home → ℕ → List Statement
 get_home s (InBlock out index) d = get_local s d out index
-get_home s (InTemporary t) d = Do (Move d t) ∷ []
 
 abbrev pub get_by : Option Named → Option Entity → ℕ → List Statement
 get_by (Some l) global d = get_home l.shape l.home d
@@ -227,13 +224,10 @@ get_code w names name d = get_by (local_named names name) (bound_to w.globals na
 
 abbrev pub put_global : Option Entity → ℕ → List Statement
 put_global (Some (Variable s at)) d = store_global s d at.object
-put_global (Some (Fixed s v)) d = []
 put_global None d = []
 
--- the number of an element is never assigned to, and has no place
 abbrev pub put_home : Shape → Home → ℕ → List Statement
 put_home s (InBlock out index) d = put_local s d out index
-put_home s (InTemporary t) d = []
 
 abbrev pub put_by : Option Named → Option Entity → ℕ → List Statement
 put_by (Some l) global d = put_home l.shape l.home d
@@ -243,12 +237,10 @@ put_by None global d = put_global global d
 
 abbrev pub global_address : Option Entity → ℕ → List Statement
 global_address (Some (Variable s at)) d = Do (DataAddress d at.object) ∷ []
-global_address (Some (Fixed s v)) d = []
 global_address None d = []
 
 abbrev pub home_address : Home → ℕ → List Statement
 home_address (InBlock out index) d = Do (LocalAddress d out index) ∷ []
-home_address (InTemporary t) d = []
 
 -- a pointer to a variable
 abbrev pub address_by : Option Named → Option Entity → ℕ → List Statement

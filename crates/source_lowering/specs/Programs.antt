@@ -40,14 +40,12 @@ use Rattle.core_meaning.specs.Core.{
   KeyFree,
 }
 use Rattle.source_lowering.specs.Layouts.{layout_of, local_of}
+pub use Rattle.source_lowering.specs.Naming.{named_here, further_out, one_out, outward}
 use Rattle.source_lowering.specs.Order.{locals_order}
 use Rattle.source_lowering.specs.Members.{words_in, all_words}
 use Rattle.source_lowering.specs.Whole.{expression_values, is_made, run_code, run_values, whole_code, whole_values}
 use Rattle.source_lowering.specs.Lowered.{
   Named,
-  Home,
-  InBlock,
-  InTemporary,
   get_code,
   number_of,
   static_shape,
@@ -112,10 +110,6 @@ local_shape w names (tree.Open at region handle key) = HandleShape
 local_shape w names (tree.Alias at region of alias pointer) = settled_by (written of) (static_shape w names (Expression.Variable pointer))
 local_shape w names (tree.NewKey at region key) = KeyShape
 
--- a local of this block
-abbrev pub named_here : List ℕ → Shape → ℕ → Named
-named_here name shape index = record { name = name; shape = shape; home = InBlock 0 index }
-
 -- the names behind a declaration, whose local has this number
 abbrev pub names_behind : World → List Named → ℕ → Declaration → List Named
 names_behind w names index d = named_here (tree.local_of d).text (local_shape w names d) index ∷ names
@@ -128,17 +122,6 @@ block_shapes w names index (Execute s others) = block_shapes w names index other
 
 abbrev pub locals_of : World → List Shape → List Local
 locals_of w shapes = map (local_of w) shapes
-
--- a block further in, each local is a block further out
-abbrev pub further_out : Home → Home
-further_out (InBlock out index) = InBlock (suc out) index
-further_out (InTemporary t) = InTemporary t
-
-abbrev pub one_out : Named → Named
-one_out l = record l { home = further_out l.home }
-
-abbrev pub outward : List Named → List Named
-outward names = map one_out names
 
 -- ---- declarations: the local of a number gets what it begins with, or its initializer's value, which comes into the first free temporaries
 

@@ -7,7 +7,7 @@ use Rattle.source_meaning.specs.Shapes.{Shape, CharShape, VoidShape, FatShape}
 use Rattle.source_meaning.specs.Memory as source
 use Rattle.source_meaning.specs.Memory.{Scalar}
 use Rattle.source_meaning.specs.Steps as steps
-use Rattle.source_meaning.specs.Steps.{Entity, World, Binding, Variable, Fixed}
+use Rattle.source_meaning.specs.Steps.{Entity, World, Binding, Variable}
 use Rattle.source_meaning.specs.Places.{span_at}
 use Rattle.source_meaning.specs.Programs.{source_bodies, heap_spot}
 use Rattle.core_meaning.specs.Memory as core
@@ -19,7 +19,7 @@ use Rattle.core_meaning.specs.Meaning as meaning
 use Rattle.source_lowering.specs.Lowered.{Named, put}
 use Rattle.source_lowering.specs.Programs.{RegionsAround}
 pub use Rattle.source_lowering.specs.Kinds.{IsLexical, IsSingle, IsDynamic, StaysAs}
-pub use Rattle.source_lowering.specs.InScope.{IsVariableAt, IsNumber, StandsFor, IsLocal, AreLocals, HoldsNumber, IsHeld, AreHeld}
+pub use Rattle.source_lowering.specs.InScope.{IsVariableAt, StandsFor, IsLocal, AreLocals}
 pub use Rattle.source_lowering.specs.Memories.{
   first_in,
   region_at,
@@ -62,7 +62,6 @@ pub use Rattle.source_lowering.specs.Memories.{
 
 abbrev pub IsLed : World → source.Memory → core.Memory → Entity → Type 0
 IsLed w m c (Variable shape s) = VariableLeads w m c shape s
-IsLed w m c (Fixed shape v) = Unit {0}
 
 -- the variables lie where their names say
 abbrev pub AreLed : World → source.Memory → core.Memory → List Binding → Type 0
@@ -116,7 +115,6 @@ pub record SameState (p : Point) (m : source.Memory) (c : Config) : Type 0 where
   pub agree : SameMemory p.world m c.memory
   pub blocks : c.blocks ≡ p.frame ∷ p.outer
   pub locals : AreLed p.world m c.memory p.locals
-  pub held : AreHeld p.regions.all c.temps p.locals p.names
   pub statics : HasStatics p.world m c.memory
   pub begun : p.frame < m.activations
   pub made : m.objects (source.Frame p.frame) ≡ p.made

@@ -9,14 +9,15 @@ use Rattle.cyc_words.specs.declared.faults.Kind.{Kind}
 use Rattle.cyc_words.specs.Events.{ByteRead, ByteWritten, SourceEvent, Visible}
 use Rattle.step_trees.specs.Trees.{Calls, Turns, Stops, Says, Reads, Pays}
 use Rattle.source_meaning.specs.Shapes.{parts_of, Reach, MayBeNull, NeverNull, bound_in, Owner, Shared, Alone, Shape, IntShape, UnsignedShape, CharShape, ThinShape, FatShape, ArrayShape, part_shape, part_shapes, pointee, has_tag, same_shape}
-use Rattle.source_meaning.specs.Memory.{Region, Born, Spot, Span, Scalar, IntegerType, AsInt, AsUnsigned, AsChar, Integer, Thin, Wide, HandleOf, Content, Holds, Blank, Gone, Lent, Object, Live, Memory, beyond, any_moved, cell_at, is_live, is_of, with_state}
-use Rattle.source_meaning.specs.Steps.{Entity, Variable, Fixed, Routine, World, Step, Act, give, ◌>>=◌, ◌>>◌, stuck, raise, need, check, choose}
+use Rattle.source_meaning.specs.Memory.{Region, Frame, Born, Spot, Span, Scalar, IntegerType, AsInt, AsUnsigned, AsChar, Integer, Thin, Wide, HandleOf, Content, Holds, Blank, Gone, Lent, Object, State, Live, Dead, Memory, beyond, any_moved, cell_at, is_live, is_of, with_state}
+use Rattle.source_meaning.specs.Steps.{Entity, Variable, Routine, World, Step, Act, give, ◌>>=◌, ◌>>◌, stuck, raise, need, check, choose, finally}
 use Rattle.source_meaning.specs.Operators.{operated, is_true}
 use Rattle.source_meaning.specs.Conversions.{cells_of, element, elements_from, thin_to_thin, fat_to_thin, thin_leads, fat_leads, converted_scalar, converted, one, integer, accessed}
 use Rattle.source_meaning.specs.Values.{value_held, read_cell, read_cells, put_content, write_cell, write_cells, put_contents, take_cells, is_lent}
-use Rattle.source_meaning.specs.Making.{Maker, AsUnique, InRegion, maker_of, ask, make_object}
-use Rattle.source_meaning.specs.Places.{Sense, value_sense, place_sense, no_sense, entity_sense, contents, indexed_span, indexed, member, address_of, given_by, assigned}
-use Rattle.source_meaning.specs.Calls.{constant, applied, truth, all_true, any_true, tested, inverted, prefixed, elements_left, counted, converted_all, flat, function_of, called, read_byte, write_byte, struct_made, call_sense, union_made, made, elements, array_made, handle_maker, made_in}
+use Rattle.source_meaning.specs.Making.{Maker, AsUnique, InRegion, maker_of, ask, make_object, set_state}
+use Rattle.source_meaning.specs.Places.{Sense, value_sense, place_sense, no_sense, span_at, entity_sense, contents, indexed_span, indexed, member, address_of, given_by, assigned}
+use Rattle.source_meaning.specs.Calls.{constant, applied, truth, all_true, any_true, tested, inverted, prefixed, elements_left, counted, converted_all, flat, function_of, called, read_byte, write_byte, struct_made, call_sense, union_made, made, index_in, index_made, elements, array_made, handle_maker, made_in}
+use Rattle.source_meaning.specs.Regions.{in_region, enter_block, in_block}
 
 -- an event that is no byte
 abbrev pub IsSilent : SourceEvent → Type 0
@@ -202,7 +203,6 @@ if_sense_quiet false first second x y = y
 
 pub entity_quiet : (w : World) (e : Option Entity) → IsQuietSense (entity_sense w e)
 entity_quiet w None = no_sense_quiet
-entity_quiet w (Some (Fixed s v)) = value_is_quiet s _ (give_quiet _)
 entity_quiet w (Some (Variable (ArrayShape count of) at)) = value_is_quiet _ _ (give_quiet _)
 entity_quiet w (Some (Variable s at)) = place_is_quiet w s (give at) (give_quiet at)
 
@@ -343,15 +343,36 @@ made_quiet w to owner e x y = value_is_quiet _ _ (record {
   go = λ next m h. x.go _ m (λ place m1. y.value.go _ m1 (λ vs m2. (ask_quiet place _ _).go _ m2 (λ s m3. (write_cells_quiet s vs).go _ m3 (λ a m4. h _ m4))));
 })
 
-elements_quiet : (cells n i : ℕ) (s : Spot) (element_at : ℕ → Sense) → Quiet (elements cells n i s element_at)
-elements_quiet cells zero i s element_at = give_quiet tt
-elements_quiet cells (suc n) i s element_at = record { go = λ next m h. tt }
+pub state_quiet : (r : Region) (state : State) → Quiet (set_state r state)
+state_quiet r state = record { go = λ next m h. h tt _ }
+
+pub finally_quiet : {A : Type 0} (act : Act A) (exit : Act (Unit {0})) → Quiet act → Quiet exit → Quiet (finally act exit)
+finally_quiet act exit x y = record { go = λ next m h. x.go _ m (λ a m1. y.go _ m1 (λ u m2. h a m2)) }
+
+pub in_region_quiet : {A : Type 0} (enter : Act ℕ) (leave : ℕ → Act (Unit {0})) (body : ℕ → Act A) → Quiet enter → ((k : ℕ) → Quiet (leave k))
+    → ((k : ℕ) → Quiet (body k)) → Quiet (in_region enter leave body)
+in_region_quiet enter leave body x y z = record { go = λ next m h. x.go _ m (λ r m1. (finally_quiet (body r) (leave r) (z r) (y r)).go next m1 h) }
+
+enter_quiet : Quiet enter_block
+enter_quiet = record { go = λ next m h. h _ _ }
+
+pub block_quiet : {A : Type 0} (body : ℕ → Act A) → ((k : ℕ) → Quiet (body k)) → Quiet (in_block body)
+block_quiet body x = in_region_quiet enter_block (λ k. set_state (Frame k) Dead) body enter_quiet (λ k. state_quiet (Frame k) Dead) x
+
+elements_quiet : (cells n i : ℕ) (s index : Spot) (e : Sense) → Quiet (elements cells n i s index e)
+elements_quiet cells zero i s index e = give_quiet tt
+elements_quiet cells (suc n) i s index e = record { go = λ next m h. tt }
+
+block_of_elements_quiet : (cells n k : ℕ) (s : Spot) (e : Sense) → Quiet (index_made k >> elements cells n 0 s (index_in k) e)
+block_of_elements_quiet cells n k s e =
+    record { go = λ next m h. (object_quiet (Frame k) _).go _ m (λ at m1. (elements_quiet cells n 0 s (index_in k) e).go next m1 h) }
 
 pub array_quiet : (w : World) (to : Act Maker) (count : Sense) (element_at : ℕ → Sense) → Quiet to → IsQuietSense count
     → IsQuietSense (array_made w to count element_at)
 array_quiet w to count element_at x y = value_is_quiet _ _ (record {
   go = λ next m h. x.go _ m (λ place m1. y.look.go _ m1 (λ us m2. (one_quiet us).go _ m2 (λ u m3. (integer_quiet u).go _ m3 (λ n m4.
-      (ask_quiet place _ _).go _ m4 (λ s m5. (elements_quiet _ n 0 s element_at).go _ m5 (λ a m6. h _ m6))))));
+      (ask_quiet place _ _).go _ m4 (λ s m5. (block_quiet _ (λ k. block_of_elements_quiet _ n k s (element_at k))).go _ m5
+      (λ a m6. h (span_at n s ∷ []) m6))))));
 })
 
 maker_quiet : (v : Scalar) → Quiet (maker_of v)

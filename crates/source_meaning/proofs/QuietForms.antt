@@ -9,17 +9,17 @@ use Rattle.cyc_words.specs.Events.{Event, ByteRead, ByteWritten, SourceEvent, Vi
 use Rattle.step_trees.specs.Trees.{Calls, Turns, Stops, Says, Reads, Pays, run}
 use Rattle.source_meaning.specs.Shapes.{Shared, Shape, UnsignedShape, VoidShape, UnionShape, HandleShape, KeyShape, part_position, part_shape, written, settled_by, same_shape}
 use Rattle.source_meaning.specs.Memory.{Region, Frame, Born, Spot, Scalar, AsInt, AsUnsigned, AsChar, Integer, Thin, HandleOf, KeyOf, Tagged, Holds, Gone, Lent, Object, State, Closed, Dead, is_live, is_closed, with_state, blank_object, is_moved}
-use Rattle.source_meaning.specs.Steps.{Entity, Variable, Fixed, Routine, World, Scope, Flow, Falls, Breaks, Continues, Returns, Step, Act, give, ◌>>=◌, stuck, take_turn, need, finally}
+use Rattle.source_meaning.specs.Steps.{Entity, Variable, Routine, World, Scope, Flow, Falls, Breaks, Continues, Returns, Step, Act, give, ◌>>=◌, stuck, take_turn, need, finally}
 use Rattle.source_meaning.specs.Conversions.{cells_of, element}
 use Rattle.source_meaning.specs.Values.{put_content}
-use Rattle.source_meaning.specs.Making.{set_state, heap_maker}
+use Rattle.source_meaning.specs.Making.{heap_maker}
 use Rattle.source_meaning.specs.Places.{Sense, entity_of, with_binding, string_at, contents, indexed, member, or_else}
 use Rattle.source_meaning.specs.Calls.{number_type, applied, handle_maker}
-use Rattle.source_meaning.specs.Expressions.{is_unique_region, sense, senses, linked, suffixed, new_sense, new_in_sense}
+use Rattle.source_meaning.specs.Expressions.{is_unique_region, element_scope, sense, senses, linked, suffixed, new_sense, new_in_sense}
 use Rattle.source_meaning.specs.Regions.{in_region, enter_block, in_block, declared, local_with, initialised, operand_of, operand, lending, region_born, region_freed, lexical_region, key_of, new_key, key_opened, key_closed, open_key, key_freed, unique_freed, pointer_freed, local_freed, aliased}
 use Rattle.source_meaning.specs.Statements.{falls_to, after_turn, loop, exchanged, after_switch, local, declaration, Held, held_by, is_position, statement, block_items, case_for, default_for}
 use Rattle.source_meaning.specs.Programs.{source_bodies, is_main, result_at_end, result_of}
-use Rattle.source_meaning.proofs.Quiet.{AreQuietSenses, IsQuiet, IsQuietSense, IsSilent, Quiet, all_true_quiet, any_true_quiet, applied_quiet, array_quiet, assigned_quiet, call_quiet, check_quiet, choose_quiet, constant_quiet, contents_quiet, converted_quiet, counted_quiet, entity_quiet, give_quiet, handle_quiet, if_quiet, indexed_quiet, looked, made_in_quiet, made_quiet, member_quiet, need_quiet, no_sense_quiet, object_quiet, prefixed_quiet, put_quiet, read_cell_quiet, read_cells_quiet, scalar_quiet, stuck_quiet, tested_quiet, truth_quiet, union_quiet, value_is_quiet, write_cells_quiet}
+use Rattle.source_meaning.proofs.Quiet.{AreQuietSenses, IsQuiet, IsQuietSense, IsSilent, Quiet, all_true_quiet, any_true_quiet, applied_quiet, array_quiet, assigned_quiet, block_quiet, call_quiet, check_quiet, choose_quiet, constant_quiet, contents_quiet, converted_quiet, counted_quiet, entity_quiet, finally_quiet, give_quiet, handle_quiet, if_quiet, in_region_quiet, indexed_quiet, looked, made_in_quiet, made_quiet, member_quiet, need_quiet, no_sense_quiet, object_quiet, prefixed_quiet, put_quiet, read_cell_quiet, read_cells_quiet, scalar_quiet, state_quiet, stuck_quiet, tested_quiet, truth_quiet, union_quiet, value_is_quiet, write_cells_quiet}
 
 -- ---- expressions
 
@@ -70,33 +70,16 @@ mutual
   new_quiet : (new : Made) (scope : Scope) → IsQuietSense (new_sense new scope)
   new_quiet (One value) scope = made_quiet scope.world heap_maker Shared (sense value scope) (give_quiet _) (sense_quiet value scope)
   new_quiet (Array index count element) scope =
-      array_quiet scope.world heap_maker (sense count scope) (λ k. sense element (with_binding scope index.text (Fixed UnsignedShape (Integer AsUnsigned k))))
-      (give_quiet _) (sense_quiet count scope)
+      array_quiet scope.world heap_maker (sense count scope) (λ k. sense element (element_scope scope index.text k)) (give_quiet _)
+      (sense_quiet count scope)
 
   new_in_quiet : (new : Made) (scope : Scope) (unique : Bool) (handle : Sense) → IsQuietSense handle → IsQuietSense (new_in_sense new scope unique handle)
   new_in_quiet (One value) scope unique handle x = made_in_quiet scope.world unique handle (sense value scope) x (sense_quiet value scope)
   new_in_quiet (Array index count element) scope unique handle x =
-      array_quiet scope.world (handle_maker handle) (sense count scope) (λ k. sense element (with_binding scope index.text (Fixed UnsignedShape
-      (Integer AsUnsigned k))))
-      (handle_quiet handle x) (sense_quiet count scope)
+      array_quiet scope.world (handle_maker handle) (sense count scope) (λ k. sense element (element_scope scope index.text k)) (handle_quiet handle x)
+      (sense_quiet count scope)
 
 -- ---- regions and locals
-
-state_quiet : (r : Region) (state : State) → Quiet (set_state r state)
-state_quiet r state = record { go = λ next m h. h tt _ }
-
-finally_quiet : (act : Act Flow) (exit : Act (Unit {0})) → Quiet act → Quiet exit → Quiet (finally act exit)
-finally_quiet act exit x y = record { go = λ next m h. x.go _ m (λ flow m1. y.go _ m1 (λ a m2. h flow m2)) }
-
-in_region_quiet : (enter : Act ℕ) (leave : ℕ → Act (Unit {0})) (body : ℕ → Act Flow) → Quiet enter → ((k : ℕ) → Quiet (leave k)) → ((k : ℕ)
-    → Quiet (body k)) → Quiet (in_region enter leave body)
-in_region_quiet enter leave body x y z = record { go = λ next m h. x.go _ m (λ r m1. (finally_quiet (body r) (leave r) (z r) (y r)).go next m1 h) }
-
-enter_quiet : Quiet enter_block
-enter_quiet = record { go = λ next m h. h _ _ }
-
-block_quiet : (body : ℕ → Act Flow) → ((k : ℕ) → Quiet (body k)) → Quiet (in_block body)
-block_quiet body x = in_region_quiet enter_block (λ k. set_state (Frame k) Dead) body enter_quiet (λ k. state_quiet (Frame k) Dead) x
 
 declared_quiet : (scope : Scope) (name : List ℕ) (s : Shape) (o : Object) (rest : Scope → Act Flow) → ((inner : Scope) → Quiet (rest inner))
     → Quiet (declared scope name s o rest)
@@ -120,7 +103,6 @@ initialised_quiet scope name s e rest x y = record {
 
 operand_of_quiet : (e : Option Entity) → Quiet (operand_of e)
 operand_of_quiet (Some (Variable s at)) = record { go = λ next m h. (check_quiet (is_moved s)).go _ m (λ a m1. h _ m1) }
-operand_of_quiet (Some (Fixed s v)) = stuck_quiet
 operand_of_quiet None = stuck_quiet
 
 lending_quiet : (at : Spot) (v : Scalar) (act : Act Flow) → Quiet act → Quiet (lending at v act)

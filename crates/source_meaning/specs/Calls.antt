@@ -6,14 +6,15 @@ use Rattle.cyc_tree.specs.declared.expression.Prefix.{Prefix}
 use Rattle.cyc_tree.specs.declared.expression.Prefix.TheVariants.{Negate, Not, Complement, Dereference, AddressOf}
 use Rattle.cyc_words.specs.Events.{ByteWritten}
 use Rattle.source_meaning.specs.Shapes.{Owner, Shared, Alone, Shape, IntShape, UnsignedShape, CharShape, NeverNull, ThinShape, FatShape, StructShape, UnionShape, parts_of, has_tag, part_position, part_shape, part_shapes}
-use Rattle.source_meaning.specs.Memory.{IntegerType, AsInt, AsUnsigned, AsChar, Spot, Scalar, Integer, Thin, Wide, Tagged, beyond, array_of, blank_cell, blank_object}
+use Rattle.source_meaning.specs.Memory.{IntegerType, AsInt, AsUnsigned, AsChar, Frame, Spot, Scalar, Integer, Thin, Wide, Tagged, beyond, object_of, array_of, first_cell, blank_cell, blank_object}
 use Rattle.source_meaning.specs.Steps.{Routine, World, Act, give, ◌>>=◌, ◌>>◌, stuck, show, pay, invoke, memory, need, choose}
 use Rattle.step_trees.specs.Trees.{Reads}
 use Rattle.source_meaning.specs.Operators.{truth_value, operated, is_true, operator_shape}
 use Rattle.source_meaning.specs.Conversions.{cells_of, size_of, converted, one, integer}
 use Rattle.source_meaning.specs.Values.{write_cells}
-use Rattle.source_meaning.specs.Making.{saturated, Maker, AsUnique, maker_of, ask}
+use Rattle.source_meaning.specs.Making.{saturated, Maker, AsUnique, maker_of, ask, make_object}
 use Rattle.source_meaning.specs.Places.{Sense, value_sense, no_sense, span_at, contents, address_of}
+use Rattle.source_meaning.specs.Regions.{in_block}
 
 -- ---- constants and operators
 
@@ -145,22 +146,29 @@ made w where_to owner e =
     (where_to >>= λ to. e.value >>= λ vs. ask to (size_of w e.shape) (blank_object (cells_of w e.shape)) >>= λ s.
     write_cells s vs >> give (Thin (Some s) ∷ []))
 
--- so many elements from the i-th on, in order: a unit is due before each, which is then evaluated and stored
-abbrev pub elements : ℕ → ℕ → ℕ → Spot → (ℕ → Sense) → Act (Unit {0})
-elements cells zero i s element_at = give tt
-elements cells (suc n) i s element_at =
-    pay >> (let e = element_at i in e.value >>= λ vs. write_cells (beyond s (i * cells)) vs >> elements cells n (i + 1) s element_at)
+-- the index of an array's elements: the one object of their block, an unsigned variable that begins with 0
+abbrev pub index_in : ℕ → Spot
+index_in k = record { region = Frame k; object = 0; cell = 0 }
 
--- An array of made elements: the handle is evaluated, then the count, which is taken as unsigned; memory is asked for, and then come the elements.
--- The bytes asked for are the count times an element's, or the greatest word where that is greater.
+abbrev pub index_made : ℕ → Act Spot
+index_made k = make_object (Frame k) (object_of (first_cell UnsignedShape ∷ []))
+
+-- so many elements from the i-th on, in order: a unit is due before each, the index gets its number, and then the element is evaluated and stored
+abbrev pub elements : ℕ → ℕ → ℕ → Spot → Spot → Sense → Act (Unit {0})
+elements cells zero i s index e = give tt
+elements cells (suc n) i s index e =
+    pay >> (write_cells index (Integer AsUnsigned i ∷ []) >> (e.value >>= λ vs. write_cells (beyond s (i * cells)) vs >> elements cells n (i + 1) s index e))
+
+-- An array of made elements: the handle is evaluated, then the count, which is taken as unsigned; memory is asked for, and then come the elements, in one
+-- activation of a block for the index. The bytes asked for are the count times an element's, or the greatest word where that is greater.
 abbrev pub array_made : World → Act Maker → Sense → (ℕ → Sense) → Sense
 array_made w where_to count element_at =
-    let e = element_at 0 in
-    let cells = cells_of w e.shape in
-    value_sense (FatShape e.shape)
+    let shape = (element_at 0).shape in
+    let cells = cells_of w shape in
+    value_sense (FatShape shape)
     (where_to >>= λ to. count.look >>= one >>= integer >>= λ n.
-    ask to (saturated (n * size_of w e.shape)) (array_of n (map blank_cell cells)) >>= λ s.
-    elements (length cells) n 0 s element_at >> give (span_at n s ∷ []))
+    ask to (saturated (n * size_of w shape)) (array_of n (map blank_cell cells)) >>= λ s.
+    in_block (λ k. index_made k >> elements (length cells) n 0 s (index_in k) (element_at k)) >> give (span_at n s ∷ []))
 
 -- the region that a handle opens
 abbrev pub handle_maker : Sense → Act Maker

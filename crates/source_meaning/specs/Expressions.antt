@@ -1,18 +1,22 @@
 -- What an expression denotes in a scope.
-use Rattle.std.specs.Prelude.{Bool, true, false, None, List, [], ◌∷◌}
+use Rattle.std.specs.Prelude.{ℕ, Bool, true, false, None, List, [], ◌∷◌}
 use Rattle.cyc_tree.specs.Tree.{Expression, Expressions, NoExpressions, MoreExpressions, Links, NoLinks, MoreLinks, Suffixes, NoSuffixes, Index, Dot, Arrow, Made, One, Array}
 use Rattle.source_meaning.specs.Shapes.{Shared, CharShape, UnsignedShape, VoidShape, MayBeNull, ThinShape, FatShape, HandleShape}
-use Rattle.source_meaning.specs.Memory.{AsUnsigned, AsChar, Integer, Thin, HandleOf}
-use Rattle.source_meaning.specs.Steps.{Fixed, Scope, give, ◌>>=◌, need}
+use Rattle.source_meaning.specs.Memory.{AsChar, Thin, HandleOf}
+use Rattle.source_meaning.specs.Steps.{Variable, Scope, give, ◌>>=◌, need}
 use Rattle.source_meaning.specs.Making.{heap_maker}
 use Rattle.source_meaning.specs.Places.{Sense, value_sense, no_sense, entity_of, with_binding, entity_sense, string_at, contents, indexed, member, assigned}
-use Rattle.source_meaning.specs.Calls.{constant, number_type, applied, all_true, any_true, tested, prefixed, counted, call_sense, union_made, made, array_made, handle_maker, made_in}
+use Rattle.source_meaning.specs.Calls.{constant, number_type, applied, all_true, any_true, tested, prefixed, counted, call_sense, union_made, made, index_in, array_made, handle_maker, made_in}
 
 -- `unique_region` is no value, and stands as the handle of `rnew` alone, in parentheses too
 abbrev pub is_unique_region : Expression → Bool
 is_unique_region (Expression.UniqueRegion at) = true
 is_unique_region (Expression.Grouped at inner) = is_unique_region inner
 is_unique_region _ = false
+
+-- what is in scope in an array's elements: the index too, a variable of their block's activation
+abbrev pub element_scope : Scope → List ℕ → ℕ → Scope
+element_scope scope index k = with_binding (record scope { frame = k }) index (Variable UnsignedShape (index_in k))
 
 abbrev mutual
   -- An expression. A literal is a value, a name what it stands for; parentheses change nothing.
@@ -60,11 +64,11 @@ abbrev mutual
   new_sense (One value) scope = made scope.world heap_maker Shared (sense value scope)
   new_sense (Array index count element) scope =
       array_made scope.world heap_maker (sense count scope)
-      (λ k. sense element (with_binding scope index.text (Fixed UnsignedShape (Integer AsUnsigned k))))
+      (λ k. sense element (element_scope scope index.text k))
 
-  -- `rnew`, in the unique region or that of the handle; the index of an array is an unchangeable unsigned number
+  -- `rnew`, in the unique region or that of the handle
   pub new_in_sense : Made → Scope → Bool → Sense → Sense
   new_in_sense (One value) scope in_unique handle = made_in scope.world in_unique handle (sense value scope)
   new_in_sense (Array index count element) scope in_unique handle =
       array_made scope.world (handle_maker handle) (sense count scope)
-      (λ k. sense element (with_binding scope index.text (Fixed UnsignedShape (Integer AsUnsigned k))))
+      (λ k. sense element (element_scope scope index.text k))

@@ -4,7 +4,7 @@ use Rattle.cyc_words.specs.Words.{sum_of}
 use Rattle.source_meaning.specs.Shapes.{Shared, Alone, Shape, VoidShape, NeverNull, ThinShape, FatShape, KeyShape, StructShape, UnionShape, ArrayShape, Part, bound_in, parts_of, part_shape, pointee}
 use Rattle.source_meaning.specs.Sizes.{cells_before}
 use Rattle.source_meaning.specs.Memory.{Spot, Scalar, Thin, Wide, beyond}
-use Rattle.source_meaning.specs.Steps.{Entity, Variable, Fixed, Binding, World, Scope, Act, give, ◌>>=◌, ◌>>◌, stuck}
+use Rattle.source_meaning.specs.Steps.{Entity, Variable, Binding, World, Scope, Act, give, ◌>>=◌, ◌>>◌, stuck}
 use Rattle.source_meaning.specs.Conversions.{cells_of, one, integer, accessed, converted}
 use Rattle.source_meaning.specs.Values.{read_cells, take_cells, write_cells}
 
@@ -58,10 +58,9 @@ with_binding scope name e = record scope { locals = (record { name = name; entit
 abbrev pub span_at : ℕ → Spot → Scalar
 span_at count s = Wide (Some (record { first = s; count = count; index = 0 }))
 
--- an array's name is a fat pointer to its first element, and no place; nor is the name of what never changes
+-- an array's name is a fat pointer to its first element, and no place
 abbrev pub entity_sense : World → Option Entity → Sense
 entity_sense w None = no_sense
-entity_sense w (Some (Fixed s v)) = value_sense s (give (v ∷ []))
 entity_sense w (Some (Variable (ArrayShape count of) at)) = value_sense (FatShape of) (give (span_at count at ∷ []))
 entity_sense w (Some (Variable s at)) = place_sense w s (give at)
 

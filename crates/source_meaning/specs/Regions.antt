@@ -3,14 +3,14 @@ use Rattle.std.specs.Prelude.{ℕ, ◌+◌, Option, Some, None, List, [], ◌∷
 use Rattle.cyc_words.specs.Events.{RegionNew, RegionFree, UniqueFree, KeyNew, KeyOpen, KeyClose, KeyFree}
 use Rattle.source_meaning.specs.Shapes.{Shape, HandleShape, KeyShape, settled_by}
 use Rattle.source_meaning.specs.Memory.{Region, Frame, Born, Spot, Scalar, Thin, HandleOf, KeyOf, Holds, Gone, Lent, Object, blank_object, Live, Closed, Dead, is_live, is_closed, is_moved, with_state}
-use Rattle.source_meaning.specs.Steps.{Entity, Variable, Fixed, Scope, Flow, Act, give, ◌>>=◌, ◌>>◌, stuck, show, memory, set_memory, check, finally}
+use Rattle.source_meaning.specs.Steps.{Entity, Variable, Scope, Flow, Act, give, ◌>>=◌, ◌>>◌, stuck, show, memory, set_memory, check, finally}
 use Rattle.source_meaning.specs.Conversions.{cells_of, converted, converted_scalar}
 use Rattle.source_meaning.specs.Values.{read_cell, write_cells, put_content}
 use Rattle.source_meaning.specs.Making.{set_state, make_object, bear}
 use Rattle.source_meaning.specs.Places.{Sense, entity_of, with_binding}
 
 -- A scoped region: it is entered, then comes what is done in it, and then it is left, whatever way that goes on. A raise leaves nothing.
-abbrev pub in_region : Act ℕ → (ℕ → Act (Unit {0})) → (ℕ → Act Flow) → Act Flow
+abbrev pub in_region : {A : Type 0} → Act ℕ → (ℕ → Act (Unit {0})) → (ℕ → Act A) → Act A
 in_region enter leave body = enter >>= λ r. finally (body r) (leave r)
 
 -- ---- blocks and their locals
@@ -21,7 +21,7 @@ enter_block =
     memory >>= λ m. set_memory (with_state (record m { activations = m.activations + 1 }) (Frame m.activations) Live) >> give m.activations
 
 -- a block is left with its locals, whatever way it is left
-abbrev pub in_block : (ℕ → Act Flow) → Act Flow
+abbrev pub in_block : {A : Type 0} → (ℕ → Act A) → Act A
 in_block body = in_region enter_block (λ k. set_state (Frame k) Dead) body
 
 -- a local of the block, and what follows with it in scope
@@ -45,10 +45,9 @@ pub record Operand : Type 0 where
   pub shape : Shape
   pub at : Spot
 
--- A variable that can't be copied is an operand of what frees, lends and opens; one that can be, and what never changes, is none.
+-- A variable that can't be copied is an operand of what frees, lends and opens; one that can be is none.
 abbrev pub operand_of : Option Entity → Act Operand
 operand_of (Some (Variable s at)) = check (is_moved s) >> give (record { shape = s; at = at })
-operand_of (Some (Fixed s v)) = stuck
 operand_of None = stuck
 
 -- the innermost local of a name, or else the global

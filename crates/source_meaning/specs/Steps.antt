@@ -9,10 +9,9 @@ use Rattle.source_meaning.specs.Memory.{Memory, Scalar, Spot}
 
 -- ---- what is declared
 
--- a name stands for a variable, or for a value that is never changed
+-- a name stands for a variable
 pub data Entity : Type 0 where
   Variable : Shape → Spot → Entity
-  Fixed : Shape → Scalar → Entity
 
 -- a name that is in scope
 pub record Binding : Type 0 where
@@ -143,6 +142,6 @@ abbrev pub choose : {A : Type 0} → Bool → Act A → Act A → Act A
 choose true first second = first
 choose false first second = second
 
--- whatever way a statement is left, this comes after it
-abbrev pub finally : Act Flow → Act (Unit {0}) → Act Flow
-finally act exit = act >>= λ flow. exit >> give flow
+-- whatever an act gives, as the way in which a statement is left, this comes after it
+abbrev pub finally : {A : Type 0} → Act A → Act (Unit {0}) → Act A
+finally act exit = act >>= λ a. exit >> give a

@@ -26,6 +26,7 @@ pub mod StructForms
 pub mod Makings
 pub mod Single
 pub mod Counters
+pub mod ElementLoops
 pub mod Filled
 pub mod CallForms
 pub mod UnionForms

@@ -5,7 +5,7 @@ use Rattle.cyc_tree.specs.Operands.{AllHaveOperands, AreSuffixed, ExpressionHasO
 use Rattle.cyc_tree.specs.Tree.{Array, Arrow, Dot, Expression, Expressions, Index, Links, MoreExpressions, MoreLinks, Name, NoExpressions, NoLinks, NoSuffixes}
 use Rattle.cyc_tree.specs.Tree.{One, Suffixes}
 use Rattle.source_lowering.specs.Lowerable.{IsOperandShape, Takes}
-use Rattle.source_lowering.specs.Lowered.{Named, named_shape, number_named, static_shape, valued}
+use Rattle.source_lowering.specs.Lowered.{Named, element_names, named_shape, static_shape, valued}
 use Rattle.source_lowering.specs.Pieces.{owner_in}
 use Rattle.source_meaning.specs.Shapes.{NeverNull}
 use Rattle.source_meaning.specs.Calls.{number_type}
@@ -137,7 +137,7 @@ module _ (w : World) (names : List Named) (g : Env) (scope : IsKnownScope w name
 
   -- an array isn't made in the unique region
   array_in_taken : (at : ℕ) (h : Expression) (x : Name) (n e : Expression) (u : Bool) (to : Goal) (c a v : Value) → goal_of u g (judge g h) ≡ Of to
-      → ((y : Value) → judge g h ≡ Of y → Is h y) → Is n c → ((t : ℕ) → IsTaken w (number_named x.text t ∷ names) e a)
+      → ((y : Value) → judge g h ≡ Of y → Is h y) → Is n c → IsTaken w (element_names x.text names) e a
       → array_made at to (c, a) ≡ Of v → Is (Expression.NewIn at h (Array x n e)) v
   array_in_taken at h x n e true to c a v q k i l p = absurd (no_array_alone at to c a v q p)
   array_in_taken at h x n e false to c a v q k i l p =
@@ -203,7 +203,7 @@ module _ (w : World) where
         let inner : Env = with_counter x g in
         let z = array_is at (Of (To TheHeap)) (judge g n) (judge inner e) v p in
         array_taken w names (Expression.New at (Array x n e)) at TheHeap x n e z.1 z.2 v (taken_is names g scope n z.1 own.0 z.4)
-        (λ m. taken_is (number_named x.text m ∷ names) inner (scope_counter w names g x m scope) e z.2 own.1 z.5)
+        (taken_is (element_names x.text names) inner (scope_counter w names g x scope) e z.2 own.1 z.5)
         (subst (λ (q : Goal). array_made at q (z.1, z.2) ≡ Of v) (sym (of_is (To TheHeap) z.0 z.3)) z.6) (λ q. q) refl (λ q. q)
     taken_is names g scope (Expression.NewIn at h (One e)) v own p =
         let goal : Verdict Goal = goal_of (is_unique_region h) g (judge g h) in
@@ -218,7 +218,7 @@ module _ (w : World) where
         let z = array_is at goal (judge within n) (judge inner e) v p in
         array_in_taken w names g scope at h x n e (is_unique_region h) z.0 z.1 z.2 v z.3 (λ y q. taken_is names g scope h y own.0 q)
         (taken_is names within known n z.1 own.1.0 z.4)
-        (λ m. taken_is (number_named x.text m ∷ names) inner (scope_counter w names within x m known) e z.2 own.1.1 z.5) z.6
+        (taken_is (element_names x.text names) inner (scope_counter w names within x known) e z.2 own.1.1 z.5) z.6
     taken_is names g scope (Expression.Chain e NoLinks) v own p = absurd own.0
     taken_is names g scope (Expression.Chain e (MoreLinks o y es)) v own p =
         let f = links_first g (judge g e) (MoreLinks o y es) v p in

@@ -4,7 +4,7 @@ use Rattle.std.specs.Prelude.{◌&&◌}
 use Rattle.std.proofs.lemmas.Bool.{and_parts}
 use Rattle.cyc_tree.specs.Tree.{Array, Expression, Name, One}
 use Rattle.source_lowering.specs.Lowerable.{IsOperandShape, IsObject, Takes, TakesDropped, TakesMember, TakesNew, TakesRun, TakesWhole}
-use Rattle.source_lowering.specs.Lowered.{Named, number_named, static_shape}
+use Rattle.source_lowering.specs.Lowered.{Named, element_names, static_shape}
 use Rattle.source_meaning.specs.Shapes.{NeverNull}
 use Rattle.source_meaning.specs.Shapes as shapes
 use Rattle.source_meaning.specs.Shapes.{FatShape, Owner, ThinShape}
@@ -116,11 +116,11 @@ module _ (w : World) (names : List Named) where
       thin_taken x e a v shapes.Alone (Unique false a.type) h d.0 d.1 tt refl (λ k. k) takes shape run
 
 module _ (w : World) (names : List Named) where
-  -- an array in a region: its element is taken whichever temporary has the index
+  -- an array in a region
   pub array_taken : (x : Expression) (at : ℕ) (r : Region) (index : Name) (n e : Expression) (c a v : Value) → IsTaken w names n c
-      → ((t : ℕ) → IsTaken w (number_named index.text t ∷ names) e a) → array_made at (To r) (c, a) ≡ Of v
+      → IsTaken w (element_names index.text names) e a → array_made at (To r) (c, a) ≡ Of v
       → (TakesNew w names (Array index n e) → Takes w names x)
-      → static_shape w names x ≡ FatShape (static_shape w (number_named index.text 0 ∷ names) e)
+      → static_shape w names x ≡ FatShape (static_shape w (element_names index.text names) e)
       → (TakesDropped w names (static_shape w names x) x → TakesRun w names x) → IsTaken w names x v
   array_taken x at r index n e c a v h i p takes shape run =
       let z : (is_integer c.type && is_makeable a.type ≡ true) × Valued v (Fat r a.type) =
@@ -128,13 +128,13 @@ module _ (w : World) (names : List Named) where
       let fits : (is_integer c.type ≡ true) × (is_makeable a.type ≡ true) = and_parts (is_integer c.type) (is_makeable a.type) z.0 in
       let d : Valued v (Fat r a.type) = z.1 in
       let count : TakenWord w names n c.type = word_is w names c.type n (integer_word c.type fits.0) h.value in
-      let one : NewTaken w (number_named index.text 0 ∷ names) e a.type = each fits.1 0 in
+      let one : NewTaken w (element_names index.text names) e a.type = each fits.1 in
       taken_word w names x v (Fat r a.type) d.type (no_place v d.seat) tt one.known
       (record {
-        takes = takes (count.takes, λ t. (each fits.1 t).takes);
-        shape = stands_from (static_shape w names x) (FatShape (static_shape w (number_named index.text 0 ∷ names) e)) (FatShape (shape_of a.type)) shape
+        takes = takes (count.takes, (each fits.1).takes);
+        shape = stands_from (static_shape w names x) (FatShape (static_shape w (element_names index.text names) e)) (FatShape (shape_of a.type)) shape
             (FatAs one.shape);
       }) run
     where
-      each : is_makeable a.type ≡ true → (t : ℕ) → NewTaken w (number_named index.text t ∷ names) e a.type
-      each m t = let k : IsTaken w (number_named index.text t ∷ names) e a = i t in value_made w (number_named index.text t ∷ names) e a.type m k.known k.value
+      each : is_makeable a.type ≡ true → NewTaken w (element_names index.text names) e a.type
+      each m = value_made w (element_names index.text names) e a.type m i.known i.value

@@ -3,8 +3,8 @@
 use Rattle.std.proofs.Common.{◌≡◌, ℕ, suc, Bool, true, false, Option, Some, None, List, [], ◌∷◌, refl, sym, subst, ap, ◌∙◌}
 use Rattle.std.specs.Prelude.{bytes_eq, if◌then◌else◌, map}
 use Rattle.cyc_tree.specs.Tree as tree
-use Rattle.source_lowering.specs.Lowered.{Named, local_named, named_shape, number_named, shape_by}
-use Rattle.source_lowering.specs.Naming.{Home, InBlock, InTemporary}
+use Rattle.source_lowering.specs.Lowered.{Named, element_names, local_named, named_shape, shape_by}
+use Rattle.source_lowering.specs.Naming.{Home, InBlock}
 use Rattle.source_lowering.specs.Programs.{named_here, one_out, outward, parameter_names}
 use Rattle.source_meaning.specs.Places.{bound_to}
 use Rattle.source_meaning.specs.Shapes.{ArrayShape, Part, Shape, UnsignedShape, part_shapes}
@@ -116,11 +116,6 @@ module _ (w : World) where
       scope_named names g x (Arrayed t g.frame) (ArrayShape count s) (InBlock 0 index)
       (λ others y z. (count, z ∙ ap (λ (u : Shape). ArrayShape count u) q, k)) scope
 
-  -- the index of an element, in any temporary
-  pub scope_counter : (names : List Named) (g : Env) (x : tree.Name) (t : ℕ) → IsKnownScope w names g
-      → IsKnownScope w (number_named x.text t ∷ names) (with_counter x g)
-  scope_counter names g x t scope = scope_named names g x Counter UnsignedShape (InTemporary t) (λ others y z. z) scope
-
   -- ---- blocks and loops
 
   outward_shape : (names : List Named) (x : List ℕ) (global : Option Entity)
@@ -133,13 +128,23 @@ module _ (w : World) where
       by true others = refl
       by false others = others
 
-  pub scope_block : (names : List Named) (g : Env) → IsKnownScope w names g → IsKnownScope w (outward names) (block_entered g)
-  scope_block names g scope = record {
+  scope_outward : (names : List Named) (g : Env) → IsKnownScope w names g → IsKnownScope w (outward names) g
+  scope_outward names g scope = record {
     entries = λ x e p. entry_kept names (outward names) x e (outward_shape names x (bound_to w.globals x)) (scope.entries x e p);
     members = scope.members;
     choices = scope.choices;
     sizes = scope.sizes;
   }
+
+  pub scope_block : (names : List Named) (g : Env) → IsKnownScope w names g → IsKnownScope w (outward names) (block_entered g)
+  scope_block names g scope =
+      let out = scope_outward names g scope in
+      record { entries = out.entries; members = out.members; choices = out.choices; sizes = out.sizes }
+
+  -- the index of an array's elements, in a block of its own
+  pub scope_counter : (names : List Named) (g : Env) (x : tree.Name) → IsKnownScope w names g → IsKnownScope w (element_names x.text names) (with_counter x g)
+  scope_counter names g x scope =
+      scope_named (outward names) g x Counter UnsignedShape (InBlock 0 0) (λ others y z. z) (scope_outward names g scope)
 
   pub scope_switch : (names : List Named) (g : Env) → IsKnownScope w names g → IsKnownScope w names (in_a_switch g)
   scope_switch names g scope = record { entries = scope.entries; members = scope.members; choices = scope.choices; sizes = scope.sizes }

@@ -147,5 +147,11 @@ array::lower_array-returns-in-Ok-clause-writes = Made.array::lower_array-returns
 pub array::lower_array-returns-in-Ok-clause-shape : goal.array::lower_array-returns-in-Ok-clause-shape
 array::lower_array-returns-in-Ok-clause-shape = Made.array::lower_array-returns-in-Ok-clause-shape
 
+pub array::lower_loop-returns : goal.array::lower_loop-returns
+array::lower_loop-returns = Made.array::lower_loop-returns
+
+pub array::lower_indexed-returns : goal.array::lower_indexed-returns
+array::lower_indexed-returns = Made.array::lower_indexed-returns
+
 pub array::lower_elements-returns-clause-writes : goal.array::lower_elements-returns-clause-writes
 array::lower_elements-returns-clause-writes = Made.array::lower_elements-returns-clause-writes

@@ -13,7 +13,7 @@ use Rattle.source_lowering.specs.Members.{words_in, all_words}
 use Rattle.source_lowering.specs.Lowerable.{IsLowerable}
 use Rattle.core_meaning.specs.Bounds.{block_words, operations_of, core_bound, all_operations, core_code}
 use Rattle.source_lowering.specs.Bounds.{FramesFit, item_locals, item_size, items_left, regions_left, frame_bound, routines_size, code_bound}
-use Rattle.source_lowering.proofs.bounds.Nodes.{item_count, item_regions}
+use Rattle.source_lowering.proofs.bounds.Nodes.{item_count, item_indices, item_regions}
 use Rattle.source_lowering.proofs.expressions.Names.{AreParameters, IsRoutine, AreRoutines}
 use Rattle.source_lowering.proofs.bounds.LocalWords.{shapes_words, many_words, words_same}
 use Rattle.source_lowering.proofs.bounds.Costs.{Costs, no_costs, one_costs, both_cost, more_costs, at_most, does_one, block_costs}
@@ -22,7 +22,6 @@ use Rattle.source_lowering.proofs.bounds.StatementCosts.{items_bounded}
 use Rattle.source_lowering.proofs.bounds.StatementsPaid.{items_paid}
 use Rattle.source_lowering.proofs.bounds.RegionsPaid.{item_regions_paid}
 use Rattle.source_lowering.proofs.Programs.{routines_are}
-use Rattle.source_lowering.proofs.bounds.Taken.{taken_parameters}
 
 -- ---- functions
 
@@ -61,9 +60,9 @@ pub words_many : (ps : List Part) → all_words (part_shapes ps) ≤ 3 * length 
 words_many [] = omega arith
 words_many (p ∷ ps) = let a = words_few p.shape in let b = words_many ps in omega (arith, a, b)
 
--- the words of the locals of a function's body, and of the blocks within it
+-- the words of the locals of a function's body, and of the blocks within it, with a word for each index
 abbrev pub body_locals : World → Routine → ℕ
-body_locals w f = item_locals w (parameter_names f.parameters 0 []) (length f.parameters) f.body
+body_locals w f = item_locals w (parameter_names f.parameters 0 []) (length f.parameters) f.body + item_indices f.body
 
 -- what a function's body takes
 pub record BodyBounded (w : World) (f : Routine) : Type 0 where
@@ -83,9 +82,7 @@ body_bounded w f r =
     let shapes = part_shapes f.parameters ++ block_shapes w (parameter_names f.parameters 0 []) (length f.parameters) f.body in
     let first = parameters_code f.parameters 0 0 words in
     let body = items_code w f.result (parameter_names f.parameters 0 []) no_regions (length f.parameters) 0 f.body in
-    let taken = taken_parameters f.parameters 0 [] in
-    let items = items_bounded w f.result (parameter_names f.parameters 0 []) no_regions (length f.parameters) 0 f.body t p r.body (omega (arith, taken))
-    (omega arith) in
+    let items = items_bounded w f.result (parameter_names f.parameters 0 []) no_regions (length f.parameters) 0 f.body t p r.body (omega arith) (omega arith) in
     let inside = both_cost t p 0 (4 * length f.parameters) items.inner items.bounded.operations first body
     (parameters_costs f.parameters 0 0 words t p (omega arith) (omega arith)) items.bounded.costs in
     let less = items.bounded.less in let e = items.locals in

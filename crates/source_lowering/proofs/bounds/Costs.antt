@@ -73,6 +73,15 @@ more_costs t p l o t' p' l' o' xs f g h k a = record {
   operations = let e = a.operations in omega (arith, e, k);
 }
 
+-- with room for more words of locals
+pub sized : {t p l m o : ℕ} {code : List Statement} → Costs t p l o code → l ≤ m → Costs t p m o code
+sized a h = record {
+  temporaries = a.temporaries;
+  passes = a.passes;
+  locals = let e = a.locals in omega (arith, e, h);
+  operations = a.operations;
+}
+
 -- ---- operations
 
 -- one operation
@@ -80,9 +89,9 @@ pub does_one : (t p : ℕ) (o : core.Operation) → operation_temporaries o ≤ 
 does_one t p o h = one_costs t p 0 (operation_count o) (Do o) h (omega arith) (omega arith) (omega arith)
 
 -- one before others
-pub does_then : (t p n : ℕ) (o : core.Operation) (others : List Statement) → operation_temporaries o ≤ t → Costs t p 0 n others
-    → Costs t p 0 (operation_count o + n) (Do o ∷ others)
-does_then t p n o others h c = both_cost t p 0 (operation_count o) 0 n (Do o ∷ []) others (does_one t p o h) c
+pub does_then : {l : ℕ} (t p n : ℕ) (o : core.Operation) (others : List Statement) → operation_temporaries o ≤ t → Costs t p l n others
+    → Costs t p l (operation_count o + n) (Do o ∷ others)
+does_then t p n o others h c = sized (both_cost t p _ (operation_count o) _ n (Do o ∷ []) others (does_one t p o h) c) (omega arith)
 
 pub at_most : (t p o o' : ℕ) (xs : List Statement) → o ≤ o' → Costs t p 0 o xs → Costs t p 0 o' xs
 at_most t p o o' xs h c = more_costs t p 0 o t p 0 o' xs (omega arith) (omega arith) (omega arith) h c

@@ -1,5 +1,5 @@
 -- What the code of declarations takes, and of the ends and ways out of regions.
-use Rattle.std.proofs.Common.{◌≡◌, ℕ, zero, suc, ◌+◌, ◌*◌, ◌≤◌, List, [], ◌∷◌, ◌++◌, Bool, true, false, arith, max}
+use Rattle.std.proofs.Common.{◌≡◌, ℕ, zero, suc, ◌+◌, ◌*◌, ◌≤◌, List, [], ◌∷◌, ◌++◌, Bool, true, false, arith}
 use Rattle.cyc_tree.specs.Tree as tree
 use Rattle.cyc_tree.specs.Tree.{Expression, Initializer, Declaration}
 use Rattle.source_meaning.specs.Shapes.{Shape, ThinShape, FatShape, ArrayShape, StructShape, UnionShape, written, settled, settled_by}
@@ -13,17 +13,17 @@ use Rattle.source_lowering.specs.Programs.{leaving_code, left_by, source_code}
 use Rattle.source_lowering.specs.Whole.{is_made}
 use Rattle.source_lowering.specs.Lowerable.{Takes, TakesValue, TakesWhole, TakesDeclaration}
 use Rattle.source_lowering.specs.Bounds.{tokens_of, declaration_tokens}
+use Rattle.source_lowering.specs.Order.{indices_in, indices_in_declaration}
 use Rattle.source_meaning.specs.Places.{bound_to}
 use Rattle.source_lowering.proofs.values.Integers.{key_moved}
 use Rattle.source_lowering.proofs.bounds.Nodes.{expression_count, declaration_count, region_count}
-use Rattle.source_lowering.proofs.bounds.Costs.{Costs, no_costs, both_cost, at_most, does_one, does_then}
+use Rattle.source_lowering.proofs.bounds.Costs.{Costs, no_costs, both_cost, at_most, does_one, does_then, sized}
 use Rattle.source_lowering.proofs.bounds.ValueCosts.{put_local_costs, to_fat_costs}
 use Rattle.source_lowering.specs.Operators.{to_fat_code}
 use Rattle.source_lowering.proofs.bounds.PartCosts.{conversion_costs}
 use Rattle.source_lowering.proofs.bounds.Counted.{one_node}
 use Rattle.source_lowering.proofs.bounds.ExpressionCosts.{expression_costs}
 use Rattle.source_lowering.proofs.bounds.WholeCosts.{source_costs}
-use Rattle.source_lowering.proofs.bounds.Taken.{found_less, taken_by}
 use Rattle.source_lowering.proofs.bounds.NameCosts.{alias_costs, moved_costs}
 
 -- ---- declarations
@@ -38,9 +38,9 @@ converted_put w t p d index to from h =
     at_most t p 9 11 _ (omega arith) (both_cost t p 0 8 0 1 _ _ (conversion_costs w t p d to from h) (does_one t p _ (omega (arith, h))))
 
 -- a declaration leaves one operation to the end of its region
-pub record IsDeclared (t p n : ℕ) (code : List core.Statement) : Type 0 where
+pub record IsDeclared (t p l n : ℕ) (code : List core.Statement) : Type 0 where
   pub operations : ℕ
-  pub costs : Costs t p 0 operations code
+  pub costs : Costs t p l operations code
   pub less : operations + 1 ≤ 8 * (1 + n)
 
 first_costs : (t p d : ℕ) (s : Shape) → suc d ≤ t → Costs t p 0 1 (Do (first_code s d) ∷ [])
@@ -63,10 +63,10 @@ unset_costs w s d index t p h = by s
     by of = word of
 
 value_bounded : (w : World) (names : List Named) (s : Shape) (e : Expression) (d index own t p : ℕ) → TakesValue w names s e
-    → max (taken_by names) (d + 4 * expression_count e) ≤ t → 3 * expression_count e ≤ p → IsDeclared t p (tokens_of e) (value_code w names s e d index own)
+    → d + 4 * expression_count e ≤ t → 3 * expression_count e ≤ p → IsDeclared t p (indices_in e) (tokens_of e) (value_code w names s e d index own)
 value_bounded w names s e d index own t p h f g = by s h
   where
-    word : (of : Shape) → Takes w names e → IsDeclared t p (tokens_of e)
+    word : (of : Shape) → Takes w names e → IsDeclared t p (indices_in e) (tokens_of e)
         (expression_code w names e d own ++ (conversion_code w of (static_shape w names e) d ++ put_local of d 0 index))
     word of h =
         let a = expression_costs w names e t p d own h f g in
@@ -74,11 +74,11 @@ value_bounded w names s e d index own t p h f g = by s h
         let n = one_node e in
         record {
           operations = a.operations + 11;
-          costs = both_cost t p 0 a.operations 0 11 _ _ a.costs (converted_put w t p d index of (static_shape w names e) (omega (arith, f, n)));
+          costs = sized (both_cost t p _ a.operations _ 11 _ _ a.costs (converted_put w t p d index of (static_shape w names e) (omega (arith, f, n)))) (omega arith);
           less = omega (arith, l);
         }
 
-    whole : (of : Shape) → TakesWhole w names e → IsDeclared t p (tokens_of e)
+    whole : (of : Shape) → TakesWhole w names e → IsDeclared t p (indices_in e) (tokens_of e)
         (source_code w names (is_made w e) e d own ++ (Do (LocalAddress (d + 1) 0 index) ∷ Do (Copy (d + 1) d (layout_of w of)) ∷ []))
     whole of h =
         let a = source_costs w names e t p d own h f g in
@@ -86,19 +86,19 @@ value_bounded w names s e d index own t p h f g = by s h
         let n = one_node e in
         record {
           operations = a.operations + (1 + 1);
-          costs = both_cost t p 0 a.operations 0 (1 + 1) _ _ a.costs (both_cost t p 0 1 0 1 (Do (LocalAddress (d + 1) 0 index) ∷ []) _
-              (does_one t p _ (omega (arith, f, n))) (does_one t p _ (omega (arith, f, n))));
+          costs = sized (both_cost t p _ a.operations _ (1 + 1) _ _ a.costs (both_cost t p _ 1 _ 1 (Do (LocalAddress (d + 1) 0 index) ∷ []) _
+              (does_one t p _ (omega (arith, f, n))) (does_one t p _ (omega (arith, f, n))))) (omega arith);
           less = omega (arith, l);
         }
 
-    by : (of : Shape) → TakesValue w names of e → IsDeclared t p (tokens_of e) (value_code w names of e d index own)
+    by : (of : Shape) → TakesValue w names of e → IsDeclared t p (indices_in e) (tokens_of e) (value_code w names of e d index own)
     by (StructShape tag) h = whole (StructShape tag) h
     by (UnionShape tag) h = whole (UnionShape tag) h
     by of h = word of h
 
 pub declaration_bounded : (w : World) (names : List Named) (declared : Declaration) (d index own t p : ℕ) → TakesDeclaration w names declared
-    → max (taken_by names) (d + 4 * declaration_count declared + 1) ≤ t → 3 * declaration_count declared ≤ p
-    → IsDeclared t p (declaration_tokens declared) (declaration_code w names declared d index own)
+    → d + 4 * declaration_count declared + 1 ≤ t → 3 * declaration_count declared ≤ p
+    → IsDeclared t p (indices_in_declaration declared) (declaration_tokens declared) (declaration_code w names declared d index own)
 declaration_bounded w names (tree.Local of name Initializer.Unset) d index own t p h f g =
     record { operations = 2; costs = unset_costs w (settled (written of)) d index t p (omega (arith, f)); less = omega arith }
 declaration_bounded w names (tree.Local of name (Initializer.Elements count)) d index own t p h f g =
@@ -117,12 +117,11 @@ declaration_bounded w names (tree.Alias at region of alias pointer) d index own 
   less = omega arith;
 }
 declaration_bounded w names (tree.Open at region handle key) d index own t p h f g =
-    let found = found_less names key.text in
     record {
       operations = 2 + (1 + 1);
       costs = both_cost t p 0 2 0 (1 + 1) (get_code w names key.text d) _
           (moved_costs t p d (local_named names key.text) (bound_to w.globals key.text) (key_moved (static_shape w names (Expression.Variable key)) h)
-          (omega (arith, f)) (omega (arith, f, found)))
+          (omega (arith, f)))
           (both_cost t p 0 1 0 1 (Do (KeyOpen d) ∷ []) _ (does_one t p _ (omega (arith, f))) (does_one t p _ (omega (arith, f))));
       less = omega arith;
     }

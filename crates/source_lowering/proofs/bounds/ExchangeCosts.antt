@@ -7,7 +7,7 @@ use Rattle.source_lowering.specs.Layouts.{has_fat, union_pieces}
 use Rattle.source_lowering.specs.Members.{part_at, words_in}
 use Rattle.source_lowering.specs.Programs.{ByName, ByPlace, Side, exchange_code, side_code, side_read, side_written, union_exchange, value_exchange}
 use Rattle.source_lowering.specs.Programs.{words_read, words_written}
-use Rattle.source_lowering.proofs.bounds.Costs.{Costs, at_most, both_cost, does_few, does_then, no_costs, nothing}
+use Rattle.source_lowering.proofs.bounds.Costs.{Costs, at_most, both_cost, does_few, does_then, no_costs, nothing, sized}
 use Rattle.source_lowering.proofs.bounds.ValueCosts.{words_few, kept_costs, loads_costs}
 
 -- a side's value is read, and it gets another one
@@ -31,9 +31,9 @@ value_exchange_costs a b s t p d h =
     (written_costs b s t p (d + 1) (d + 2) (omega (arith, h)) (omega (arith, h)))))
 
 -- no pointer to a local of one word is made
-pub side_costs : (a : Side) (t p o : ℕ) (pointer : List core.Statement) → Costs t p 0 o pointer → Costs t p 0 o (side_code a pointer)
-side_costs (ByName out index width) t p o pointer c = nothing t p o
-side_costs ByPlace t p o pointer c = c
+pub side_costs : (a : Side) (t p l o : ℕ) (pointer : List core.Statement) → Costs t p l o pointer → Costs t p l o (side_code a pointer)
+side_costs (ByName out index width) t p l o pointer c = sized (nothing t p o) (omega arith)
+side_costs ByPlace t p l o pointer c = c
 
 -- the words of a union
 words_read_costs : (count t p word d from : ℕ) → d + count ≤ t → suc from ≤ t → Costs t p 0 count (words_read count word d from)

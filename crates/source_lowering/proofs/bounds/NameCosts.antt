@@ -1,9 +1,9 @@
 -- What the code takes that reads a thin pointer or a key by its name, and an alias of a pointer.
-use Rattle.std.proofs.Common.{ℕ, suc, ◌≤◌, List, ◌++◌, Option, Some, None, arith, max}
+use Rattle.std.proofs.Common.{ℕ, suc, ◌≤◌, List, ◌++◌, Option, Some, None, arith}
 use Rattle.cyc_tree.specs.Tree.{Expression, Name}
 use Rattle.source_meaning.specs.Shapes.{MayBeNull, NeverNull}
 use Rattle.source_meaning.specs.Places.{bound_to}
-use Rattle.source_meaning.specs.Steps.{Entity, Fixed, Variable, World}
+use Rattle.source_meaning.specs.Steps.{Entity, Variable, World}
 use Rattle.source_meaning.specs.Shapes.{
   Shape,
   IntShape,
@@ -21,14 +21,13 @@ use Rattle.source_meaning.specs.Shapes.{
 use Rattle.core_meaning.specs.Core as core
 use Rattle.core_meaning.specs.Core.{Do, Narrow, Put}
 use Rattle.source_lowering.specs.Members.{distance, valued}
-use Rattle.source_lowering.specs.Lowered.{Home, InBlock, InTemporary, Named, conversion_code, get_by, get_home, put_local, get_local, load_global, local_named}
+use Rattle.source_lowering.specs.Lowered.{Home, InBlock, Named, conversion_code, get_by, get_home, put_local, get_local, load_global, local_named}
 use Rattle.source_lowering.specs.Lowered.{get_code, shape_by, static_shape}
 use Rattle.source_lowering.specs.Programs.{value_code}
 use Rattle.source_lowering.specs.Lowerable.{IsThinShape, IsWordShape}
 use Rattle.source_lowering.proofs.values.Integers.{IsMovedShape, thin_moved}
 use Rattle.source_lowering.proofs.bounds.Costs.{Costs, both_cost, does_few, does_one, does_then, nothing}
 use Rattle.source_lowering.proofs.bounds.ValueCosts.{check_costs}
-use Rattle.source_lowering.proofs.bounds.Taken.{found_less, taken_at, taken_by, taken_found}
 
 -- a thin pointer or a key is read into the next temporary
 moved_get_costs : (t p d out index : ℕ) (s : Shape) → IsMovedShape (valued s) → suc d ≤ t → Costs t p 0 2 (get_local s d out index)
@@ -59,16 +58,14 @@ moved_load_costs t p d object (StructShape tag) h below = absurd h
 moved_load_costs t p d object (UnionShape tag) h below = absurd h
 moved_load_costs t p d object (ArrayShape count of) h below = absurd h
 
-pub moved_costs : (t p d : ℕ) (l : Option Named) (e : Option Entity) → IsMovedShape (valued (shape_by l e)) → suc d ≤ t → taken_found l ≤ t
+pub moved_costs : (t p d : ℕ) (l : Option Named) (e : Option Entity) → IsMovedShape (valued (shape_by l e)) → suc d ≤ t
     → Costs t p 0 2 (get_by l e d)
-moved_costs t p d (Some l) e h below k = by l.home k
+moved_costs t p d (Some l) e h below = by l.home
   where
-    by : (home : Home) → taken_at home ≤ t → Costs t p 0 2 (get_home l.shape home d)
-    by (InBlock out index) less = moved_get_costs t p d out index l.shape h below
-    by (InTemporary from) less = does_few t p 2 (core.Move d from) (omega (arith, below, less)) (omega arith)
-moved_costs t p d None (Some (Variable s from)) h below k = moved_load_costs t p d from.object s h below
-moved_costs t p d None (Some (Fixed s v)) h below k = nothing t p 2
-moved_costs t p d None None h below k = nothing t p 2
+    by : (home : Home) → Costs t p 0 2 (get_home l.shape home d)
+    by (InBlock out index) = moved_get_costs t p d out index l.shape h below
+moved_costs t p d None (Some (Variable s from)) h below = moved_load_costs t p d from.object s h below
+moved_costs t p d None None h below = nothing t p 2
 
 -- it is converted to a word, and that is stored
 thin_converted : (w : World) (t p d : ℕ) (to from : Shape) → IsWordShape to → IsThinShape from → suc d ≤ t → Costs t p 0 4 (conversion_code w to from d)
@@ -91,17 +88,16 @@ word_put t p d index (FatShape of) h less = absurd h
 word_put t p d index _ h less = does_one t p _ less
 
 pub alias_costs : (w : World) (names : List Named) (name : Name) (s : Shape) (d index own t p : ℕ)
-    → IsThinShape (static_shape w names (Expression.Variable name)) → IsWordShape s → max (taken_by names) (suc d) ≤ t
+    → IsThinShape (static_shape w names (Expression.Variable name)) → IsWordShape s → suc d ≤ t
     → Costs t p 0 7 (value_code w names s (Expression.Variable name) d index own)
 alias_costs w names name s d index own t p thin is_word h = by s is_word
   where
     word : (of : Shape) → IsWordShape of
         → Costs t p 0 7 (get_code w names name.text d ++ (conversion_code w of (static_shape w names (Expression.Variable name)) d ++ put_local of d 0 index))
     word of g =
-        let found = found_less names name.text in
         both_cost t p 0 2 0 5 (get_code w names name.text d) _
         (moved_costs t p d (local_named names name.text) (bound_to w.globals name.text)
-        (thin_moved (static_shape w names (Expression.Variable name)) thin) (omega (arith, h)) (omega (arith, h, found)))
+        (thin_moved (static_shape w names (Expression.Variable name)) thin) (omega (arith, h)))
         (both_cost t p 0 4 0 1 (conversion_code w of (static_shape w names (Expression.Variable name)) d) (put_local of d 0 index)
         (thin_converted w t p d of (static_shape w names (Expression.Variable name)) g thin (omega (arith, h))) (word_put t p d index of g (omega (arith, h))))
 

@@ -1,5 +1,5 @@
 -- How many nodes expressions have, whatever their values: each takes four temporaries, and passes three words, at most. An assignment takes none of its own.
--- And how many regions a statement opens, each of which takes one.
+-- And how many regions a statement opens, each of which takes one, and how many indices its expressions have.
 use Rattle.std.proofs.Common.{ℕ, ◌+◌, Some}
 use Rattle.cyc_tree.specs.Tree as tree
 use Rattle.cyc_tree.specs.Tree.{Expression, Expressions, NoExpressions, MoreExpressions, Links, NoLinks, MoreLinks, Suffixes, NoSuffixes, Index, Dot, Arrow}
@@ -7,6 +7,7 @@ use Rattle.cyc_tree.specs.Tree.{Made, One, Array, Initializer, Declaration, Stat
 use Rattle.source_meaning.specs.Shapes.{Shape, VoidShape}
 use Rattle.source_meaning.specs.Steps.{World}
 use Rattle.source_lowering.specs.Lowered.{call_shape}
+use Rattle.source_lowering.specs.Order.{indices_in, indices_in_declaration}
 
 -- ---- expressions
 
@@ -118,3 +119,27 @@ abbrev mutual
   pub clause_regions : Clauses → ℕ
   clause_regions NoClauses = 0
   clause_regions (MoreClauses at label body others) = item_regions body + clause_regions others
+
+-- ---- indices: each stands in a block of its own
+
+-- those of the expressions in a statement
+abbrev mutual
+  pub statement_indices : Statement → ℕ
+  statement_indices (Statement.Block at items) = item_indices items
+  statement_indices (Statement.Run e) = indices_in e
+  statement_indices (Statement.Exchange left right) = indices_in left + indices_in right
+  statement_indices (Statement.If at condition body) = indices_in condition + statement_indices body
+  statement_indices (Statement.IfElse at condition body otherwise) = indices_in condition + (statement_indices body + statement_indices otherwise)
+  statement_indices (Statement.While at condition body) = indices_in condition + statement_indices body
+  statement_indices (Statement.Switch at place clauses) = indices_in place + clause_indices clauses
+  statement_indices (Statement.Return at (Some e)) = indices_in e
+  statement_indices _ = 0
+
+  pub item_indices : BlockItems → ℕ
+  item_indices NoItems = 0
+  item_indices (Declare d others) = indices_in_declaration d + item_indices others
+  item_indices (Execute s others) = statement_indices s + item_indices others
+
+  pub clause_indices : Clauses → ℕ
+  clause_indices NoClauses = 0
+  clause_indices (MoreClauses at label body others) = item_indices body + clause_indices others

@@ -1,5 +1,5 @@
 -- What the code of statements takes: locals by those that are declared, operations by the size of the text.
-use Rattle.std.proofs.Common.{ℕ, suc, ◌+◌, ◌*◌, ◌≤◌, List, [], ◌∷◌, ◌++◌, length, Bool, Some, None, arith, max}
+use Rattle.std.proofs.Common.{ℕ, suc, ◌+◌, ◌*◌, ◌≤◌, List, [], ◌∷◌, ◌++◌, length, Bool, Some, None, arith}
 use Rattle.cyc_tree.specs.Tree.{Statement, BlockItems, NoItems, Declare, Execute, Clauses, NoClauses, MoreClauses, Case, Default}
 use Rattle.source_meaning.specs.Shapes.{FatShape}
 use Rattle.source_lowering.specs.Lowered.{conversion_code}
@@ -28,7 +28,7 @@ use Rattle.source_lowering.specs.Bounds.{
 }
 use Rattle.source_lowering.proofs.bounds.Nodes.{statement_count, item_count, clause_count, statement_regions, item_regions, clause_regions}
 use Rattle.source_lowering.proofs.bounds.LocalWords.{shapes_words}
-use Rattle.source_lowering.proofs.bounds.Costs.{Costs, no_costs, one_costs, both_cost, more_costs, if_costs, while_costs, does_one, does_then, leave_costs}
+use Rattle.source_lowering.proofs.bounds.Costs.{Costs, no_costs, one_costs, both_cost, more_costs, sized, if_costs, while_costs, does_one, does_then, leave_costs}
 use Rattle.source_lowering.proofs.bounds.Costs.{block_costs}
 use Rattle.source_lowering.proofs.bounds.Counted.{one_node}
 use Rattle.source_lowering.proofs.bounds.ValueCosts.{put_local_costs, tag_load_costs, held_loads_costs}
@@ -36,7 +36,8 @@ use Rattle.source_lowering.proofs.bounds.PartCosts.{results_few, results_last, r
 use Rattle.source_lowering.proofs.bounds.ExpressionCosts.{place_costs, expression_costs}
 use Rattle.source_lowering.proofs.bounds.WholeCosts.{run_costs}
 use Rattle.source_lowering.proofs.bounds.DeclarationCosts.{declaration_bounded, ending_costs, regions_counted, leaving_costs}
-use Rattle.source_lowering.proofs.bounds.Taken.{taken_by, taken_outward, found_less}
+use Rattle.source_lowering.proofs.bounds.Nodes.{clause_indices, item_indices, statement_indices}
+use Rattle.source_lowering.specs.Order.{indices_in, indices_in_declaration}
 use Rattle.source_lowering.proofs.bounds.ExchangeCosts.{exchange_costs, side_costs}
 use Rattle.source_lowering.proofs.bounds.NameCosts.{moved_costs}
 use Rattle.source_lowering.proofs.values.Integers.{key_moved, thin_moved}
@@ -142,30 +143,28 @@ case_bounded w names s number t p l n d body items h a =
 
 mutual
   statement_bounded : (w : World) (result : Shape) (names : List Named) (r : RegionsAround) (own : ℕ) (s : Statement) (t p : ℕ)
-      → TakesStatement w result names s → max (taken_by names) (r.all + (statement_regions s + 4 * statement_count w s) + 2) ≤ t
+      → TakesStatement w result names s → r.all + (statement_regions s + 4 * statement_count w s) + 2 ≤ t
       → 3 * statement_count w s ≤ p
-      → IsBounded t p (statement_locals w names s) (statement_size s + statement_left r s) (statement_code w result names r own s)
+      → IsBounded t p (statement_locals w names s + statement_indices s) (statement_size s + statement_left r s) (statement_code w result names r own s)
   statement_bounded w result names r own (Statement.Empty at) t p h f g = record { operations = 0; costs = no_costs t p; less = omega arith }
   statement_bounded w result names r own (Statement.Block at items) t p h f g =
-      let same = taken_outward names in
-      let one = items_bounded w result (outward names) r 0 own items t p h (omega (arith, f, same)) g in
+      let one = items_bounded w result (outward names) r 0 own items t p h (omega (arith, f)) g in
       let b = one.bounded.less in let l = one.locals in
       record {
         operations = 1 + one.bounded.operations;
-        costs = block_costs t p (item_locals w (outward names) 0 items) one.inner one.bounded.operations w (block_shapes w (outward names) 0 items)
+        costs = block_costs t p (item_locals w (outward names) 0 items + item_indices items) one.inner one.bounded.operations w (block_shapes w (outward names) 0 items)
             _ l one.bounded.costs;
         less = omega (arith, b);
       }
   statement_bounded w result names r own (Statement.Run e) t p h f g =
       let a = run_costs w names e t p r.all own h (omega (arith, f)) (omega (arith, f)) (omega (arith, g)) in let l = a.less in
-      record { operations = a.operations; costs = a.costs; less = omega (arith, l) }
+      record { operations = a.operations; costs = sized a.costs (omega arith); less = omega (arith, l) }
   statement_bounded w result names r own (Statement.FreeUnique at pointer) t p h f g =
-      let found = found_less names pointer.text in
       record {
         operations = 2 + 2;
         costs = both_cost t p 0 2 0 2 (get_code w names pointer.text r.all) _
             (moved_costs t p r.all (local_named names pointer.text) (bound_to w.globals pointer.text)
-            (thin_moved (static_shape w names (Expression.Variable pointer)) h) (omega (arith, f)) (omega (arith, f, found)))
+            (thin_moved (static_shape w names (Expression.Variable pointer)) h) (omega (arith, f)))
             (if_costs t p r.all 0 0 1 0 (Do (UniqueFree r.all) ∷ []) [] (omega (arith, f)) (does_one t p (UniqueFree r.all) (omega (arith, f))) (no_costs t p));
         less = omega arith;
       }
@@ -180,8 +179,8 @@ mutual
       let l = a.less in let k = b.less in
       record {
         operations = a.operations + (b.operations + 16);
-        costs = both_cost t p 0 a.operations 0 (b.operations + 16) _ _ (side_costs x t p a.operations _ a.costs)
-            (both_cost t p 0 b.operations 0 16 _ _ (side_costs y t p b.operations _ b.costs) (exchange_costs w x y s t p r.all (omega (arith, f, n, m))));
+        costs = sized (both_cost t p _ a.operations _ (b.operations + 16) _ _ (side_costs x t p _ a.operations _ a.costs)
+            (both_cost t p _ b.operations _ 16 _ _ (side_costs y t p _ b.operations _ b.costs) (exchange_costs w x y s t p r.all (omega (arith, f, n, m))))) (omega arith);
         less = omega (arith, l, k);
       }
   statement_bounded w result names r own (Statement.If at condition body) t p h f g =
@@ -190,10 +189,8 @@ mutual
       let l = a.less in let k = b.less in
       record {
         operations = a.operations + (1 + (b.operations + 0));
-        costs = more_costs t p (0 + (statement_locals w names body + 0)) _ t p (statement_locals w names body) _ _ (omega arith) (omega arith) (omega arith)
-            (omega arith)
-            (both_cost t p 0 a.operations (statement_locals w names body + 0) (1 + (b.operations + 0)) _ _ a.costs
-            (if_costs t p r.all (statement_locals w names body) 0 b.operations 0 _ [] (omega (arith, f)) b.costs (no_costs t p)));
+        costs = sized (both_cost t p _ a.operations _ (1 + (b.operations + 0)) _ _ a.costs
+            (if_costs t p r.all _ 0 b.operations 0 _ [] (omega (arith, f)) b.costs (no_costs t p))) (omega arith);
         less = omega (arith, l, k);
       }
   statement_bounded w result names r own (Statement.IfElse at condition body otherwise) t p h f g =
@@ -202,12 +199,10 @@ mutual
       let b = statement_bounded w result names r first body t p h.1.0 (omega (arith, f)) (omega (arith, g)) in
       let c = statement_bounded w result names r (first + length (statement_values w names body)) otherwise t p h.1.1 (omega (arith, f)) (omega (arith, g)) in
       let l = a.less in let k = b.less in let j = c.less in
-      let x = statement_locals w names body in let y = statement_locals w names otherwise in
       record {
         operations = a.operations + (1 + (b.operations + c.operations));
-        costs = more_costs t p (0 + (x + y)) _ t p (x + y) _ _ (omega arith) (omega arith) (omega arith) (omega arith)
-            (both_cost t p 0 a.operations (x + y) (1 + (b.operations + c.operations)) _ _ a.costs
-            (if_costs t p r.all x y b.operations c.operations _ _ (omega (arith, f)) b.costs c.costs));
+        costs = sized (both_cost t p _ a.operations _ (1 + (b.operations + c.operations)) _ _ a.costs
+            (if_costs t p r.all _ _ b.operations c.operations _ _ (omega (arith, f)) b.costs c.costs)) (omega arith);
         less = omega (arith, l, k, j);
       }
   statement_bounded w result names r own (Statement.While at condition body) t p h f g =
@@ -217,15 +212,13 @@ mutual
       let l = a.less in let k = b.less in
       record {
         operations = 1 + (a.operations + b.operations);
-        costs = more_costs t p (0 + statement_locals w names body) (1 + (a.operations + b.operations)) t p (statement_locals w names body) _ _
-            (omega arith) (omega arith) (omega arith) (omega arith)
-            (while_costs t p r.all 0 (statement_locals w names body) a.operations b.operations _ _ (omega (arith, f)) a.costs b.costs);
+        costs = sized (while_costs t p r.all _ _ a.operations b.operations _ _ (omega (arith, f)) a.costs b.costs) (omega arith);
         less = omega (arith, l, k);
       }
   statement_bounded w result names r own (Statement.Switch at place clauses) t p h f g =
       let first = own + length (expression_values w names place) in
       let parts = union_parts w (static_shape w names place) in
-      let l = clause_locals w names parts clauses in
+      let l = clause_locals w names parts clauses + (indices_in place + clause_indices clauses) in
       let n = one_node place in
       let a = place_costs w names place t p r.all own h.0 (omega (arith, f)) (omega (arith, g)) in
       let last = first + length (case_values w names parts clauses) in
@@ -234,9 +227,9 @@ mutual
       let o = a.operations + (1 + (b.case_operations + b.default_operations)) in
       record {
         operations = o;
-        costs = leave_costs t p l o _ (more_costs t p (0 + (0 + (b.case_locals + b.default_locals))) o t p l o _ (omega arith) (omega arith) (omega (arith, e))
-            (omega arith)
-            (both_cost t p 0 a.operations (0 + (b.case_locals + b.default_locals)) (1 + (b.case_operations + b.default_operations)) _ _ a.costs
+        costs = leave_costs t p l o _ (more_costs t p (indices_in place + (0 + (b.case_locals + b.default_locals))) o t p l o _ (omega arith) (omega arith)
+            (omega (arith, e)) (omega arith)
+            (both_cost t p (indices_in place) a.operations (0 + (b.case_locals + b.default_locals)) (1 + (b.case_operations + b.default_operations)) _ _ a.costs
             (both_cost t p 0 1 (b.case_locals + b.default_locals) (b.case_operations + b.default_operations) (tag_load (r.all + 1) r.all) _
             (tag_load_costs t p (r.all + 1) r.all (omega (arith, f, n)) (omega (arith, f, n)))
             (both_cost t p b.case_locals b.case_operations b.default_locals b.default_operations _ _ b.cases b.otherwise))));
@@ -258,26 +251,25 @@ mutual
       let l = a.less in let k = b.few in
       record {
         operations = a.operations + (b.converts + (r.all + b.returns));
-        costs = both_cost t p 0 a.operations 0 (b.converts + (r.all + b.returns)) _ _ a.costs
+        costs = sized (both_cost t p _ a.operations 0 (b.converts + (r.all + b.returns)) _ _ a.costs
             (both_cost t p 0 b.converts 0 (r.all + b.returns) _ _ b.converting
-            (both_cost t p 0 r.all 0 b.returns _ _ (leaving_costs r.opened r.all r.all t p (omega (arith, f))) b.returning));
+            (both_cost t p 0 r.all 0 b.returns _ _ (leaving_costs r.opened r.all r.all t p (omega (arith, f))) b.returning))) (omega arith);
         less = omega (arith, l, k);
       }
   statement_bounded w result names r own (Statement.FreeKey at key) t p h f g =
-      let found = found_less names key.text in
       record {
         operations = 2 + 1;
         costs = both_cost t p 0 2 0 1 (get_code w names key.text r.all) _
             (moved_costs t p r.all (local_named names key.text) (bound_to w.globals key.text) (key_moved (static_shape w names (Expression.Variable key)) h)
-            (omega (arith, f)) (omega (arith, f, found)))
+            (omega (arith, f)))
             (does_one t p (KeyFree r.all) (omega (arith, f)));
         less = omega arith;
       }
 
   pub items_bounded : (w : World) (result : Shape) (names : List Named) (r : RegionsAround) (index own : ℕ) (items : BlockItems) (t p : ℕ)
       → TakesItems w result names index items
-      → max (taken_by names) (r.all + (item_regions items + 4 * item_count w items) + 2) ≤ t → 3 * item_count w items ≤ p
-      → ItemsBounded w names index t p (item_locals w names index items) (item_size items + items_left r items) items
+      → r.all + (item_regions items + 4 * item_count w items) + 2 ≤ t → 3 * item_count w items ≤ p
+      → ItemsBounded w names index t p (item_locals w names index items + item_indices items) (item_size items + items_left r items) items
       (items_code w result names r index own items)
   items_bounded w result names r index own NoItems t p h f g = record {
     inner = 0;
@@ -291,12 +283,11 @@ mutual
       (own + length (declaration_values w names d)) others t p h.1 (omega (arith, f, counted)) (omega (arith, g)) in
       let l = a.less in let k = b.bounded.less in let m = b.locals in
       record {
-        inner = b.inner;
+        inner = indices_in_declaration d + b.inner;
         bounded = record {
           operations = a.operations + (b.bounded.operations + 1);
-          costs = more_costs t p (0 + (b.inner + 0)) _ t p b.inner _ _ (omega arith) (omega arith) (omega arith) (omega arith)
-              (both_cost t p 0 a.operations (b.inner + 0) (b.bounded.operations + 1) _ _ a.costs
-              (both_cost t p b.inner b.bounded.operations 0 1 _ _ b.bounded.costs (ending_costs d r.all t p (omega (arith, f)))));
+          costs = sized (both_cost t p _ a.operations _ (b.bounded.operations + 1) _ _ a.costs
+              (both_cost t p b.inner b.bounded.operations 0 1 _ _ b.bounded.costs (ending_costs d r.all t p (omega (arith, f))))) (omega arith);
           less = omega (arith, l, k);
         };
         locals = omega (arith, m);
@@ -306,10 +297,10 @@ mutual
       let b = items_bounded w result names r index (own + length (statement_values w names s)) others t p h.1 (omega (arith, f)) (omega (arith, g)) in
       let l = a.less in let k = b.bounded.less in let m = b.locals in
       record {
-        inner = statement_locals w names s + b.inner;
+        inner = statement_locals w names s + statement_indices s + b.inner;
         bounded = record {
           operations = a.operations + b.bounded.operations;
-          costs = both_cost t p (statement_locals w names s) a.operations b.inner b.bounded.operations _ _ a.costs b.bounded.costs;
+          costs = both_cost t p (statement_locals w names s + statement_indices s) a.operations b.inner b.bounded.operations _ _ a.costs b.bounded.costs;
           less = omega (arith, l, k);
         };
         locals = omega (arith, m);
@@ -318,8 +309,8 @@ mutual
   -- the pointer to the union and its tag are in the first free temporaries, with two behind them
   clauses_bounded : (w : World) (result : Shape) (names : List Named) (r : RegionsAround) (parts : List Part) (own last : ℕ) (clauses : Clauses) (t p : ℕ)
       → TakesClauses w result names parts clauses → r.all + 4 ≤ t
-      → max (taken_by names) (r.all + (clause_regions clauses + 4 * clause_count w clauses) + 2) ≤ t → 3 * clause_count w clauses ≤ p
-      → ClausesBounded t p (clause_locals w names parts clauses) (clauses_size clauses + clauses_left r clauses)
+      → r.all + (clause_regions clauses + 4 * clause_count w clauses) + 2 ≤ t → 3 * clause_count w clauses ≤ p
+      → ClausesBounded t p (clause_locals w names parts clauses + clause_indices clauses) (clauses_size clauses + clauses_left r clauses)
       (cases_code w result names r parts own clauses) (default_code w result names r last clauses)
   clauses_bounded w result names r parts own last NoClauses t p h e f g = record {
     case_locals = 0;
@@ -334,36 +325,34 @@ mutual
   clauses_bounded w result names r parts own last (MoreClauses at (Case f x) body others) t p h e less g =
       let s = part_shape parts f.text in
       let inner = named_here x.text s 0 ∷ outward names in
-      let same = taken_outward names in
-      let a = items_bounded w result inner r 1 own body t p h.1.0 (omega (arith, less, same)) (omega (arith, g)) in
+      let a = items_bounded w result inner r 1 own body t p h.1.0 (omega (arith, less)) (omega (arith, g)) in
       let b = clauses_bounded w result names r parts (own + length (item_values w inner 1 body)) last others t p h.1.1 e (omega (arith, less))
       (omega (arith, g)) in
-      let one = case_bounded w inner s (member_number parts f.text) t p (item_locals w inner 1 body) (item_size body + items_left r body) r.all body
+      let one = case_bounded w inner s (member_number parts f.text) t p (item_locals w inner 1 body + item_indices body) (item_size body + items_left r body) r.all body
       (items_code w result inner r 1 own body) e a in
       let j = one.less in let k = b.less in let l = b.locals in
       record {
-        case_locals = shape_words w s + item_locals w inner 1 body + b.case_locals;
+        case_locals = shape_words w s + (item_locals w inner 1 body + item_indices body) + b.case_locals;
         default_locals = b.default_locals;
         case_operations = one.operations + b.case_operations;
         default_operations = b.default_operations;
-        cases = both_cost t p (shape_words w s + item_locals w inner 1 body) one.operations b.case_locals b.case_operations
+        cases = both_cost t p (shape_words w s + (item_locals w inner 1 body + item_indices body)) one.operations b.case_locals b.case_operations
             (case_code w inner s (member_number parts f.text) r.all body (items_code w result inner r 1 own body)) _ one.costs b.cases;
         otherwise = b.otherwise;
         locals = omega (arith, l);
         less = omega (arith, j, k);
       }
   clauses_bounded w result names r parts own last (MoreClauses at Default body others) t p h e f g =
-      let same = taken_outward names in
-      let a = items_bounded w result (outward names) r 0 last body t p h.0 (omega (arith, f, same)) (omega (arith, g)) in
+      let a = items_bounded w result (outward names) r 0 last body t p h.0 (omega (arith, f)) (omega (arith, g)) in
       let b = clauses_bounded w result names r parts own last others t p h.1 e (omega (arith, f)) (omega (arith, g)) in
       let m = a.locals in let j = a.bounded.less in let k = b.less in let l = b.locals in
       record {
         case_locals = b.case_locals;
-        default_locals = item_locals w (outward names) 0 body;
+        default_locals = item_locals w (outward names) 0 body + item_indices body;
         case_operations = b.case_operations;
         default_operations = 1 + a.bounded.operations;
         cases = b.cases;
-        otherwise = block_costs t p (item_locals w (outward names) 0 body) a.inner a.bounded.operations w (block_shapes w (outward names) 0 body)
+        otherwise = block_costs t p (item_locals w (outward names) 0 body + item_indices body) a.inner a.bounded.operations w (block_shapes w (outward names) 0 body)
             _ m a.bounded.costs;
         locals = omega (arith, l);
         less = omega (arith, j, k);

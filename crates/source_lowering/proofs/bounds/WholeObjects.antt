@@ -25,7 +25,7 @@ use Rattle.cyc_tree.specs.Tree.{
 use Rattle.cyc_tree.specs.Tree.{Initializer, Declaration, Statement, BlockItems, NoItems, Declare, Execute, Clauses, NoClauses, MoreClauses, Case, Default}
 use Rattle.source_meaning.specs.Shapes.{Shape, StructShape, UnionShape, Layout, Part, part_shape, parts_of, has_tag, written}
 use Rattle.source_meaning.specs.Steps.{World}
-use Rattle.source_lowering.specs.Lowered.{Named, number_named, static_shape, values_by, expression_values, suffix_values, all_values, link_values, new_values}
+use Rattle.source_lowering.specs.Lowered.{Named, element_names, static_shape, values_by, expression_values, suffix_values, all_values, link_values, new_values}
 use Rattle.source_lowering.specs.Lowered.{union_parts}
 use Rattle.source_lowering.specs.Whole.{makes_struct, is_made, whole_values, made_values, assigned_values, dropped_values, run_values}
 use Rattle.source_lowering.specs.Programs.{named_here, outward, initial_values, declaration_values, statement_values, item_values, case_values}
@@ -196,12 +196,12 @@ mutual
       value_objects w.unions w.structs (static_shape w names value) (whole_values w names value) (expression_values w names value) (TakesWhole w names value)
       (Takes w names value) h.1 (λ g. whole_objects w names value g) (λ g. expression_objects w names value g)
   new_objects w names (Array index count element) h =
-      let inner = number_named index.text 0 ∷ names in
+      let inner = element_names index.text names in
       both_objects w.unions w.structs (expression_values w names count)
       (values_by (static_shape w inner element) (whole_values w inner element) (expression_values w inner element))
       (expression_objects w names count h.0)
       (value_objects w.unions w.structs (static_shape w inner element) (whole_values w inner element) (expression_values w inner element)
-      (TakesWhole w inner element) (Takes w inner element) (h.1 0).1 (λ g. whole_objects w inner element g) (λ g. expression_objects w inner element g))
+      (TakesWhole w inner element) (Takes w inner element) h.1.1 (λ g. whole_objects w inner element g) (λ g. expression_objects w inner element g))
 
   pub whole_objects : (w : World) (names : List Named) (e : Expression) → TakesWhole w names e → AreObjects w.unions w.structs (whole_values w names e)
   whole_objects w names (Expression.Call name arguments) h =

@@ -12,13 +12,13 @@ use Rattle.source_meaning.specs.Conversions.{cells_of, converted}
 use Rattle.source_meaning.specs.Making.{Maker, heap_maker}
 use Rattle.source_meaning.specs.Places.{Sense}
 use Rattle.source_meaning.specs.Calls.{applied, converted_all}
-use Rattle.source_meaning.specs.Expressions.{sense, senses, linked, is_unique_region}
+use Rattle.source_meaning.specs.Expressions.{element_scope, sense, senses, linked, is_unique_region}
 use Rattle.core_meaning.specs.Core.{Statement, Do, HeapHandle}
 use Rattle.source_lowering.specs.Layouts.{extent_of}
 use Rattle.source_lowering.specs.Members.{words_in}
 use Rattle.source_lowering.specs.Lowered.{argument_words, static_shape, new_shape, linked_shape, operator_code, call_parameters, values_by, expression_values}
 use Rattle.source_lowering.specs.Lowered.{suffix_values, all_values, link_values, new_values, whole_values, made_values, expression_code, place_code, put_code}
-use Rattle.source_lowering.specs.Lowered.{array_code, element_by, number_named, links_code, all_code, any_code, arguments_code, new_code, whole_code, members_code, member_code}
+use Rattle.source_lowering.specs.Lowered.{element_names, links_code, all_code, any_code, arguments_code, new_code, whole_code, members_code, member_code}
 use Rattle.source_lowering.specs.Lowerable.{AreObjects, TakesPlace, Takes, TakesAll, TakesLinks, TakesNew, TakesWhole, TakesMade}
 use Rattle.source_lowering.proofs.Structs.{struct_made as struct_is_made}
 use Rattle.source_lowering.proofs.memory.StructCells.{AllHaveCells}
@@ -45,9 +45,8 @@ use Rattle.source_lowering.proofs.expressions.WholeForms.{IsWholeAs, whole_place
 use Rattle.source_lowering.proofs.expressions.MakingStructs.{MembersGo, no_members, more_members, made_whole}
 use Rattle.source_lowering.proofs.expressions.MakingUnions.{union_whole}
 use Rattle.source_lowering.proofs.expressions.Requests.{GivesTo, region_to, to_region, maker_to, heap_agrees, heap_gives, made_agrees}
-use Rattle.source_lowering.proofs.expressions.Homes.{element_shape, element_values, same_element}
 use Rattle.source_lowering.proofs.expressions.MadeArrays.{made_array}
-use Rattle.source_lowering.proofs.expressions.Known.{at_known, known_at, scope_at}
+use Rattle.source_lowering.proofs.expressions.Known.{inside_known, known_inside}
 pub use Rattle.source_lowering.proofs.expressions.Known.{Known, place_in, IsKnown, known_keeping, keeping_known, new_by, new_is, in_one, maker_in, new_in_same, unique_none}
 use Rattle.source_lowering.proofs.expressions.Requests.{IsInOne, shared_in_one, in_one_none, in_one_unique}
 use Rattle.source_lowering.specs.Lowered.{owner_in}
@@ -288,29 +287,26 @@ mutual
       (λ g nums. expression_same value scope k g known n calls (d + 1) own nums less)
   new_same (Array index count element) scope k h known n calls unique one to d own numbered less code handle =
       let w = scope.world in
-      let inner = number_named index.text (d + 2) ∷ k.names in
+      let inner = element_names index.text k.names in
       let counted = expression_values w k.names count in
       let first = own + length counted in
-      let values = element_values w k.names index.text 0 element in
+      let values = values_by (static_shape w inner element) (whole_values w inner element) (expression_values w inner element) in
       let shape = static_shape w inner element in
-      let takes = h.1 (d + 2) in
       let count_code = expression_code w k.names count (d + 1) own in
       let whole = whole_code w inner element (d + 3) first in
       let word = expression_code w inner element (d + 3) first in
-      subst (λ z. Agrees (place_in scope k) n d (new_by (Array index count element) scope unique to) (FatShape z)
-      (code ++ (count_code ++ array_code w shape d (element_by w shape d whole word)))) (element_shape w k.names index.text (d + 2) 0 element)
-      (made_array (place_in scope k) n index.text d first to (sense count scope) (λ i. sense element (scope_at scope index.text i))
+      made_array (place_in scope k) n index.text d first to (sense count scope) (λ a. sense element (element_scope scope index.text a))
       (static_shape w k.names count) shape (whole_values w inner element) (expression_values w inner element) code count_code whole word
-      (TakesWhole w inner element) (Takes w inner element) known.world.structs takes.0 (omega (arith, less)) takes.1
-      (subst (λ z. AreNumbered k.owned first z) (same_element w k.names index.text 0 (d + 2) element) (numbered_after k.owned own counted values numbered))
+      (TakesWhole w inner element) (Takes w inner element) known.world.structs h.1.0 (omega (arith, less)) h.1.1
+      (numbered_after k.owned own counted values numbered)
       (to_region (place_in scope k) n d to code (subst (λ z. GivesTo (place_in scope k) n d z to code) one handle))
       (expression_same count scope k h.0 known n calls (d + 1) own (numbered_first k.owned own counted values numbered) less)
-      (λ g nums j i below small.
-      whole_same element (scope_at scope index.text i) (known_at k index.text d) g (at_known scope k index.text d i small known) j
+      (λ g nums j a below.
+      whole_same element (element_scope scope index.text a) (known_inside scope k index.text d) g (inside_known scope k index.text d a known) j
       (calls_less w k.program n j below calls) (d + 3) first nums)
-      (λ g nums j i below small.
-      expression_same element (scope_at scope index.text i) (known_at k index.text d) g (at_known scope k index.text d i small known) j
-      (calls_less w k.program n j below calls) (d + 3) first nums (omega (arith, less))))
+      (λ g nums j a below.
+      expression_same element (element_scope scope index.text a) (known_inside scope k index.text d) g (inside_known scope k index.text d a known) j
+      (calls_less w k.program n j below calls) (d + 3) first nums (omega (arith, less)))
 
   -- a struct, which has its static shape
   pub whole_same : (e : Expression) (scope : Scope) (k : Known) → TakesWhole scope.world k.names e → IsKnown scope k → (n : ℕ)

@@ -1,23 +1,23 @@
 -- What lowering knows where an expression stands, and the senses of what `new` and `rnew` make.
-use Rattle.std.proofs.Common.{◌≡◌, ℕ, ◌+◌, ◌^◌, ◌<◌, Bool, true, false, List, [], ◌∷◌, ◌++◌, refl}
+use Rattle.std.proofs.Common.{◌≡◌, ℕ, ◌+◌, Bool, true, false, List, [], ◌∷◌, ◌++◌, refl}
 use Rattle.cyc_tree.specs.Tree.{Array, Expression, Made, One}
-use Rattle.source_meaning.specs.Shapes.{Shape, UnsignedShape}
-use Rattle.source_meaning.specs.Memory.{AsUnsigned, Integer}
-use Rattle.source_meaning.specs.Steps.{Act, Fixed, Scope, World, give}
+use Rattle.source_meaning.specs.Shapes.{Shape}
+use Rattle.source_meaning.specs.Steps.{Act, Scope, World, give}
 use Rattle.source_meaning.specs.Making.{Maker, heap_maker, AsUnique}
-use Rattle.source_meaning.specs.Places.{Sense, with_binding}
+use Rattle.source_meaning.specs.Places.{Sense}
 use Rattle.source_meaning.specs.Calls.{array_made, handle_maker, made}
-use Rattle.source_meaning.specs.Expressions.{is_unique_region, new_in_sense, new_sense, sense}
+use Rattle.source_meaning.specs.Expressions.{element_scope, is_unique_region, new_in_sense, new_sense, sense}
 use Rattle.core_meaning.specs.Core.{Program, Statement}
-use Rattle.source_lowering.specs.Lowered.{Named, number_named, expression_code, new_code, new_shape, owner_in}
+use Rattle.source_lowering.specs.Lowered.{Named, element_names, expression_code, new_code, new_shape, owner_in}
 use Rattle.source_lowering.specs.Programs.{RegionsAround}
 use Rattle.source_lowering.specs.Simulation.{AreLocals, Point}
 use Rattle.source_lowering.proofs.expressions.Names.{AreObjectNames, IsPlainWorld}
 use Rattle.std.proofs.lemmas.Bool.{false≢true}
 use Rattle.source_lowering.proofs.expressions.Variables.{Agrees}
+use Rattle.source_lowering.proofs.statements.Blocks.{locals_outward, objects_outward}
 
 -- What lowering knows beside the scope: the names, the blocks around this one, and how far this one is; the unnamed values that are kept; and the regions in
--- scope, by which so many of the first temporaries are taken: within the elements of an array that is made, three more behind those before it.
+-- scope, by which so many of the first temporaries are taken.
 pub record Known : Type 0 where
   pub program : Program
   pub names : List Named
@@ -60,19 +60,24 @@ keeping_known scope k values known = record { world = known.world; locals = know
 
 -- ---- within the elements of an array
 
--- the name stands for the number of the element
-abbrev pub scope_at : Scope → List ℕ → ℕ → Scope
-scope_at scope name i = with_binding scope name (Fixed UnsignedShape (Integer AsUnsigned i))
+-- the index is the one local of a block, and the array's pointer and its count are in temporaries
+abbrev pub known_inside : Scope → Known → List ℕ → ℕ → Known
+known_inside scope k name d = record k {
+  names = element_names name k.names;
+  outer = scope.frame ∷ k.outer;
+  made = 1;
+  pending = [];
+  regions = record k.regions { all = d + 2 };
+}
 
--- which is in a temporary, behind the array's pointer and its count
-abbrev pub known_at : Known → List ℕ → ℕ → Known
-known_at k name d = record k { names = number_named name (d + 2) ∷ k.names; regions = record k.regions { all = d + 3 } }
-
-pub at_known : (scope : Scope) (k : Known) (name : List ℕ) (d i : ℕ) → i < 2 ^ 32 → IsKnown scope k → IsKnown (scope_at scope name i) (known_at k name d)
-at_known scope k name d i small known = record {
+pub inside_known : (scope : Scope) (k : Known) (name : List ℕ) (d a : ℕ) → IsKnown scope k → IsKnown (element_scope scope name a) (known_inside scope k name d)
+inside_known scope k name d a known = record {
   world = known.world;
-  locals = (record { named = refl; stands = record { word = i; is = refl; shape_is = refl; small = small } }, known.locals);
-  words = (tt, known.words);
+  locals = (
+    record { named = refl; stands = record { frame = a; in_block = refl; is = refl } },
+    locals_outward a (scope.frame ∷ k.outer) scope.locals k.names known.locals,
+  );
+  words = (tt, objects_outward scope.world.unions scope.world.structs k.names known.words);
 }
 
 -- ---- what is made
@@ -80,7 +85,7 @@ at_known scope k name d i small known = record {
 -- where to make it, and whether that is the unique region
 abbrev pub new_by : Made → Scope → (unique : Bool) → Act Maker → Sense
 new_by (One value) scope unique to = made scope.world to (owner_in unique) (sense value scope)
-new_by (Array index count element) scope unique to = array_made scope.world to (sense count scope) (λ i. sense element (scope_at scope index.text i))
+new_by (Array index count element) scope unique to = array_made scope.world to (sense count scope) (λ a. sense element (element_scope scope index.text a))
 
 pub new_is : (new : Made) (scope : Scope) → new_by new scope false heap_maker ≡ new_sense new scope
 new_is (One value) scope = refl

@@ -28,7 +28,8 @@ use Rattle.source_meaning.specs.Conversions.{cells_of, integer, size_of}
 use Rattle.source_meaning.specs.Making as making
 use Rattle.source_meaning.specs.Making.{InRegion, Maker, ask, make_object}
 use Rattle.source_meaning.specs.Places.{Sense, span_at}
-use Rattle.source_meaning.specs.Calls.{array_made, elements}
+use Rattle.source_meaning.specs.Calls.{array_made, elements, index_in, index_made}
+use Rattle.source_meaning.specs.Regions.{in_block}
 use Rattle.core_meaning.specs.Memory as core
 use Rattle.core_meaning.specs.Memory.{Birth, Pointer, Word, blanks, first_spot}
 use Rattle.core_meaning.specs.Core.{Constant, Do, Element, Statement, Statements}
@@ -38,7 +39,7 @@ use Rattle.core_meaning.specs.Operations.{saturated}
 use Rattle.core_meaning.specs.Meaning as meaning
 use Rattle.source_lowering.specs.Layouts.{extent_of, layout_of}
 use Rattle.source_lowering.specs.Members.{words_in}
-use Rattle.source_lowering.specs.Lowered.{array_code, element_by, elements_code, put, stores_code, values_by}
+use Rattle.source_lowering.specs.Lowered.{array_code, element_by, indexed_code, put, stores_code, values_by}
 use Rattle.source_lowering.specs.Lowerable.{AreStructs, IsObject, IsValueShape, TakesMember}
 use Rattle.source_lowering.specs.ObjectCells.{HasCells}
 use Rattle.source_lowering.specs.Simulation.{
@@ -63,7 +64,7 @@ use Rattle.source_lowering.proofs.memory.Keeping.{fits_later, later_on}
 use Rattle.source_lowering.proofs.memory.Members.{lies_here}
 use Rattle.source_lowering.proofs.memory.Entering.{last_made, local_made}
 use Rattle.source_lowering.proofs.memory.Loading.{after_temp}
-use Rattle.source_lowering.proofs.Runs.{says_same, stuck_same}
+use Rattle.source_lowering.proofs.Runs.{put_all, says_same, stuck_same}
 use Rattle.source_lowering.proofs.regions.Granting.{core_more, more_agree, more_later, source_more}
 use Rattle.source_lowering.proofs.statements.Declaring.{blank_keeps}
 use Rattle.source_lowering.proofs.values.Integers.{object_target, small_word, value_object}
@@ -78,7 +79,7 @@ use Rattle.source_lowering.proofs.expressions.Requests.{GivesMaker}
 use Rattle.source_lowering.proofs.expressions.Variables.{Agrees}
 use Rattle.source_lowering.proofs.expressions.WholeForms.{IsWholeAs}
 use Rattle.source_lowering.proofs.expressions.MadeElements.{ArrayAt, ElementAs, array_later, whole_element, value_element}
-use Rattle.source_lowering.proofs.expressions.MadeLoops.{elements_same, number_place}
+use Rattle.source_lowering.proofs.expressions.MadeLoops.{block_same, index_place}
 use Rattle.source_lowering.proofs.regions.Regions.{live_born}
 
 -- ---- the block is there
@@ -142,15 +143,19 @@ same_bytes bytes = by (nat_lt bytes (2 ^ 32)) refl
     by true e = let less : bytes < 2 ^ 32 = grind (arith, nat_tests, e) in omega (arith, less)
     by false e = let more : 2 ^ 32 ≤ bytes = grind (arith, nat_tests, e) in omega (arith, more)
 
+-- the elements, and the index 0 behind them
+abbrev behind_code : World → ℕ → (each : List Statement) → List Statement
+behind_code w d each = indexed_code w d each ++ (Do (Constant (d + 2) 0) ∷ [])
+
 -- Core behind the request
 abbrev asked : World → source.Memory → Config → (d r : ℕ) → Shape → ℕ → Config
 asked w m c d r shape count =
-    with_temp (d + 2) (Word 0) (with_temp d (Pointer (at (new_spot m r)) 0) (with_memory (core_arrayed w c.memory r shape count) c))
+    with_temp d (Pointer (at (new_spot m r)) 0) (with_memory (core_arrayed w c.memory r shape count) c)
 
 array_requested : (w : World) (d r count : ℕ) (shape : Shape) (each : List Statement) (c : Config) (rest : Statements) (next : Next) → c.temps d ≡ Birth r
     → c.temps (d + 1) ≡ Word count → core.is_live (c.memory.standing (core.Born r)) ≡ true → meaning.statements (put (array_code w shape d each) rest) next c
-    ≡ Says (core_steps.Visible (events.RegionAlloc r (saturated (count * (layout_of w shape).bytes)))) (meaning.statements (put (elements_code d each) rest) next
-    (with_temp (d + 2) (Word 0) (with_temp d (Pointer (first_spot c.memory (core.Born r)) 0) (with_memory (core_arrayed w c.memory r shape count) c))))
+    ≡ Says (core_steps.Visible (events.RegionAlloc r (saturated (count * (layout_of w shape).bytes)))) (meaning.statements (put (behind_code w d each) rest) next
+    (with_temp d (Pointer (first_spot c.memory (core.Born r)) 0) (with_memory (core_arrayed w c.memory r shape count) c)))
 array_requested w d r count shape each c rest next temp counted live = rw (temp, counted, live) refl
 
 -- the source is stuck where the region isn't live
@@ -158,7 +163,7 @@ array_request_same : (p : Point) (n d r count : ℕ) (shape : Shape) (each : Lis
     (s : Spot → source.Memory → steps.Step) (rest : Statements) (next : Next) → SameMemory p.world m c.memory → c.temps d ≡ Birth r
     → c.temps (d + 1) ≡ Word count
     → (is_live m (source.Born r) ≡ true → SameAt p n (s (new_spot m r) (source_arrayed p.world m r shape count))
-    (meaning.statements (put (elements_code d each) rest) next (asked p.world m c d r shape count)))
+    (meaning.statements (put (behind_code p.world d each) rest) next (asked p.world m c d r shape count)))
     → SameAt p n (ask (InRegion r) (making.saturated (count * size_of p.world shape)) (blank_array p.world shape count) s m)
     (meaning.statements (put (array_code p.world shape d each) rest) next c)
 array_request_same p n d r count shape each m c s rest next a temp counted go = by (is_live m (source.Born r)) refl
@@ -185,7 +190,7 @@ array_request_same p n d r count shape each m c s rest next a temp counted go = 
 -- each does the same as its code, with any fuel
 abbrev EachElement : Point → ℕ → List ℕ → (d : ℕ) → Shape → (ℕ → Sense) → List Statement → Type 0
 EachElement p n name d shape element_at each =
-    (j count k : ℕ) → j ≤ n → k < 2 ^ 32 → ElementAs (number_place p name d k) j d count k shape (element_at k).value each
+    (j a count k : ℕ) → j ≤ n → ElementAs (index_place p name d a) j d count k shape (element_at a).value each
 
 -- behind the elements the index is 0
 array_done : (p : Point) (n d count : ℕ) (shape : Shape) (m0 : source.Memory) (c0 : Config) (m : source.Memory) (c : Config) (t : Spot)
@@ -217,25 +222,30 @@ array_done p n d count shape m0 c0 m c t s k structs object few fits later kept 
     last : Config
     last = with_temp (d + 2) (Word 0) c
 
+-- what both do with the array
+abbrev filled : Point → Shape → (ℕ → Sense) → ℕ → (List Scalar → source.Memory → steps.Step) → Spot → source.Memory → steps.Step
+filled p shape element_at count s t =
+    in_block (λ k. index_made k >> elements (length (cells_of p.world shape)) count 0 t (index_in k) (element_at k)) (λ u. s (span_at count t ∷ []))
+
 -- the handle and the count are in temporaries
 array_there : (p : Point) (n : ℕ) (name : List ℕ) (d r count : ℕ) (shape : Shape) (element_at : ℕ → Sense) (each : List Statement) (m0 : source.Memory)
     (c0 : Config) (m : source.Memory) (c : Config) (s : List Scalar → source.Memory → steps.Step) (rest : Statements) (next : Next)
     → AreStructs p.world.unions p.world.structs → IsObject p.world.unions p.world.structs shape → count < 2 ^ 32 → EachElement p n name d shape element_at each
     → SameState p m c → GrownAt p m0 c0 m c → AreKept d c0 c → c.temps d ≡ Birth r → c.temps (d + 1) ≡ Word count
     → GoesOn p n d m0 c0 (FatShape shape) s (meaning.statements rest next)
-    → SameAt p n (ask (InRegion r) (making.saturated (count * size_of p.world shape)) (blank_array p.world shape count)
-    (λ t. elements (length (cells_of p.world shape)) count 0 t element_at (λ u. s (span_at count t ∷ []))) m)
+    → SameAt p n (ask (InRegion r) (making.saturated (count * size_of p.world shape)) (blank_array p.world shape count) (filled p shape element_at count s) m)
     (meaning.statements (put (array_code p.world shape d each) rest) next c)
 array_there p n name d r count shape element_at each m0 c0 m c s rest next structs object few one fits later kept temp counted goes =
-    array_request_same p n d r count shape each m c (λ t. elements (length (cells_of p.world shape)) count 0 t element_at (λ u. s (span_at count t ∷ []))) rest
-    next fits.agree temp counted
-    (λ live. elements_same p n name d count shape element_at each goes.above few (λ j k below less. one j count k below (over less (omega (arith, few)))) count 0 n m1 c1 t
-    (s (span_at count t ∷ [])) (λ exit. meaning.falls_to exit (meaning.statements (put (Do (Constant (d + 2) 0) ∷ []) rest) next) next) (omega arith)
-    (omega arith) (fits1 live) there1 (put_temp (d + 2) (Word 0) middle) (λ m2 c2 fits2 later2 kept2.
+    array_request_same p n d r count shape each m c (filled p shape element_at count s) rest next fits.agree temp counted
+    (λ live.
+    subst (λ z. SameAt p n (filled p shape element_at count s t m1) (meaning.statements z next c1))
+    (sym (put_all (indexed_code p.world d each) (Do (Constant (d + 2) 0) ∷ []) rest))
+    (block_same p n name d count shape element_at each m1 c1 t (s (span_at count t ∷ [])) (put (Do (Constant (d + 2) 0) ∷ []) rest) next goes.above few
+    (λ j a k below less. one j a count k below) (fits1 live) there1 (λ m2 c2 fits2 later2 kept2.
     array_done p n d count shape m0 c0 m2 c2 t s (meaning.statements rest next) structs object few fits2
     (later_on (within p) m0 m m2 c0.memory c.memory c2.memory later (later_on (within p) m m1 m2 c.memory c1.memory c2.memory later1 later2))
     (λ k h. kept2 k (over h (omega arith)) ∙ kept1 k h ∙ kept k h)
-    (array_later p m1 c1 d count shape t m2 c2 later2 kept2 there1) goes))
+    (array_later p m1 c1 d count shape t m2 c2 later2 kept2 there1) goes)))
   where
     t : Spot
     t = new_spot m r
@@ -246,9 +256,6 @@ array_there p n name d r count shape element_at each m0 c0 m c s rest next struc
     granted : Config
     granted = with_memory (core_arrayed p.world c.memory r shape count) c
 
-    middle : Config
-    middle = with_temp d (Pointer (at t) 0) granted
-
     c1 : Config
     c1 = asked p.world m c d r shape count
 
@@ -257,22 +264,19 @@ array_there p n name d r count shape element_at each m0 c0 m c s rest next struc
 
     fits1 : is_live m (source.Born r) ≡ true → SameState p m1 c1
     fits1 live =
-        temp_fits p m1 middle (d + 2) (Word 0)
-        (temp_fits p m1 granted d (Pointer (at t) 0)
+        temp_fits p m1 granted d (Pointer (at t) 0)
         (fits_later p m m1 c granted fits
         (more_agree p.world m c.memory r (blank_array p.world shape count) (blanks (layout_of p.world shape) count)
         (λ cell of x v keeps e. array_keeps p.world shape count cell of x v keeps e) (live_born p.world m c.memory fits.agree r live) fits.agree) later1 refl
-        (λ k h. refl)) goes.above)
-        (over goes.above (omega arith))
+        (λ k h. refl)) goes.above
 
     kept1 : AreKept d c c1
-    kept1 = kept_temp d (d + 2) (Word 0) c middle (omega arith) (kept_temp d d (Pointer (at t) 0) c granted (omega arith) (λ k h. refl))
+    kept1 = kept_temp d d (Pointer (at t) 0) c granted (omega arith) (λ k h. refl)
 
     there1 : ArrayAt p m1 c1 d count shape t
     there1 = record {
-      pointer = other_temp (d + 2) d (Word 0) middle (omega arith) ∙ put_temp d (Pointer (at t) 0) granted;
-      counted = other_temp (d + 2) (d + 1) (Word 0) middle (omega arith) ∙
-          after_temp d (d + 1) (Pointer (at t) 0) granted (omega arith) ∙ counted;
+      pointer = put_temp d (Pointer (at t) 0) granted;
+      counted = after_temp d (d + 1) (Pointer (at t) 0) granted (omega arith) ∙ counted;
       leads = array_leads p.world m c.memory r shape count (lies_here p.world shape structs object).cells fits.agree;
     }
 
@@ -294,14 +298,19 @@ array_agrees p n name d to count element_at count_shape shape code count_code ea
     array : List Statement
     array = array_code p.world shape d each
 
+    -- the elements, of so many cells each
+    filled_by : Shape → ℕ → (List Scalar → source.Memory → steps.Step) → Spot → source.Memory → steps.Step
+    filled_by z k s t =
+        in_block (λ a. index_made a >> elements (length (cells_of p.world z)) k 0 t (index_in a) (element_at a)) (λ u. s (span_at k t ∷ []))
+
     -- what is made of a region and a number
     make : Shape → ℕ → (List Scalar → source.Memory → steps.Step) → ℕ → source.Memory → steps.Step
     make z r s k = ask (InRegion r) (making.saturated (k * size_of p.world z)) (blank_array p.world z k)
-        (λ t. elements (length (cells_of p.world z)) k 0 t element_at (λ u. s (span_at k t ∷ [])))
+        (filled_by z k s)
 
     made_by : Shape → Maker → (List Scalar → source.Memory → steps.Step) → source.Memory → steps.Step
     made_by z maker s = count.look (λ vs. conversions.one vs (λ v. integer v (λ k. ask maker (making.saturated (k * size_of p.world z))
-        (blank_array p.world z k) (λ t. elements (length (cells_of p.world z)) k 0 t element_at (λ u. s (span_at k t ∷ []))))))
+        (blank_array p.world z k) (filled_by z k s))))
 
     gives : GivesAs p n d (FatShape shape) (array_made p.world to count element_at).look (code ++ (count_code ++ array))
     gives = record {
@@ -336,10 +345,9 @@ pub made_array : (p : Point) (n : ℕ) (name : List ℕ) (d first : ℕ) (to : s
     (count_shape shape : Shape) (whole_values word_values : List Shape) (code count_code whole word : List Statement) (takes_whole takes : Type 0)
     → AreStructs p.world.unions p.world.structs → IsObject p.world.unions p.world.structs shape → p.kept ≤ first → TakesMember shape takes_whole takes
     → AreNumbered p.owned first (values_by shape whole_values word_values) → GivesMaker p n d to code → Agrees p n (d + 1) count count_shape count_code
-    → (takes_whole → AreNumbered p.owned first whole_values → (j k : ℕ) → j ≤ n → k < 2 ^ 32
-    → IsWholeAs (number_place p name d k) j (d + 3) first (element_at k) shape whole)
-    → (takes → AreNumbered p.owned first word_values → (j k : ℕ) → j ≤ n → k < 2 ^ 32
-    → Agrees (number_place p name d k) j (d + 3) (element_at k) shape word)
+    → (takes_whole → AreNumbered p.owned first whole_values → (j a : ℕ) → j ≤ n
+    → IsWholeAs (index_place p name d a) j (d + 3) first (element_at a) shape whole)
+    → (takes → AreNumbered p.owned first word_values → (j a : ℕ) → j ≤ n → Agrees (index_place p name d a) j (d + 3) (element_at a) shape word)
     → Agrees p n d (array_made p.world to count element_at) (FatShape shape)
     (code ++ (count_code ++ array_code p.world shape d (element_by p.world shape d whole word)))
 made_array p n name d first to count element_at count_shape shape whole_values word_values code count_code whole word takes_whole takes structs object less h
@@ -349,33 +357,28 @@ made_array p n name d first to count element_at count_shape shape whole_values w
     goal z = Agrees p n d (array_made p.world to count element_at) (FatShape z)
         (code ++ (count_code ++ array_code p.world z d (element_by p.world z d whole word)))
 
-    none : 0 < 2 ^ 32
-    none = omega arith
-
     stored : Shape → List Statement
     stored z = word ++ (Do (Element (d + 3 + words_in z) d (d + 2) (length (cells_of p.world z)) (extent_of p.world z).size) ∷
         stores_code z (d + 3 + words_in z) (d + 3) 0 0)
 
-    value : (z : Shape) → IsValueShape z → ((j k : ℕ) → j ≤ n → k < 2 ^ 32 → Agrees (number_place p name d k) j (d + 3) (element_at k) z word)
+    value : (z : Shape) → IsValueShape z → ((j a : ℕ) → j ≤ n → Agrees (index_place p name d a) j (d + 3) (element_at a) z word)
         → Agrees p n d (array_made p.world to count element_at) (FatShape z) (code ++ (count_code ++ array_code p.world z d (stored z)))
     value z is_value one =
         array_agrees p n name d to count element_at count_shape z code count_code (stored z) structs (value_object p.world.unions p.world.structs z is_value)
-        (one n 0 (omega arith) none).shape_is handle counts
-        (λ j many k below small.
-        value_element (number_place p name d k) j d many k z (element_at k) word structs is_value (omega arith) (one j k below small))
+        (one n 0 (omega arith)).shape_is handle counts
+        (λ j a many k below. value_element (index_place p name d a) j d many k z (element_at a) word structs is_value (omega arith) (one j a below))
 
     by : (z : Shape) → IsObject p.world.unions p.world.structs z → TakesMember z takes_whole takes
         → AreNumbered p.owned first (values_by z whole_values word_values)
-        → (takes_whole → AreNumbered p.owned first whole_values → (j k : ℕ) → j ≤ n → k < 2 ^ 32
-        → IsWholeAs (number_place p name d k) j (d + 3) first (element_at k) z whole)
-        → (takes → AreNumbered p.owned first word_values → (j k : ℕ) → j ≤ n → k < 2 ^ 32
-        → Agrees (number_place p name d k) j (d + 3) (element_at k) z word) → goal z
+        → (takes_whole → AreNumbered p.owned first whole_values → (j a : ℕ) → j ≤ n
+        → IsWholeAs (index_place p name d a) j (d + 3) first (element_at a) z whole)
+        → (takes → AreNumbered p.owned first word_values → (j a : ℕ) → j ≤ n → Agrees (index_place p name d a) j (d + 3) (element_at a) z word) → goal z
     by (StructShape tag) o t nums as_struct as_word =
         let one = as_struct t nums in
         array_agrees p n name d to count element_at count_shape (StructShape tag) code count_code
-        (element_by p.world (StructShape tag) d whole word) structs o (one n 0 (omega arith) none).shape_is handle counts
-        (λ j many k below small.
-        whole_element (number_place p name d k) j d many k first (StructShape tag) (element_at k) whole structs o (omega arith) less (one j k below small))
+        (element_by p.world (StructShape tag) d whole word) structs o (one n 0 (omega arith)).shape_is handle counts
+        (λ j a many k below.
+        whole_element (index_place p name d a) j d many k first (StructShape tag) (element_at a) whole structs o (omega arith) less (one j a below))
     by IntShape o t nums as_struct as_word = value IntShape tt (as_word t nums)
     by UnsignedShape o t nums as_struct as_word = value UnsignedShape tt (as_word t nums)
     by CharShape o t nums as_struct as_word = value CharShape tt (as_word t nums)
@@ -387,7 +390,7 @@ made_array p n name d first to count element_at count_shape shape whole_values w
     by (UnionShape tag) o t nums as_struct as_word =
         let one = as_struct t nums in
         array_agrees p n name d to count element_at count_shape (UnionShape tag) code count_code
-        (element_by p.world (UnionShape tag) d whole word) structs o (one n 0 (omega arith) none).shape_is handle counts
-        (λ j many k below small.
-        whole_element (number_place p name d k) j d many k first (UnionShape tag) (element_at k) whole structs o (omega arith) less (one j k below small))
+        (element_by p.world (UnionShape tag) d whole word) structs o (one n 0 (omega arith)).shape_is handle counts
+        (λ j a many k below.
+        whole_element (index_place p name d a) j d many k first (UnionShape tag) (element_at a) whole structs o (omega arith) less (one j a below))
     by (ArrayShape many of) o t nums as_struct as_word = absurd o

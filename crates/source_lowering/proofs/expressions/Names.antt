@@ -1,19 +1,17 @@
 -- A name is found by lowering where the source finds it.
-use Rattle.std.proofs.Common.{◌≡◌, ℕ, suc, ◌⊎◌, inl, inr, ⊎_elim, List, [], ◌∷◌, Bool, true, false, Some, None, refl, sym, ap, ◌∙◌, subst, ◌^◌, ◌<◌}
+use Rattle.std.proofs.Common.{◌≡◌, ℕ, suc, ◌⊎◌, inl, inr, ⊎_elim, List, [], ◌∷◌, Bool, true, false, Some, None, refl, sym, ap, ◌∙◌, subst}
 use Rattle.std.specs.Prelude.{slice_get, bytes_eq, if◌then◌else◌}
-use Rattle.source_meaning.specs.Shapes.{Shape, UnsignedShape, Part, Layout}
+use Rattle.source_meaning.specs.Shapes.{Shape, Part, Layout}
 use Rattle.source_meaning.specs.Memory as source
-use Rattle.source_meaning.specs.Memory.{AsUnsigned, Integer}
-use Rattle.source_meaning.specs.Steps.{World, Entity, Variable, Fixed, Binding, Routine}
+use Rattle.source_meaning.specs.Steps.{World, Variable, Binding, Routine}
 use Rattle.source_meaning.specs.Places.{bound_to}
 use Rattle.source_meaning.specs.Calls.{function_of}
 use Rattle.source_meaning.specs.Programs.{is_main, heap_spot}
 use Rattle.source_meaning.specs.Shapes.{IntShape}
 use Rattle.core_meaning.specs.Memory as core
-use Rattle.core_meaning.specs.Memory.{Content, Word}
-use Rattle.source_lowering.specs.Lowered.{Home, InBlock, InTemporary, Named, number_named, local_named, number_of}
+use Rattle.source_lowering.specs.Lowered.{Home, InBlock, Named, local_named, number_of}
 use Rattle.source_lowering.specs.Lowerable.{IsVariable, AreUnions, AreStructs, TakesBody}
-use Rattle.source_lowering.specs.Simulation.{VariableLeads, IsLed, AreLed, StandsFor, IsLocal, AreLocals, HoldsNumber, IsHeld, AreHeld}
+use Rattle.source_lowering.specs.Simulation.{VariableLeads, IsLed, AreLed, StandsFor, IsLocal, AreLocals}
 use Rattle.source_lowering.proofs.values.Integers.{IsTaken, IsValueShape}
 use Rattle.source_lowering.proofs.expressions.Making.{local_spot}
 
@@ -69,29 +67,16 @@ pub record FoundLocal (unions structs : List Layout) (blocks : List ℕ) (bs : L
   pub is_variable : IsVariable unions structs shape
   pub led : (v : World) (m : source.Memory) (c : core.Memory) → AreLed v m c bs → VariableLeads v m c shape (local_spot frame index)
 
--- the number of an element that is being made
-pub record FoundNumber (bs : List Binding) (ls : List Named) (name : List ℕ) : Type 0 where
-  pub key : List ℕ
-  pub t : ℕ
-  pub word : ℕ
-  pub found : local_named ls name ≡ Some (number_named key t)
-  pub bound : bound_to bs name ≡ Some (Fixed UnsignedShape (Integer AsUnsigned word))
-  pub small : word < 2 ^ 32
-  pub holds : (taken : ℕ) (temps : ℕ → Content) → AreHeld taken temps bs ls → temps t ≡ Word word
-
 pub record MissingLocal (bs : List Binding) (ls : List Named) (name : List ℕ) : Type 0 where
   pub found : local_named ls name ≡ None
   pub bound : bound_to bs name ≡ None
 
 abbrev pub Found : (unions structs : List Layout) (blocks : List ℕ) (bs : List Binding) (ls : List Named) (name : List ℕ) → Type 0
-Found unions structs blocks bs ls name = FoundLocal unions structs blocks bs ls name ⊎ (FoundNumber bs ls name ⊎ MissingLocal bs ls name)
-
-same_word : (e : Entity) (i j : ℕ) → e ≡ Fixed UnsignedShape (Integer AsUnsigned i) → e ≡ Fixed UnsignedShape (Integer AsUnsigned j) → i ≡ j
-same_word e i j f g = let one : Fixed UnsignedShape (Integer AsUnsigned i) ≡ Fixed UnsignedShape (Integer AsUnsigned j) = sym f ∙ g in cc one
+Found unions structs blocks bs ls name = FoundLocal unions structs blocks bs ls name ⊎ MissingLocal bs ls name
 
 pub find_local : (unions structs : List Layout) (blocks : List ℕ) (bs : List Binding) (ls : List Named) (name : List ℕ) → AreLocals blocks bs ls
     → AreObjectNames unions structs ls → Found unions structs blocks bs ls name
-find_local unions structs blocks [] [] name all integers = inr (inr (record { found = refl; bound = refl }))
+find_local unions structs blocks [] [] name all integers = inr (record { found = refl; bound = refl })
 find_local unions structs blocks [] (l ∷ ls) name all integers = absurd all
 find_local unions structs blocks (b ∷ bs) [] name all integers = absurd all
 find_local unions structs blocks (b ∷ bs) (l ∷ ls) name all integers =
@@ -116,21 +101,10 @@ find_local unions structs blocks (b ∷ bs) (l ∷ ls) name all integers =
           is_variable = f.is_variable;
           led = λ w m c h. f.led w m c h.1;
         }))
-        (λ (g : FoundNumber bs ls name ⊎ MissingLocal bs ls name). inr (⊎_elim
-        (λ (f : FoundNumber bs ls name). inl (record {
-          key = f.key;
-          t = f.t;
-          word = f.word;
-          found = ap (λ z. if z then Some l else local_named ls name) e ∙ f.found;
-          bound = ap (λ z. if z then Some b.entity else bound_to bs name) same ∙ f.bound;
-          small = f.small;
-          holds = λ taken temps h. f.holds taken temps h.1;
-        }))
         (λ (f : MissingLocal bs ls name). inr (record {
           found = ap (λ z. if z then Some l else local_named ls name) e ∙ f.found;
           bound = ap (λ z. if z then Some b.entity else bound_to bs name) same ∙ f.bound;
         }))
-        g))
         rest
 
     here : bytes_eq l.name name ≡ true → (h : Home) → l.home ≡ h → StandsFor blocks b.entity l.shape h → Found unions structs blocks (b ∷ bs) (l ∷ ls) name
@@ -146,19 +120,6 @@ find_local unions structs blocks (b ∷ bs) (l ∷ ls) name all integers =
       is_variable = integers.0;
       led = λ w m c h. subst (λ z. IsLed w m c z) stands.is h.0;
     })
-    here e (InTemporary t) is stands = inr (inl (record {
-      key = l.name;
-      t = t;
-      word = stands.word;
-      found = ap (λ z. if z then Some l else local_named ls name) e ∙
-          (ap (λ z. Some (record { name = l.name; shape = l.shape; home = z })) is ∙
-          ap (λ z. Some (record { name = l.name; shape = z; home = InTemporary t })) stands.shape_is);
-      bound = ap (λ z. if z then Some b.entity else bound_to bs name) (ap (λ z. bytes_eq z name) one.named ∙ e) ∙ ap (λ z. Some z) stands.is;
-      small = stands.small;
-      holds = λ taken temps h.
-          let g : HoldsNumber taken temps b.entity t = subst (λ z. IsHeld taken temps b.entity z) is h.0 in
-          g.holds ∙ ap (λ z. Word z) (same_word b.entity g.word stands.word g.is stands.is);
-    }))
 
     by : (t : Bool) → bytes_eq l.name name ≡ t → Found unions structs blocks bs ls name → Found unions structs blocks (b ∷ bs) (l ∷ ls) name
     by true e rest = here e l.home refl one.stands

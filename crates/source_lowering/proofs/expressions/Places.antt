@@ -52,7 +52,7 @@ use Rattle.source_lowering.proofs.memory.Members.{lies_here}
 use Rattle.source_lowering.proofs.expressions.Making.{local_spot}
 use Rattle.source_lowering.proofs.values.Values.{put_temp, kept_temp, temp_fits, put_value, over}
 use Rattle.source_lowering.proofs.expressions.Elements.{element_same}
-use Rattle.source_lowering.proofs.expressions.Names.{AreObjectNames, AreGlobals, FoundLocal, FoundNumber, MissingLocal, find_local, FoundGlobal, find_global}
+use Rattle.source_lowering.proofs.expressions.Names.{AreObjectNames, AreGlobals, FoundLocal, MissingLocal, find_local, FoundGlobal, find_global}
 use Rattle.source_lowering.proofs.expressions.Variables.{Agrees}
 
 -- ---- forms
@@ -169,24 +169,13 @@ pub variable_placed : (p : Point) (n d : ℕ) (name : List ℕ) → AreLocals (p
     → IsPlaced p n d (entity_sense p.world (or_else (bound_to p.locals name) (bound_to p.world.globals name))) (valued (shape_by (local_named p.names name)
     (bound_to p.world.globals name))) (address_by (local_named p.names name) (bound_to p.world.globals name) d)
 variable_placed p n d name locals words globals structs =
-    ⊎_elim here (λ g. ⊎_elim number missing g) (find_local p.world.unions p.world.structs (p.frame ∷ p.outer) p.locals p.names name locals words)
+    ⊎_elim here missing (find_local p.world.unions p.world.structs (p.frame ∷ p.outer) p.locals p.names name locals words)
   where
     here : FoundLocal p.world.unions p.world.structs (p.frame ∷ p.outer) p.locals p.names name → IsPlaced p n d (entity_sense p.world
         (or_else (bound_to p.locals name) (bound_to p.world.globals name))) (valued (shape_by (local_named p.names name) (bound_to p.world.globals name)))
         (address_by (local_named p.names name) (bound_to p.world.globals name) d)
     here f = rw (f.bound, f.found)
         (local_variable p n d f.out f.index f.frame f.shape structs f.is_variable f.in_block (f.led p.world))
-
-    number : FoundNumber p.locals p.names name → IsPlaced p n d (entity_sense p.world
-        (or_else (bound_to p.locals name) (bound_to p.world.globals name))) (valued (shape_by (local_named p.names name) (bound_to p.world.globals name)))
-        (address_by (local_named p.names name) (bound_to p.world.globals name) d)
-    number f = rw (f.bound, f.found) (record {
-      shape_is = refl;
-      target = tt;
-      placed = stuck_placed p n d UnsignedShape [];
-      value = λ whole s m. absurd whole;
-      look = λ whole s m. absurd whole;
-    })
 
     missing : MissingLocal p.locals p.names name → IsPlaced p n d (entity_sense p.world
         (or_else (bound_to p.locals name) (bound_to p.world.globals name))) (valued (shape_by (local_named p.names name) (bound_to p.world.globals name)))

@@ -36,7 +36,7 @@ use Rattle.source_lowering.proofs.memory.Loading.{with_contents, other_contents,
 use Rattle.source_lowering.proofs.values.Integers.{IsMovedShape, key_moved, one_content, one_word, word_value}
 use Rattle.source_lowering.proofs.values.Values.{put_temp, other_temp}
 use Rattle.source_lowering.proofs.expressions.Making.{local_spot}
-use Rattle.source_lowering.proofs.expressions.Names.{AreObjectNames, AreGlobals, FoundLocal, FoundNumber, MissingLocal, find_local, FoundGlobal, find_global}
+use Rattle.source_lowering.proofs.expressions.Names.{AreObjectNames, AreGlobals, FoundLocal, MissingLocal, find_local, FoundGlobal, find_global}
 use Rattle.source_lowering.proofs.expressions.Places.{LocalVariable, GlobalVariable}
 use Rattle.source_lowering.proofs.expressions.Variables.{got}
 use Rattle.source_lowering.proofs.expressions.VariableForms.{LocalLed, GlobalLed}
@@ -144,7 +144,7 @@ pub pointer_named : (p : Point) (n d : ℕ) (name : List ℕ) → AreLocals (p.f
     → IsPointer p n d (or_else (bound_to p.locals name) (bound_to p.world.globals name))
     (valued (shape_by (local_named p.names name) (bound_to p.world.globals name))) (get_by (local_named p.names name) (bound_to p.world.globals name) d)
 pointer_named p n d name locals objects globals thin =
-    ⊎_elim here (λ g. ⊎_elim number missing g) (find_local p.world.unions p.world.structs (p.frame ∷ p.outer) p.locals p.names name locals objects)
+    ⊎_elim here missing (find_local p.world.unions p.world.structs (p.frame ∷ p.outer) p.locals p.names name locals objects)
   where
     Goal : Type 0
     Goal = IsPointer p n d (or_else (bound_to p.locals name) (bound_to p.world.globals name))
@@ -154,9 +154,6 @@ pointer_named p n d name locals objects globals thin =
     here f = rw (f.bound, f.found)
         (local_is p n d f.out f.index f.frame f.shape f.is_variable
         (subst (λ z. IsMovedShape (valued (shape_by z (bound_to p.world.globals name)))) f.found thin) f.in_block (f.led p.world))
-
-    number : FoundNumber p.locals p.names name → Goal
-    number f = absurd (subst (λ z. IsMovedShape (valued (shape_by z (bound_to p.world.globals name)))) f.found thin)
 
     missing : MissingLocal p.locals p.names name → Goal
     missing f =

@@ -48,7 +48,6 @@ use Rattle.source_lowering.specs.Simulation.{
   contents_in,
   within,
 }
-use Rattle.source_lowering.proofs.memory.Held.{numbers_kept}
 use Rattle.source_lowering.proofs.memory.Keeping.{later_on, fits_later, m_written, shown_later}
 use Rattle.source_lowering.proofs.memory.Moving.{moved_out, out_same, held_one, taking}
 use Rattle.source_lowering.proofs.memory.CellParts.{with_values}
@@ -69,8 +68,6 @@ contents_fits p m c d xs f above = record {
   agree = f.agree;
   blocks = f.blocks;
   locals = f.locals;
-  held = numbers_kept p.regions.all c (with_contents d xs c) p.locals p.names
-      (λ i less. other_contents d i xs c (omega (arith, less, above))) f.held;
   statics = f.statics;
   begun = f.begun;
   made = f.made;

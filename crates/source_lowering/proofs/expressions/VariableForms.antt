@@ -19,7 +19,7 @@ use Rattle.source_meaning.specs.Shapes.{
 use Rattle.source_meaning.specs.Memory as source
 use Rattle.source_meaning.specs.Memory.{AsUnsigned, Integer, Scalar, Spot, any_moved}
 use Rattle.source_meaning.specs.Steps as steps
-use Rattle.source_meaning.specs.Steps.{Variable, Fixed, give}
+use Rattle.source_meaning.specs.Steps.{Variable, give}
 use Rattle.source_meaning.specs.Conversions.{cells_of}
 use Rattle.source_meaning.specs.Places.{span_at, place_sense, entity_sense, bound_to, or_else}
 use Rattle.source_meaning.specs.Programs.{heap_spot}
@@ -43,7 +43,7 @@ use Rattle.source_lowering.proofs.memory.Moving.{taking}
 use Rattle.source_lowering.proofs.Runs.{stuck_same}
 use Rattle.source_lowering.proofs.values.Integers.{value_taken, object_value, object_target}
 use Rattle.source_lowering.proofs.memory.Members.{lies_here}
-use Rattle.source_lowering.proofs.expressions.Names.{AreObjectNames, AreGlobals, FoundLocal, FoundNumber, MissingLocal, find_local, FoundGlobal, find_global}
+use Rattle.source_lowering.proofs.expressions.Names.{AreObjectNames, AreGlobals, FoundLocal, MissingLocal, find_local, FoundGlobal, find_global}
 use Rattle.source_lowering.proofs.expressions.Places.{LocalVariable, GlobalVariable, addressed, local_placed, global_placed}
 use Rattle.source_lowering.proofs.expressions.Reaching.{placed_reached}
 use Rattle.source_lowering.proofs.expressions.ValuePlaces.{value_read, value_stored}
@@ -239,23 +239,6 @@ global_single p {name} none g single =
     subst (λ z. IsOperandShape (valued (shape_by None z))) g.bound
     (subst (λ z. IsOperandShape (valued (shape_by z (bound_to p.world.globals name)))) none single)
 
--- the number of an element is read from its temporary
-number_agrees : (p : Point) (n d : ℕ) {name : List ℕ} (f : FoundNumber p.locals p.names name)
-    → Agrees p n d (entity_sense p.world (Some (Fixed UnsignedShape (Integer AsUnsigned f.word)))) UnsignedShape (Do (Move d f.t) ∷ [])
-number_agrees p n d f = record { shape_is = refl; taken = tt; looks = gives; values = gives }
-  where
-    gives : GivesAs p n d UnsignedShape (give (Integer AsUnsigned f.word ∷ [])) (Do (Move d f.t) ∷ [])
-    gives = record {
-      same = λ m c s rest next fits goes.
-          put_value p n d m c m c UnsignedShape (Integer AsUnsigned f.word ∷ []) (c.temps f.t) s (meaning.statements rest next) fits
-          (later_self (within p) m c.memory) (λ k h. refl) refl
-          (inl (record {
-            value = Integer AsUnsigned f.word;
-            alone = refl;
-            shown = record { word = f.word; value = refl; shown = ap (λ z. z ∷ []) (f.holds p.regions.all c.temps fits.held); small = f.small };
-          })) goes;
-    }
-
 pub variable_agrees : (p : Point) (n d : ℕ) (name : List ℕ) → AreLocals (p.frame ∷ p.outer) p.locals p.names
     → AreObjectNames p.world.unions p.world.structs p.names
     → AreGlobals p.world.unions p.world.structs p.world.globals → AreStructs p.world.unions p.world.structs
@@ -263,7 +246,7 @@ pub variable_agrees : (p : Point) (n d : ℕ) (name : List ℕ) → AreLocals (p
     → Agrees p n d (entity_sense p.world (or_else (bound_to p.locals name) (bound_to p.world.globals name))) (valued (shape_by (local_named p.names name)
     (bound_to p.world.globals name))) (get_by (local_named p.names name) (bound_to p.world.globals name) d)
 variable_agrees p n d name locals objects globals structs single =
-    ⊎_elim here (λ g. ⊎_elim number missing g) (find_local p.world.unions p.world.structs (p.frame ∷ p.outer) p.locals p.names name locals objects)
+    ⊎_elim here missing (find_local p.world.unions p.world.structs (p.frame ∷ p.outer) p.locals p.names name locals objects)
   where
     here : FoundLocal p.world.unions p.world.structs (p.frame ∷ p.outer) p.locals p.names name
         → Agrees p n d (entity_sense p.world (or_else (bound_to p.locals name)
@@ -271,10 +254,6 @@ variable_agrees p n d name locals objects globals structs single =
         (get_by (local_named p.names name) (bound_to p.world.globals name) d)
     here f = rw (f.bound, f.found)
         (local_agrees p n d f.out f.index f.frame f.shape structs f.is_variable (local_single p f single) f.in_block (f.led p.world))
-
-    number : FoundNumber p.locals p.names name → Agrees p n d (entity_sense p.world (or_else (bound_to p.locals name) (bound_to p.world.globals name)))
-        (valued (shape_by (local_named p.names name) (bound_to p.world.globals name))) (get_by (local_named p.names name) (bound_to p.world.globals name) d)
-    number f = rw (f.bound, f.found) (number_agrees p n d f)
 
     missing : MissingLocal p.locals p.names name → Agrees p n d (entity_sense p.world (or_else (bound_to p.locals name) (bound_to p.world.globals name)))
         (valued (shape_by (local_named p.names name) (bound_to p.world.globals name))) (get_by (local_named p.names name) (bound_to p.world.globals name) d)
@@ -314,7 +293,7 @@ pub variable_stores : (p : Point) (n d : ℕ) (name : List ℕ) → AreLocals (p
     → StoresAs p n d (valued (shape_by (local_named p.names name) (bound_to p.world.globals name))) (entity_sense p.world
     (or_else (bound_to p.locals name) (bound_to p.world.globals name))).place (put_by (local_named p.names name) (bound_to p.world.globals name) d)
 variable_stores p n d name locals objects globals structs single =
-    ⊎_elim here (λ g. ⊎_elim number missing g) (find_local p.world.unions p.world.structs (p.frame ∷ p.outer) p.locals p.names name locals objects)
+    ⊎_elim here missing (find_local p.world.unions p.world.structs (p.frame ∷ p.outer) p.locals p.names name locals objects)
   where
     here : FoundLocal p.world.unions p.world.structs (p.frame ∷ p.outer) p.locals p.names name
         → StoresAs p n d (valued (shape_by (local_named p.names name) (bound_to p.world.globals name)))
@@ -322,11 +301,6 @@ variable_stores p n d name locals objects globals structs single =
         (bound_to p.world.globals name) d)
     here f = rw (f.bound, f.found)
         (local_stores p n d f.out f.index f.frame f.shape structs f.is_variable (local_single p f single) f.in_block (f.led p.world))
-
-    number : FoundNumber p.locals p.names name → StoresAs p n d (valued (shape_by (local_named p.names name) (bound_to p.world.globals name)))
-        (entity_sense p.world (or_else (bound_to p.locals name) (bound_to p.world.globals name))).place (put_by (local_named p.names name)
-        (bound_to p.world.globals name) d)
-    number f = rw (f.bound, f.found) (stuck_stores p n d UnsignedShape [])
 
     missing : MissingLocal p.locals p.names name → StoresAs p n d (valued (shape_by (local_named p.names name) (bound_to p.world.globals name)))
         (entity_sense p.world (or_else (bound_to p.locals name) (bound_to p.world.globals name))).place (put_by (local_named p.names name)

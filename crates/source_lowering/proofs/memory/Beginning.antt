@@ -125,15 +125,21 @@ pub record BeginsIn (p q : Point) (n : ℕ) (m0 : source.Memory) (c0 : Config) (
   pub go : (m : source.Memory) (c : Config) → SameState q m c → Grown (around p p.frame) m0 c0.memory m c.memory → activation c ≡ activation c0
       → AreKept p.regions.all c0 c → SameAt p n (s m) (k c)
 
+-- behind that of a word, whose first content is in the first free temporary
+pub record BeginsAs (p q : Point) (n : ℕ) (x : Content) (m0 : source.Memory) (c0 : Config) (s : source.Memory → steps.Step) (k : Config → core_steps.Step) :
+    Type 0 where
+  pub go : (m : source.Memory) (c : Config) → SameState q m c → ((b : Bound) → b.frames ≤ p.frame → Grown b m0 c0.memory m c.memory)
+      → activation c ≡ activation c0 → AreKept p.regions.all c0 c → c.temps p.regions.all ≡ x → SameAt p n (s m) (k c)
+
 -- a word
-word_begins : (p : Point) (n : ℕ) (scope : Scope) (name : List ℕ) (shape : Shape) (shapes : List Shape) (then_act : Scope → Act Flow)
+pub word_begun : (p : Point) (n : ℕ) (scope : Scope) (name : List ℕ) (shape : Shape) (shapes : List Shape) (then_act : Scope → Act Flow)
     (next : Flow → source.Memory → steps.Step) (m : source.Memory) (c : Config) (rest : Statements) (after : Next)
     → scope.world ≡ p.world → scope.frame ≡ p.frame → IsWordShape shape → HasFirst shape → p.pending ≡ shape ∷ shapes → SameState p m c
-    → BeginsIn p (with_local p name shape shapes) n m c (λ m'. then_act (with_binding scope name (Variable shape (local_spot p.frame p.made))) next m')
-    (meaning.statements rest after)
+    → BeginsAs p (with_local p name shape shapes) n (first_part shape) m c
+    (λ m'. then_act (with_binding scope name (Variable shape (local_spot p.frame p.made))) next m') (meaning.statements rest after)
     → SameAt p n (declared scope name shape (first_object scope.world shape) then_act next m) (meaning.statements
     (MoreStatements (Do (first_code shape p.regions.all)) (MoreStatements (Do (Put 0 p.made (width_of shape) p.regions.all)) rest)) after c)
-word_begins p n scope name shape shapes then_act next m c rest after world frame is_word begins pending fits goes =
+word_begun p n scope name shape shapes then_act next m c rest after world frame is_word begins pending fits goes =
     declared_by p n scope name shape (λ w. first_object w shape) then_act next m code world frame fits.made stored
   where
     code : core_steps.Step
@@ -206,9 +212,21 @@ word_begins p n scope name shape shapes then_act next m c rest after world frame
         (ap (fitting (width_of shape)) (put_temp p.regions.all first.content c) ∙ first.fits)))
         (goes.go (m_made m p.frame (first_object p.world shape)) c1
         (begins_fits p m c1 name shape shapes values object pending fits1 (λ cell of e. only cell of (ap (λ z. slice_get z cell) (sym plain.cells) ∙ e)))
-        (later_on (around p p.frame) m m (m_made m p.frame (first_object p.world shape)) c.memory c1.memory c1.memory (later1 (around p p.frame))
-        (grown_later (around p p.frame) m c1.memory p.frame (first_object p.world shape) (omega arith) fits.agree.unmade)) refl
-        (kept_temp p.regions.all p.regions.all first.content c c (omega arith) (λ k less. refl)))
+        (λ b below.
+        later_on b m m (m_made m p.frame (first_object p.world shape)) c.memory c1.memory c1.memory (later1 b)
+        (grown_later b m c1.memory p.frame (first_object p.world shape) below fits.agree.unmade)) refl
+        (kept_temp p.regions.all p.regions.all first.content c c (omega arith) (λ k less. refl)) (put_temp p.regions.all first.content c ∙ sym first.part))
+
+word_begins : (p : Point) (n : ℕ) (scope : Scope) (name : List ℕ) (shape : Shape) (shapes : List Shape) (then_act : Scope → Act Flow)
+    (next : Flow → source.Memory → steps.Step) (m : source.Memory) (c : Config) (rest : Statements) (after : Next)
+    → scope.world ≡ p.world → scope.frame ≡ p.frame → IsWordShape shape → HasFirst shape → p.pending ≡ shape ∷ shapes → SameState p m c
+    → BeginsIn p (with_local p name shape shapes) n m c (λ m'. then_act (with_binding scope name (Variable shape (local_spot p.frame p.made))) next m')
+    (meaning.statements rest after)
+    → SameAt p n (declared scope name shape (first_object scope.world shape) then_act next m) (meaning.statements
+    (MoreStatements (Do (first_code shape p.regions.all)) (MoreStatements (Do (Put 0 p.made (width_of shape) p.regions.all)) rest)) after c)
+word_begins p n scope name shape shapes then_act next m c rest after world frame is_word begins pending fits goes =
+    word_begun p n scope name shape shapes then_act next m c rest after world frame is_word begins pending fits
+    (record { go = λ m' c' fits' later active kept first. goes.go m' c' fits' (later (around p p.frame) (omega arith)) active kept })
 
 -- a struct
 cleared_at : (c : Config) (d index frame : ℕ) (outer : List ℕ) (l : Layout) (next : Config → core_steps.Step) → c.blocks ≡ frame ∷ outer

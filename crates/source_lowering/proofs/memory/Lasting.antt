@@ -6,14 +6,13 @@ use Rattle.source_meaning.specs.Shapes.{Owner, Shape, IntShape, UnsignedShape, C
 use Rattle.source_meaning.specs.Shapes.{UnionShape, ArrayShape}
 use Rattle.source_meaning.specs.Memory as source
 use Rattle.source_meaning.specs.Memory.{Scalar, Spot, same_region, same_spot}
-use Rattle.source_meaning.specs.Steps.{World, Entity, Variable, Fixed, Binding}
+use Rattle.source_meaning.specs.Steps.{World, Entity, Variable, Binding}
 use Rattle.core_meaning.specs.Memory as core
 use Rattle.core_meaning.specs.Memory.{Content}
 use Rattle.core_meaning.specs.Steps.{Config}
 use Rattle.core_meaning.specs.Operations.{same_object}
 use Rattle.core_meaning.proofs.Spots.{region_same, spot_same}
 use Rattle.source_lowering.specs.Layouts.{layout_of}
-use Rattle.source_lowering.proofs.memory.Held.{numbers_kept}
 pub use Rattle.source_lowering.proofs.memory.LayoutsKept.{Lasts, made_kept, leads_kept, owned_kept, member_kept, shown_kept}
 use Rattle.source_lowering.specs.Simulation.{AreKept, region_at, at, Leads, IsOwned, Shown, ShownMember, SameMemory, Bound, nothing, IsKept, IsFree, Grown}
 use Rattle.source_lowering.specs.Simulation.{StaysAs, Point, SameState, activation, within, around, GrownAt, AreMade, ArePending, IsLed, AreLed, AreTexts}
@@ -206,7 +205,6 @@ local_later b w m m' c c' r index (ArrayShape count of) l h = λ k less. made_la
 
 pub led_later : (b : Bound) (w : World) (m m' : source.Memory) (c c' : core.Memory) (e : Entity) → Grown b m c m' c' → IsLed w m c e → IsLed w m' c' e
 led_later b w m m' c c' (Variable shape s) l h = variable_later b w m m' c c' shape s l h
-led_later b w m m' c c' (Fixed shape v) l h = tt
 
 pub all_led_later : (b : Bound) (w : World) (m m' : source.Memory) (c c' : core.Memory) (bs : List Binding) → Grown b m c m' c' → AreLed w m c bs
     → AreLed w m' c' bs
@@ -266,7 +264,6 @@ fits_on p m m' c c' f a l active kept = record {
   agree = a;
   blocks = same_blocks c c' active ∙ f.blocks;
   locals = all_led_later (around p (suc p.frame)) p.world m m' c.memory c'.memory p.locals l f.locals;
-  held = numbers_kept p.regions.all c c' p.locals p.names kept f.held;
   statics = statics_later (around p (suc p.frame)) p.world m m' c.memory c'.memory l f.statics;
   begun = let g = f.begun in let h = l.begun in omega (arith, g, h);
   made = l.objects p.frame (omega arith) ∙ f.made;

@@ -13,7 +13,7 @@ use Rattle.source_meaning.specs.Steps.{World}
 use Rattle.source_meaning.proofs.Trees.{function, gives, named, number, pointer, typed, variable, ◌▸◌, ◌▹◌}
 use Rattle.core_meaning.specs.Memory.{Layout, Word}
 use Rattle.core_meaning.specs.Core as code
-use Rattle.core_meaning.specs.Core.{Apply, Constant, Distance, Do, Element, HeapHandle, LessUnsigned, Move, Store, While}
+use Rattle.core_meaning.specs.Core.{Apply, Block, Constant, Distance, Do, Element, Get, HeapHandle, LessUnsigned, Local, Put, Store, While}
 use Rattle.core_meaning.specs.Steps.{Called, Returned, Visible}
 use Rattle.core_meaning.specs.Meaning.{core}
 use Rattle.source_lowering.specs.Lowered.{all_of, expression_code}
@@ -76,11 +76,15 @@ word_layout = record { cells = (record { offset = 0; width = 4; first = Word 0 }
 abbrev at_once : Distance
 at_once = record { cells = 0; bytes = 0; part = 0; width = 4 }
 
--- The pointer, the count and the number are in the temporaries 0, 1 and 2, and behind the elements the index 0 is in the last of them.
+abbrev index_local : Local
+index_local = record { layout = word_layout; count = 1 }
+
+-- The pointer, the count and the number are in the temporaries 0, 1 and 2, and behind the elements the pointer's index 0 is in the last of them. The element
+-- reads the index as the one local of a block, which gets the number before.
 array_code : expression_code w [] (array (named "i") (number 3) (variable "i")) 0 0 ≡
-    Do (HeapHandle 0) ∷ Do (Constant 1 3) ∷ Do (code.RegionAlloc 0 0 1 word_layout) ∷ Do (Constant 2 0) ∷
-    While (all_of (Do (Apply LessUnsigned 3 2 1) ∷ [])) 3 (all_of (
-    Do (Move 3 2) ∷ Do (Element 4 0 2 1 4) ∷ Do (Store 4 at_once 3) ∷ Do (Constant 3 1) ∷ Do (Apply code.Add 2 2 3) ∷ [])) ∷
+    Do (HeapHandle 0) ∷ Do (Constant 1 3) ∷ Do (code.RegionAlloc 0 0 1 word_layout) ∷
+    Block (index_local ∷ []) (all_of (Do (Constant 2 0) ∷ Do (Put 0 0 4 2) ∷ While (all_of (Do (Apply LessUnsigned 3 2 1) ∷ [])) 3 (all_of (
+    Do (Put 0 0 4 2) ∷ Do (Get 3 0 0 4) ∷ Do (Element 4 0 2 1 4) ∷ Do (Store 4 at_once 3) ∷ Do (Constant 3 1) ∷ Do (Apply code.Add 2 2 3) ∷ [])) ∷ [])) ∷
     Do (Constant 2 0) ∷ []
 array_code = refl
 
@@ -117,19 +121,19 @@ made_forms_taken = record {
         body = (
           tt,
           (
-            (record { base = tt; known = tt }, (tt, (tt, λ t. (tt, (tt, (tt, tt)))))),
+            (record { base = tt; known = tt }, (tt, (tt, (tt, (tt, (tt, tt)))))),
             (
               (
                 record { base = tt; known = tt },
-                (tt, λ t. (refl, (refl, (tt, (((tt, ((tt, (tt, tt)), (tt, tt))), tt), tt))))),
+                (tt, (refl, (refl, (tt, (((tt, ((tt, (tt, tt)), (tt, tt))), tt), tt))))),
               ),
               (
                 (
                   record { base = tt; known = tt },
-                  (tt, λ t. (tt, (tt, λ u. (tt, (tt, ((tt, (tt, tt)), tt)))))),
+                  (tt, (tt, (tt, (tt, (tt, ((tt, (tt, tt)), tt)))))),
                 ),
                 (
-                  (record { base = tt; known = tt }, (tt, λ t. (tt, tt))),
+                  (record { base = tt; known = tt }, (tt, (tt, tt))),
                   (
                     (
                       ((tt, (tt, (tt, tt))), tt),

@@ -12,7 +12,7 @@ use Rattle.source_meaning.proofs.Trees.{function, gives, named, number, typed, v
 use Rattle.core_meaning.specs.Memory.{Blank, Content, Layout, Null, PartShape, Word}
 use Rattle.core_meaning.specs.Core as code
 use Rattle.core_meaning.specs.Core.{Apply, Block, Break, Constant, Continue, Copy, Distance, Do, Get, Leave, Load, LocalAddress, OwnAddress, Put, Return, Store}
-use Rattle.core_meaning.specs.Core.{Element, Equal, HeapHandle, If, LessUnsigned, Move, Narrow, NoStatements, Raise, While}
+use Rattle.core_meaning.specs.Core.{Element, Equal, HeapHandle, If, LessUnsigned, Narrow, NoStatements, Raise, While}
 use Rattle.core_meaning.specs.Steps.{Called, Returned, Visible}
 use Rattle.core_meaning.specs.Meaning.{core}
 use Rattle.source_lowering.specs.Bounds.{items_left}
@@ -111,10 +111,10 @@ case_code number block = Do (Constant 3 number) ∷ Do (Apply Equal 3 2 3) ∷ I
 abbrev char_block : code.Statement
 char_block = Block (one_part 1 (Word 0) ∷ handle ∷ []) (all_of (
     Do (Load 1 1 (part 1)) ∷ Do (Put 0 0 1 1) ∷ Do (code.RegionNew 1) ∷ Do (Put 0 1 4 1) ∷
-    Do (OwnAddress 2 1) ∷ Do (HeapHandle 3) ∷ Do (Constant 4 2) ∷ Do (code.RegionAlloc 3 3 4 word_layout) ∷ Do (Constant 5 0) ∷
-    While (all_of (Do (Apply LessUnsigned 6 5 4) ∷ [])) 6 (all_of (
-    Do (Get 6 0 0 1) ∷ Do (Move 7 5) ∷ Do (Apply code.Add 6 6 7) ∷ Do (Element 7 3 5 1 4) ∷ Do (Store 7 (part 0) 6) ∷ Do (Constant 6 1) ∷
-    Do (Apply code.Add 5 5 6) ∷ [])) ∷
+    Do (OwnAddress 2 1) ∷ Do (HeapHandle 3) ∷ Do (Constant 4 2) ∷ Do (code.RegionAlloc 3 3 4 word_layout) ∷
+    Block (one_part 4 (Word 0) ∷ []) (all_of (Do (Constant 5 0) ∷ Do (Put 0 0 4 5) ∷ While (all_of (Do (Apply LessUnsigned 6 5 4) ∷ [])) 6 (all_of (
+    Do (Put 0 0 4 5) ∷ Do (Get 6 1 0 1) ∷ Do (Get 7 0 0 4) ∷ Do (Apply code.Add 6 6 7) ∷ Do (Element 7 3 5 1 4) ∷ Do (Store 7 (part 0) 6) ∷
+    Do (Constant 6 1) ∷ Do (Apply code.Add 5 5 6) ∷ [])) ∷ [])) ∷
     Do (Constant 5 0) ∷ Do (Constant 6 2) ∷ Do (Store 2 (part 0) 6) ∷
     Do (Store 2 (part 1) 3) ∷ Do (Store 2 (part 2) 4) ∷ Do (Store 2 (part 3) 5) ∷
     Do (LocalAddress 3 2 0) ∷ Do (Copy 3 2 union_layout) ∷ Do (code.RegionFree 1) ∷ Break ∷ Do (code.RegionFree 1) ∷ []))
@@ -199,7 +199,7 @@ switch_forms_taken = record {
                             (
                               tt,
                               (
-                                (tt, ((refl, (record { number = 2; is = refl }, (tt, λ t. (tt, (tt, (tt, tt)))))), refl)),
+                                (tt, ((refl, (record { number = 2; is = refl }, (tt, (tt, (tt, (tt, tt)))))), refl)),
                                 (tt, tt),
                               ),
                             ),

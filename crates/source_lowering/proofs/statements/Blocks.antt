@@ -15,11 +15,10 @@ use Rattle.core_meaning.specs.Core.{Program, Statement, Block, Statements, NoSta
 use Rattle.core_meaning.specs.Steps as core_steps
 use Rattle.core_meaning.specs.Steps.{Config, checked, with_memory}
 use Rattle.core_meaning.specs.Meaning as meaning
-use Rattle.source_lowering.specs.Lowered.{Home, InBlock, InTemporary, Named, all_of, put}
+use Rattle.source_lowering.specs.Lowered.{Home, InBlock, Named, all_of, put}
 use Rattle.source_lowering.specs.Programs.{RegionsAround, further_out, locals_of, outward}
-use Rattle.source_lowering.specs.Simulation.{ArePending, SameMemory, Bound, nothing, Grown, StandsFor, AreLocals, AreLed, AreHeld, HasStatics, Point, SameState}
+use Rattle.source_lowering.specs.Simulation.{ArePending, SameMemory, Bound, nothing, Grown, StandsFor, AreLocals, AreLed, HasStatics, Point, SameState}
 use Rattle.source_lowering.specs.Simulation.{AValue, around, Next, Same, SameAt}
-use Rattle.source_lowering.proofs.memory.Held.{numbers_outward}
 use Rattle.source_lowering.proofs.memory.Keeping.{later_on, later_less, all_led_later, statics_later, pending_later, same_own, left_later, agree_left}
 use Rattle.source_lowering.proofs.expressions.Names.{AreObjectNames}
 use Rattle.source_lowering.proofs.memory.Entering.{made_standing, source_in, core_opened, core_in, agree_entered, entered_later, pending_entered}
@@ -31,7 +30,6 @@ use Rattle.source_lowering.proofs.statements.Ways.{freed, Onward, WaysOn, RunsAs
 
 stands_outward : (k : ℕ) (blocks : List ℕ) (e : Entity) (shape : Shape) (h : Home) → StandsFor blocks e shape h → StandsFor (k ∷ blocks) e shape (further_out h)
 stands_outward k blocks e shape (InBlock out index) stands = record { frame = stands.frame; in_block = stands.in_block; is = stands.is }
-stands_outward k blocks e shape (InTemporary t) stands = stands
 
 pub locals_outward : (k : ℕ) (blocks : List ℕ) (bs : List Binding) (ls : List Named) → AreLocals blocks bs ls → AreLocals (k ∷ blocks) bs (outward ls)
 locals_outward k blocks [] [] h = tt
@@ -83,15 +81,14 @@ pub record HasOwn (w : World) (c : Config) (own : ℕ) (owned : List Shape) : Ty
 -- a block is entered from memories that agree
 pub entered_fits : (w : World) (fs : Program) (locals : List Binding) (names : List Named) (outer : List ℕ) (shapes : List Shape) (m : source.Memory)
     (c : Config) (own : ℕ) (owned : List Shape) (kept : ℕ) (regions : RegionsAround) → SameMemory w m c.memory → c.blocks ≡ outer → HasOwn w c own owned
-    → AreLed w m c.memory locals → AreHeld regions.all c.temps locals names → HasStatics w m c.memory
+    → AreLed w m c.memory locals → HasStatics w m c.memory
     → SameState (at_start w fs locals names m.activations outer shapes own owned kept regions) (source_in m) (meaning.in_block (locals_of w shapes) c)
-entered_fits w fs locals names outer shapes m c own owned kept regions agree blocks has led held statics =
+entered_fits w fs locals names outer shapes m c own owned kept regions agree blocks has led statics =
     let later = entered_later nothing w m c.memory (locals_of w shapes) agree in
     record {
       agree = agree_entered w m c.memory (locals_of w shapes) agree;
       blocks = ap (λ z. z ∷ c.blocks) (sym agree.activations) ∙ ap (λ z. m.activations ∷ z) blocks;
       locals = all_led_later nothing w m (source_in m) c.memory (core_in (locals_of w shapes) c.memory) locals later led;
-      held = held;
       statics = statics_later nothing w m (source_in m) c.memory (core_in (locals_of w shapes) c.memory) later statics;
       begun = omega arith;
       made = (agree.unbegun m.activations (omega arith)).0;
@@ -104,11 +101,11 @@ entered_fits w fs locals names outer shapes m c own owned kept regions agree blo
     }
 
 -- its region ends in both
-agree_gone : (w : World) (m : source.Memory) (c : core.Memory) (k j : ℕ) → k ≡ j → SameMemory w m c
+pub agree_gone : (w : World) (m : source.Memory) (c : core.Memory) (k j : ℕ) → k ≡ j → SameMemory w m c
     → SameMemory w (with_state m (source.Frame k) Dead) (with_standing c (core.Frame j) core.Dead)
 agree_gone w m c k j e a = subst (λ z. SameMemory w (with_state m (source.Frame k) Dead) (with_standing c (core.Frame z) core.Dead)) e (agree_left w m c k a)
 
-later_gone : (b : Bound) (m : source.Memory) (c : core.Memory) (k j : ℕ) → k ≡ j → Grown b m c (with_state m (source.Frame k) Dead)
+pub later_gone : (b : Bound) (m : source.Memory) (c : core.Memory) (k j : ℕ) → k ≡ j → Grown b m c (with_state m (source.Frame k) Dead)
     (with_standing c (core.Frame j) core.Dead)
 later_gone b m c k j e = subst (λ z. Grown b m c (with_state m (source.Frame k) Dead) (with_standing c (core.Frame z) core.Dead)) e (left_later b m c k)
 
@@ -218,8 +215,7 @@ block_from p n result shapes body code m c next rest after fits ways runs =
     let inner : Next = λ exit. meaning.falls_to exit (meaning.statements rest after) after in
     runs (next_out next m.activations) (after_out inner c)
     (entered_fits p.world p.program p.locals (outward p.names) (p.frame ∷ p.outer) shapes m c p.own p.owned p.kept p.regions fits.agree fits.blocks
-    (record { is = fits.own; called = fits.called; stands = fits.stands; values = fits.owned }) fits.locals
-    (numbers_outward p.regions.all c.temps p.locals p.names fits.held) fits.statics)
+    (record { is = fits.own; called = fits.called; stands = fits.stands; values = fits.owned }) fits.locals fits.statics)
     (ways_out p.world p.program n p.regions (around p (suc p.frame)) shapes m c result next inner fits.agree (let b = fits.begun in omega (arith, b))
     (record { falls = ways.falls; breaks = ways.breaks; continues = ways.continues; returns = ways.returns }))
 

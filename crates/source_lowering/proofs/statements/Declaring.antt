@@ -130,7 +130,6 @@ object_fits p m c name shape shapes o e fits leads free shown =
       agree = agree_made p.world m c.memory p.frame p.made o fits.agree fits.made fits.begun free shown;
       blocks = fits.blocks;
       locals = (leads, all_led_later (around p p.frame) p.world m (m_made m p.frame o) c.memory c.memory p.locals later fits.locals);
-      held = (tt, fits.held);
       statics = statics_later (around p p.frame) p.world m (m_made m p.frame o) c.memory c.memory later fits.statics;
       begun = fits.begun;
       made = objects_here m p.frame o ∙ ap (λ z. z + 1) fits.made ∙ omega arith;

@@ -27,7 +27,7 @@ use Rattle.source_meaning.specs.Shapes.{
 use Rattle.source_meaning.specs.Memory as source
 use Rattle.source_meaning.specs.Memory.{Gone, Scalar, Spot, Thin, is_alone, is_live, is_moved}
 use Rattle.source_meaning.specs.Steps as steps
-use Rattle.source_meaning.specs.Steps.{World, Entity, Variable, Fixed, Act, Flow, give, ◌>>=◌, ◌>>◌}
+use Rattle.source_meaning.specs.Steps.{World, Entity, Variable, Act, Flow, give, ◌>>=◌, ◌>>◌}
 use Rattle.source_meaning.specs.Conversions.{one}
 use Rattle.source_meaning.specs.Values.{read_cell, put_content}
 use Rattle.source_meaning.specs.Places.{bound_to, entity_sense, or_else}
@@ -87,7 +87,6 @@ variable_taken w (ArrayShape count of) spot b to e = absurd (cc e)
 
 entity_taken : (w : World) (e : Option Entity) (b : Reach) (to : Shape) → (entity_sense w e).shape ≡ ThinShape b Alone to → IsTakenBy w e
 entity_taken w None b to e = inl (λ next m. refl)
-entity_taken w (Some (Fixed s v)) b to e = inl (λ next m. refl)
 entity_taken w (Some (Variable s spot)) b to e = variable_taken w s spot b to e
 
 -- what can be copied is no operand
@@ -108,7 +107,6 @@ variable_stuck w (ArrayShape count to) spot of e h next m = refl
 pub operand_stuck : (w : World) (e : Option Entity) (s : Shape) → (entity_sense w e).shape ≡ s → is_moved s ≡ false
     → (next : Operand → source.Memory → steps.Step) (m : source.Memory) → operand_of e next m ≡ Stops SourceEnding.Stuck
 operand_stuck w None s e h next m = refl
-operand_stuck w (Some (Fixed shape v)) s e h next m = refl
 operand_stuck w (Some (Variable shape spot)) s e h next m = variable_stuck w shape spot s e h next m
 
 -- ---- what the code does

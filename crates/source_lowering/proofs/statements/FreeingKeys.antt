@@ -6,7 +6,7 @@ use Rattle.source_meaning.specs.Shapes.{Shape, KeyShape}
 use Rattle.source_meaning.specs.Memory as source
 use Rattle.source_meaning.specs.Memory.{Gone, Scalar, Spot}
 use Rattle.source_meaning.specs.Steps as steps
-use Rattle.source_meaning.specs.Steps.{World, Entity, Variable, Fixed, Act, Flow, give, ◌>>=◌, ◌>>◌}
+use Rattle.source_meaning.specs.Steps.{World, Entity, Variable, Act, Flow, give, ◌>>=◌, ◌>>◌}
 use Rattle.source_meaning.specs.Conversions.{one}
 use Rattle.source_meaning.specs.Values.{read_cell, put_content}
 use Rattle.source_meaning.specs.Places.{bound_to, entity_sense, or_else}
@@ -48,7 +48,6 @@ variable_taken w _ spot e = absurd (cc e)
 
 entity_taken : (w : World) (e : Option Entity) → (entity_sense w e).shape ≡ KeyShape → IsTakenBy w e
 entity_taken w None e = inl (λ next m. refl)
-entity_taken w (Some (Fixed s v)) e = inl (λ next m. refl)
 entity_taken w (Some (Variable s spot)) e = variable_taken w s spot e
 
 key_same : (p : Point) (n : ℕ) (result : Shape) (e : Option Entity) (code : List Statement)

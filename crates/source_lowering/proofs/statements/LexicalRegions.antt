@@ -22,7 +22,6 @@ use Rattle.source_lowering.proofs.expressions.Making.{local_spot}
 use Rattle.source_lowering.proofs.statements.Declaring.{local_with_same, with_local}
 use Rattle.source_lowering.proofs.regions.Regions.{IsScoped, born_scoped, scoped_later, core_born, core_freed, region_born_agree, region_born_later, region_born_same, region_freed_agree}
 use Rattle.source_lowering.proofs.regions.Regions.{region_freed_later}
-use Rattle.source_lowering.proofs.memory.Held.{numbers_more}
 use Rattle.source_lowering.proofs.regions.Regions.{region_freed_same, source_born, source_freed}
 use Rattle.source_lowering.proofs.statements.Ways.{Onward, RunsAs, WaysOn, freed}
 use Rattle.source_lowering.proofs.statements.Blocks.{result_later}
@@ -37,11 +36,10 @@ in_scope_of opened p name shapes = record (with_local p name HandleShape shapes)
 
 pub fits_in_scope : (opened : Bool) (p : Point) (name : List ℕ) (shapes : List Shape) (m : source.Memory) (c : Config)
     → SameState (with_local p name HandleShape shapes) m c → SameState (in_scope_of opened p name shapes) m c
-fits_in_scope opened p name shapes m c f = let q = with_local p name HandleShape shapes in record {
+fits_in_scope opened p name shapes m c f = record {
   agree = f.agree;
   blocks = f.blocks;
   locals = f.locals;
-  held = numbers_more p.regions.all (suc p.regions.all) c.temps q.locals q.names (omega arith) f.held;
   statics = f.statics;
   begun = f.begun;
   made = f.made;

@@ -2,7 +2,7 @@
 use Rattle.std.proofs.Common.{◌≡◌, ℕ, ◌+◌, ◌<◌, ◌≤◌, ⊎_elim, List, [], ◌∷◌, Some, true, refl, sym, ap, ap₂, ◌∙◌, subst, arith}
 use Rattle.std.specs.Prelude.{slice_get}
 use Rattle.cyc_tree.specs.Tree.{Expression}
-use Rattle.source_meaning.specs.Shapes.{Shape, UnsignedShape, FatShape, StructShape, UnionShape, ArrayShape}
+use Rattle.source_meaning.specs.Shapes.{Shape, FatShape, StructShape, UnionShape, ArrayShape}
 use Rattle.source_meaning.specs.Memory as source
 use Rattle.source_meaning.specs.Memory.{Spot}
 use Rattle.source_meaning.specs.Steps as steps
@@ -30,7 +30,7 @@ use Rattle.source_lowering.proofs.memory.Members.{word_pieces}
 use Rattle.source_lowering.proofs.values.Integers.{one_content, one_word}
 use Rattle.source_lowering.proofs.values.Values.{other_temp, put_temp}
 use Rattle.source_lowering.proofs.expressions.Making.{local_spot}
-use Rattle.source_lowering.proofs.expressions.Names.{AreObjectNames, FoundLocal, FoundNumber, MissingLocal, find_local}
+use Rattle.source_lowering.proofs.expressions.Names.{AreObjectNames, FoundLocal, MissingLocal, find_local}
 use Rattle.source_lowering.proofs.expressions.Places.{LocalVariable, PlacedAs}
 use Rattle.source_lowering.proofs.expressions.Variables.{got, placed}
 use Rattle.source_lowering.proofs.expressions.VariableForms.{LocalLed}
@@ -225,7 +225,7 @@ named_sided : (p : Point) (n d : ℕ) (name : List ℕ) (pointer : List Statemen
     → SidedAs p n d (named_side (local_named p.names name)) (valued (shape_by (local_named p.names name) (bound_to p.world.globals name)))
     (entity_sense p.world (or_else (bound_to p.locals name) (bound_to p.world.globals name))).place pointer
 named_sided p n d name pointer locals words =
-    ⊎_elim here (λ g. ⊎_elim number missing g) (find_local p.world.unions p.world.structs (p.frame ∷ p.outer) p.locals p.names name locals words)
+    ⊎_elim here missing (find_local p.world.unions p.world.structs (p.frame ∷ p.outer) p.locals p.names name locals words)
   where
     Sided : Type 0
     Sided =
@@ -236,9 +236,6 @@ named_sided p n d name pointer locals words =
 
     here : FoundLocal p.world.unions p.world.structs (p.frame ∷ p.outer) p.locals p.names name → Sided
     here f = rw (f.bound, f.found) (local_sided p n d f.out f.index f.frame f.shape pointer f.is_variable f.in_block (f.led p.world))
-
-    number : FoundNumber p.locals p.names name → Sided
-    number f = rw (f.bound, f.found) (pointed_side p n d UnsignedShape _ pointer)
 
     missing : MissingLocal p.locals p.names name → Sided
     missing f = rw (f.bound, f.found) (pointed_side p n d (valued (entity_shape (bound_to p.world.globals name))) _ pointer)

@@ -222,7 +222,6 @@ fits_looped p m c f = record {
   agree = f.agree;
   blocks = f.blocks;
   locals = f.locals;
-  held = f.held;
   statics = f.statics;
   begun = f.begun;
   made = f.made;

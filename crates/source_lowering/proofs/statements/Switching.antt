@@ -43,7 +43,6 @@ fits_clauses p m c f = record {
   agree = f.agree;
   blocks = f.blocks;
   locals = f.locals;
-  held = f.held;
   statics = f.statics;
   begun = f.begun;
   made = f.made;

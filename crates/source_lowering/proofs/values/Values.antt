@@ -28,7 +28,6 @@ use Rattle.core_meaning.specs.Steps as core_steps
 use Rattle.core_meaning.specs.Steps.{Config, with_temp}
 use Rattle.source_lowering.specs.Lowered.{put}
 use Rattle.source_lowering.specs.Simulation.{Point, SameState, SameAt, AreKept, GrownAt, AValue, Given, GoesOn, Grown, Bound, contents_in}
-use Rattle.source_lowering.proofs.memory.Held.{numbers_kept}
 use Rattle.source_lowering.proofs.memory.Keeping.{shown_later}
 use Rattle.source_lowering.specs.Members.{words_in}
 use Rattle.source_lowering.proofs.values.Integers.{given_one}
@@ -55,7 +54,6 @@ temp_fits p m c d x f above = record {
   agree = f.agree;
   blocks = f.blocks;
   locals = f.locals;
-  held = numbers_kept p.regions.all c (with_temp d x c) p.locals p.names (kept_temp p.regions.all d x c c above (λ k less. refl)) f.held;
   statics = f.statics;
   begun = f.begun;
   made = f.made;

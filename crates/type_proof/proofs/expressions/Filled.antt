@@ -1,21 +1,19 @@
 -- Arrays that `new` and `rnew` make: their elements are evaluated and stored one after another, and each takes a unit.
-use Rattle.std.proofs.Common.{◌≡◌, ℕ, zero, suc, ◌+◌, ◌<◌, ◌≤◌, Bool, true, false, ◌⊎◌, inl, inr, Option, Some, List, [], ◌∷◌, ◌++◌, refl, sym, ◌∙◌, ap, subst, arith}
+use Rattle.std.proofs.Common.{◌≡◌, ℕ, suc, ◌≤◌, Bool, true, false, ◌⊎◌, inl, inr, Option, Some, List, [], ◌∷◌, refl, sym, ◌∙◌, ap, subst}
 use Rattle.std.specs.Prelude.{◌*◌, ◌&&◌, length, map}
 use Rattle.std.proofs.lemmas.Bool.{and_parts}
 use Rattle.std.proofs.lemmas.List.{length-map}
-use Rattle.std.proofs.Math.Nat.{suc-mul}
 use Rattle.cyc_words.specs.Events.{RegionAlloc}
 use Rattle.cyc_tree.specs.Tree as tree
 use Rattle.source_meaning.specs.Shapes.{Shape, FatShape}
 use Rattle.source_meaning.specs.Memory as memory
-use Rattle.source_meaning.specs.Memory.{Region, Born, Spot, Scalar, Live, Memory, array_of, beyond, blank_cell, state_is_live}
-use Rattle.source_meaning.specs.Sizes.{repeated}
+use Rattle.source_meaning.specs.Memory.{Region, Born, Spot, Scalar, Live, Memory, array_of, blank_cell, next_spot, state_is_live, with_object}
 use Rattle.source_meaning.specs.Steps.{Scope, Act, give, ◌>>=◌, ◌>>◌, show}
 use Rattle.source_meaning.specs.Conversions.{cells_of, size_of, one, integer}
-use Rattle.source_meaning.specs.Values.{write_cells}
 use Rattle.source_meaning.specs.Making.{Maker, InRegion, make_object, ask, saturated}
 use Rattle.source_meaning.specs.Places.{Sense, span_at}
-use Rattle.source_meaning.specs.Calls.{elements, array_made}
+use Rattle.source_meaning.specs.Calls.{index_in, index_made, elements, array_made}
+use Rattle.source_meaning.specs.Regions.{in_block}
 use Rattle.source_typing.specs.Converts.{IsInteger}
 use Rattle.source_typing.specs.Making as rules
 use Rattle.source_typing.specs.Making.{To, with_counter}
@@ -30,35 +28,26 @@ use Rattle.flow_summaries.specs.Laws.{DoesAs, way_after}
 use Rattle.flow_summaries.specs.Passages.{Passage}
 use Rattle.flow_summaries.proofs.Effects.{without_more}
 use Rattle.type_proof.specs.Flat.{Tables}
-use Rattle.type_proof.proofs.invariant.Facts.{not_further, further, at_start}
-use Rattle.type_proof.proofs.invariant.Invariant.{RunType, Kept, Reached, Ghost, Laid, HaveTypes, Inv, Grows}
-use Rattle.type_proof.proofs.invariant.Values.{laid_kept}
+use Rattle.type_proof.proofs.invariant.Invariant.{Ghost, HaveTypes, Inv, Grows}
 use Rattle.type_proof.proofs.invariant.Growth.{grows_refl, grows_trans}
 use Rattle.type_proof.proofs.invariant.Runs.{Safe, Runs, runs_check}
-use Rattle.type_proof.proofs.invariant.After.{After, flying, grows_base, runs_show}
-use Rattle.type_proof.proofs.invariant.Rows.{laid_all, array_row}
-use Rattle.type_proof.proofs.invariant.Objects.{New, BlankAt}
-use Rattle.type_proof.proofs.invariant.Filling.{runs_blank, runs_fill_row, blank_kept}
+use Rattle.type_proof.proofs.invariant.After.{After, flying, runs_show}
+use Rattle.type_proof.proofs.invariant.Rows.{laid_all}
+use Rattle.type_proof.proofs.invariant.Filling.{runs_object}
 use Rattle.type_proof.proofs.invariant.Heads.{head_kept, head_stands}
 use Rattle.type_proof.proofs.invariant.Arguments.{Agrees}
 use Rattle.type_proof.proofs.invariant.Names.{NameOf}
-use Rattle.type_proof.proofs.invariant.Standing.{Standing, all_met_second, are_kinds}
-use Rattle.type_proof.proofs.invariant.Scenes.{Scene, scene_later, stands_typed}
+use Rattle.type_proof.proofs.invariant.Standing.{ApartFrom, Standing, all_met_second, are_kinds}
+use Rattle.type_proof.proofs.invariant.Scenes.{Scene, scene_later}
 use Rattle.type_proof.proofs.invariant.Sound.{shape_renamed, cells_type, Gives, Shows, Sound, passed_first, passed_second}
 use Rattle.type_proof.proofs.expressions.Words.{IsObjectType, object_some}
 use Rattle.type_proof.proofs.expressions.WordRules.{Valued, value_of}
-use Rattle.type_proof.proofs.expressions.Calling.{safe_pays}
+use Rattle.type_proof.proofs.expressions.ElementLoops.{GivesElement, runs_indexed}
 use Rattle.type_proof.proofs.expressions.Elements.{all_elements}
 use Rattle.type_proof.proofs.expressions.Operands.{runs_word}
 use Rattle.type_proof.proofs.expressions.Counters.{counted_scope, scene_counter, counter_left}
 use Rattle.type_proof.proofs.expressions.Makings.{Aims, Lives, makeable_object}
 use Rattle.type_proof.proofs.expressions.Forms.{Denotes, Refuses, denotes_refused, denotes_value}
-
--- cells behind those of a row
-laid_then : (w : Ghost) (s : Spot) (xs ys : List RunType) → Laid w s xs → Laid w (beyond s (length xs)) ys → Laid w s (xs ++ ys)
-laid_then w s [] ys h j = subst (λ (x : Spot). Laid w x ys) (not_further s) j
-laid_then w s (x ∷ xs) ys h j =
-    (h.0, laid_then w (beyond s 1) xs ys h.1 (subst (λ (z : Spot). Laid w z ys) (sym (further s 1 (length xs) (length (x ∷ xs)) (omega arith))) j))
 
 -- an array that is made in the region of a name
 pub array_there : (c : Bool) (at : ℕ) (r : NameOf) (t : StaticType) (v : Value) → after (if_fits c at t) (rules.array_to at (To r)) ≡ Of v → (c ≡ true)
@@ -67,70 +56,14 @@ array_there true at r t v e = (refl, value_of at (Fat r t) v e)
 array_there false at r t v e = absurd cc
 
 module _ (n : ℕ) (d : Tables) (g : Env) (scope : Scope) (f : NameOf → Region) (b : ℕ) (low : ℕ) where
-  -- ---- the elements, one after another
-
-  module _ (t : StaticType) (r : NameOf) (k : ℕ) (s : States) (element : ℕ → Sense) (live : Lives n d g scope f b low r)
-      (gives : (i : ℕ) → Gives n d g scope f b low s s t (element i).value) (w0 : Ghost) (m0 : Memory) (x0 : Scene d g scope f b low s k w0 m0)
-    where
-      abbrev ts : List RunType
-      ts = cells_type d f t
-
-      next_at : (j c : ℕ) → j * c + c ≡ (j + 1) * c
-      next_at j c = let e : (j + 1) * c ≡ suc j * c = ap (λ (x : ℕ). x * c) (omega arith) in sym (e ∙ suc-mul j c)
-
-      -- what the elements leave: the object's cells are there
-      pub record Filled (w : Ghost) (at : Spot) (count : ℕ) (w' : Ghost) (m' : Memory) : Type 0 where
-        pub inv : Inv d w' m'
-        pub grows : Grows k b w0 m0 w' m'
-        pub stands : Standing d g scope f s w' m'
-        pub laid : Laid w' at (repeated count ts)
-        pub types : (y : Spot) (q : Kept) → w.types y ≡ Some q → w'.types y ≡ Some q
-
-      -- so many from the i-th on, which lies here
-      pub runs_elements : {B : Type 0} (count i : ℕ) (o at : Spot) (w : Ghost) (m : Memory) (h : Act B) (Q : B → Memory → Type 0) → at
-          ≡ beyond o (i * length ts)
-          → o.region ≡ f r → Inv d w m → Standing d g scope f s w m → m0.objects o.region ≤ o.object → o.object < m.objects o.region
-          → BlankAt w m at (repeated count ts) → Grows k b w0 m0 w m
-          → ((w' : Ghost) (m' : Memory) → Filled w at count w' m' → Runs n h m' Q)
-          → Runs n (elements (length ts) count i o element >> h) m Q
-      runs_elements zero i o at w m h Q here there inv stands new counted blank grows go = record {
-        by = λ next q. (go w m (record { inv = inv; grows = grows; stands = stands; laid = tt; types = λ y p e. e })).by next q;
-      }
-      runs_elements (suc count) i o at w m h Q here there inv stands new counted blank grows go = record {
-        by = λ next q. safe_pays n _ m ((gives i k w m inv (scene_later d g scope f b low s s k w0 m0 w m inv grows stands x0)).by
-            (λ vs. (write_cells (beyond o (i * length ts)) vs >> (elements (length ts) count (i + 1) o element >> h)) next) (λ vs m1 y.
-            let g1 : Grows k b w0 m0 y.ghost m1 = grows_trans grows y.grows in
-            let counted1 : o.object < m1.objects o.region = (let up : m.objects o.region ≤ m1.objects o.region =
-            y.grows.objects o.region in omega (arith, up, counted)) in
-            (runs_fill_row d n k b 0 w0 y.ghost m0 m1 (beyond o (i * length ts)) ts (repeated count ts) vs (elements (length ts) count (i + 1) o element >> h) Q
-            y.inv
-            (ap m1.state there ∙ live s k y.ghost m1 y.inv (scene_later d g scope f b low s s k w0 m0 y.ghost m1 y.inv g1 y.holds.1 x0)) new counted1
-            (subst (λ (p : Spot). BlankAt y.ghost m1 p (ts ++ repeated count ts)) here
-            (blank_kept k b w m y.ghost m1 at (ts ++ repeated count ts) (subst (λ (p : Spot). p.object < m.objects p.region) (sym here) counted) y.grows blank))
-            y.holds.0 g1
-            (λ w2 m2 i2 z.
-            runs_elements count (i + 1) o (beyond (beyond o (i * length ts)) (length ts)) w2 m2 h Q
-            (further o (i * length ts) (length ts) ((i + 1) * length ts) (next_at i (length ts))) there i2
-            (stands_typed d g scope f s y.ghost m1 w2 m2 z.types z.cells y.holds.1) new
-            (subst (λ (c : Region → ℕ). o.object < c o.region) (sym z.objects) counted1) z.behind z.grows
-            (λ w3 m3 e. go w3 m3 (record {
-              inv = e.inv;
-              grows = e.grows;
-              stands = e.stands;
-              laid = subst (λ (p : Spot). Laid w3 p (ts ++ repeated count ts)) (sym here)
-                  (laid_then w3 (beyond o (i * length ts)) ts (repeated count ts)
-                  (laid_kept w2 w3 (beyond o (i * length ts)) ts (λ p u a. e.types p (Reached u) a) z.laid) e.laid);
-              types = λ p u a. e.types p u (z.types p u (y.grows.types p u a));
-            })))).by next q));
-      }
-
   -- ---- an array is made
 
   -- memory is asked for once the count is there, and filled then
   pub gives_filled : (s0 s1 s2 s3 : States) (t u : StaticType) (r : NameOf) (to : Act Maker) (count : Sense) (element : ℕ → Sense) → Agrees scope.world d
       → Lives n d g scope f b low r → Below g.regions.count r → (element 0).shape ≡ shape_of t → IsInteger u → Aims n d g scope f b low s0 s1 r to
       → Shows n d g scope f b low s1 s2 u count.look → ((w : Ghost) (m : Memory) → Standing d g scope f s2 w m → Standing d g scope f s3 w m)
-      → ((w : Ghost) (m : Memory) → Standing d g scope f s3 w m → (i : ℕ) → Gives n d g scope f b low s3 s3 t (element i).value)
+      → ((w : Ghost) (m : Memory) → Standing d g scope f s3 w m → (a : ℕ) → low ≤ a → ApartFrom (index_in a) scope.locals
+      → GivesElement n d g scope f b low a s3 t (element a).value)
       → Gives n d g scope f b low s0 s3 (Fat r t) (array_made scope.world to count element).value
   gives_filled s0 s1 s2 s3 t u r to count element agrees live below shape it aims shows enter gives = λ k w m i x. record {
     by = λ next q. (aims k w m i x).by (λ to. counted to next) (λ to m1 y.
@@ -149,7 +82,7 @@ module _ (n : ℕ) (d : Tables) (g : Env) (scope : Scope) (f : NameOf → Region
 
       filled : Maker → ℕ → Act (List Scalar)
       filled to c = ask to (saturated (c * size_of scope.world (element 0).shape)) (array_of c (map blank_cell sizes)) >>= λ s.
-          elements (length sizes) c 0 s element >> give (span_at c s ∷ [])
+          in_block (λ a. index_made a >> elements (length sizes) c 0 s (index_in a) (element a)) >> give (span_at c s ∷ [])
 
       counted : Maker → Act (List Scalar)
       counted to = count.look >>= one >>= integer >>= λ c. filled to c
@@ -166,7 +99,7 @@ module _ (n : ℕ) (d : Tables) (g : Env) (scope : Scope) (f : NameOf → Region
           let bytes : ℕ = saturated (c * size_of scope.world (element 0).shape) in
           let lives : m2.state (Born birth) ≡ Live = sym (ap m2.state region) ∙ live s3 k w2 m2 i2 x2 in
           subst (λ (cs : List Shape). Runs n (ask (InRegion birth) bytes (array_of c (map blank_cell cs)) >>= λ s.
-          elements (length cs) c 0 s element >> give (span_at c s ∷ [])) m2 (post k w m))
+          in_block (λ a. index_made a >> elements (length cs) c 0 s (index_in a) (element a)) >> give (span_at c s ∷ [])) m2 (post k w m))
           (sym cells)
           (record {
             by = λ next q.
@@ -175,46 +108,42 @@ module _ (n : ℕ) (d : Tables) (g : Env) (scope : Scope) (f : NameOf → Region
                 (ap state_is_live lives)
                 (runs_show n (RegionAlloc birth bytes) (make_object (Born birth) (array_of c (map blank_cell (map shape_of (cells_type d f t)))) >>= rest c) m2
                 (post k w m)
-                (runs_blank d n k m2.activations w2 m2 (Born birth) (array_of c (map blank_cell (map shape_of (cells_type d f t))))
-                (repeated c (cells_type d f t)) (rest c) (post k w m)
-                i2 lives (array_row blank_cell c (cells_type d f t))
-                (λ at m3 i3 g3 new same blank. fills k w m birth c w2 m2 g2 region x2 at m3 i3 g3 new same blank)))).by next q;
+                (runs_object n m2 (Born birth) (array_of c (map blank_cell (map shape_of (cells_type d f t)))) (rest c) (post k w m) lives
+                (fills k w m birth c w2 m2 i2 g2 region lives x2)))).by next q;
           })
         where
           rest : ℕ → Spot → Act (List Scalar)
-          rest c = λ s. elements (length (map shape_of (cells_type d f t))) c 0 s element >> give (span_at c s ∷ [])
+          rest c = λ s. in_block (λ a. index_made a >> elements (length (map shape_of (cells_type d f t))) c 0 s (index_in a) (element a)) >>
+              give (span_at c s ∷ [])
 
-          fills : (k : ℕ) (w : Ghost) (m : Memory) (birth c : ℕ) (w2 : Ghost) (m2 : Memory) → Grows k b w m w2 m2 → f r ≡ Born birth
-              → Scene d g scope f b low s3 k w2 m2
-              → (at : Spot) (m3 : Memory) → Inv d w2 m3 → Grows k m2.activations w2 m2 w2 m3 → New m2 m3 (Born birth) at
-              → ((y : Spot) (q : Kept) → w2.types y ≡ Some q → m3.cells y ≡ m2.cells y) → BlankAt w2 m3 at (repeated c (cells_type d f t))
-              → Runs n (rest c at) m3 (post k w m)
-          fills k w m birth c w2 m2 g2 region x2 at m3 i3 g3 new same blank =
-              let there : at.region ≡ f r = new.region ∙ sym region in
-              subst (λ (l : ℕ). Runs n (elements l c 0 at element >> give (span_at c at ∷ [])) m3 (post k w m)) (sym (length-map (cells_type d f t) shape_of))
-              (runs_elements t r k s3 element live (gives w2 m2 x2.stands) w2 m2 x2 c 0 at at w2 m3 (give (span_at c at ∷ [])) (post k w m)
-              (sym (at_start at (length (cells_type d f t)))) there i3
-              (stands_typed d g scope f s3 w2 m2 w2 m3 (λ y q e. e) same x2.stands)
-              (let z : m2.objects at.region ≡ m2.objects (Born birth) = ap m2.objects new.region in let o : at.object ≡ m2.objects (Born birth) =
-              new.object in omega (arith, z, o))
-              (subst (λ (q : Region). at.object < m3.objects q) (sym new.region) new.counted) blank (grows_base x2.base g3)
-              (λ w4 m4 z. record {
-                by = λ next q. q (span_at c at ∷ []) m4 (record {
-                  ghost = w4;
-                  inv = z.inv;
-                  grows = grows_trans g2 z.grows;
-                  holds = (
-                    (
-                      inr (all_elements d w4 at c (f r) (renamed f t)
-                          (ap (λ (q : Region). w4.above q (f r)) there
-                          ∙ z.inv.itself (f r) ((scene_later d g scope f b low s3 s3 k w2 m2 w4 m4 z.inv z.grows z.stands x2).names.known r below))
-                          (laid_all w4 at c (cells_type d f t) z.laid)),
-                      tt,
-                    ),
-                    z.stands,
-                  );
-                });
-              }))
+          fills : (k : ℕ) (w : Ghost) (m : Memory) (birth c : ℕ) (w2 : Ghost) (m2 : Memory) → Inv d w2 m2 → Grows k b w m w2 m2 → f r ≡ Born birth
+              → m2.state (Born birth) ≡ Live → Scene d g scope f b low s3 k w2 m2
+              → Runs n (rest c (next_spot m2 (Born birth))) (with_object m2 (Born birth) (array_of c (map blank_cell (map shape_of (cells_type d f t))))) (post k w m)
+          fills k w m birth c w2 m2 i2 g2 region lives x2 =
+              let at : Spot = next_spot m2 (Born birth) in
+              let made_there : Memory = with_object m2 (Born birth) (array_of c (map blank_cell (map shape_of (cells_type d f t)))) in
+              subst (λ (l : ℕ). Runs n (in_block (λ a. index_made a >> elements l c 0 at (index_in a) (element a)) >> give (span_at c at ∷ [])) made_there
+              (post k w m)) (sym (length-map (cells_type d f t) shape_of))
+              (record {
+                by = λ next q. (runs_indexed n d g scope f b low t r k s3 c birth element w2 m2 live i2 x2 lives region (gives w2 m2 x2.stands)).by
+                    (λ u. next (span_at c at ∷ []))
+                    (λ u m4 z. q (span_at c at ∷ []) m4 (record {
+                      ghost = z.ghost;
+                      inv = z.inv;
+                      grows = grows_trans g2 z.grows;
+                      holds = (
+                        (
+                          inr (all_elements d z.ghost at c (f r) (renamed f t)
+                              (ap (λ (q : Region). z.ghost.above q (f r)) (sym region)
+                              ∙ z.inv.itself (f r)
+                              ((scene_later d g scope f b low s3 s3 k w2 m2 z.ghost m4 z.inv z.grows z.holds.1 x2).names.known r below))
+                              (laid_all z.ghost at c (cells_type d f t) z.holds.0)),
+                          tt,
+                        ),
+                        z.holds.1,
+                      );
+                    }));
+              })
 
   -- the elements are a loop: each is given from the head of its states, and leaves what implies the head
   pub denotes_filled : b ≤ low → (at : ℕ) (r : NameOf) (to : Act Maker) (p : States → Passed) (x : tree.Name) (c a v : Value) (uc ue : Use) (does : Passage)
@@ -256,9 +185,10 @@ module _ (n : ℕ) (d : Tables) (g : Env) (scope : Scope) (f : NameOf → Region
       refused : ((s : States) → (act s).faults ≡ [] → ⊥) → Denotes n d g scope f b low v (value_use act) (array_made scope.world to count element)
       refused never = denotes_refused n d g scope f b low v act (Fat r a.type) (array_made scope.world to count element) it (below, (h 0).below) made.1 never
 
-      gives_element : (s : States) → (ue.value (Plain ∷ head s)).faults ≡ [] → (i : ℕ) → Gives n d g scope f b low (head s) (head s) a.type (element i).value
-      gives_element s none i = λ k w m inv q. record {
-        by = λ next go. (element_gives (h i).sound k w m inv (scene_counter g scope f x i d b low (head s) k w m q)).by next
+      gives_element : (s : States) → (ue.value (Plain ∷ head s)).faults ≡ [] → (i : ℕ) → low ≤ i → ApartFrom (index_in i) scope.locals
+          → GivesElement n d g scope f b low i (head s) a.type (element i).value
+      gives_element s none i own apart = λ k w m inv q index counted. record {
+        by = λ next go. (element_gives (h i).sound k w m inv (scene_counter g scope f x i d b low (head s) k w m own apart index counted q)).by next
             (λ vs m2 y. go vs m2 (record {
               ghost = y.ghost;
               inv = y.inv;
@@ -303,4 +233,4 @@ module _ (n : ℕ) (d : Tables) (g : Env) (scope : Scope) (f : NameOf → Region
           let s2 : States = (uc.look s1).states in
           gives_filled s s1 s2 (head s2) a.type c.type r to count element agrees live below shape fits.0 (aims s (passed_first p uc.look s counted))
           (y.look s1 (passed_second p uc.look s counted)) (λ w m st. head_stands d g scope f turn back returns s2 w m st)
-          (λ w m st i. gives_element s2 (passed_second (λ y. then_passed (p y) uc.look) (elements_passed ue.value) s q) i))
+          (λ w m st. gives_element s2 (passed_second (λ y. then_passed (p y) uc.look) (elements_passed ue.value) s q)))

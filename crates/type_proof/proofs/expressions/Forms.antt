@@ -3,9 +3,9 @@ use Rattle.std.proofs.Common.{◌≡◌, ℕ, Bool, true, false, ◌⊎◌, inl,
 use Rattle.std.specs.Prelude.{◌%◌, ◌^◌, ◌&&◌, not, bytes_eq, if◌then◌else◌}
 use Rattle.source_meaning.specs.Shapes.{MayBeNull, Shared, Shape, IntShape, UnsignedShape, VoidShape, ThinShape, FatShape, ArrayShape}
 use Rattle.source_meaning.specs.Memory as memory
-use Rattle.source_meaning.specs.Memory.{Region, Scalar, Integer, IntegerType, AsInt, AsUnsigned, AsChar}
-use Rattle.source_meaning.specs.Steps.{Entity, Scope, Act, give}
-use Rattle.source_meaning.specs.Places.{Sense, value_sense, entity_of, entity_sense, span_at}
+use Rattle.source_meaning.specs.Memory.{Region, Spot, Scalar, Integer, IntegerType, AsInt, AsUnsigned, AsChar}
+use Rattle.source_meaning.specs.Steps.{Entity, Variable, Scope, Act, give}
+use Rattle.source_meaning.specs.Places.{Sense, value_sense, place_sense, entity_of, entity_sense, span_at}
 use Rattle.source_meaning.specs.Calls.{constant}
 use Rattle.source_typing.specs.Verdicts.{Of, Verdict, other_kind}
 use Rattle.source_typing.specs.Places as places
@@ -29,7 +29,7 @@ use Rattle.type_proof.proofs.invariant.Copyable.{copyable_copied}
 use Rattle.type_proof.proofs.expressions.Uses.{Own}
 use Rattle.type_proof.proofs.expressions.Owned.{sound_own}
 use Rattle.type_proof.proofs.invariant.Layouts.{Structs, agrees}
-use Rattle.type_proof.proofs.expressions.Places.{uncopied}
+use Rattle.type_proof.proofs.expressions.Places.{uncopied, sound_index}
 use Rattle.type_proof.proofs.expressions.WordRules.{SeatKnown, Valued, value_of}
 use Rattle.type_proof.proofs.expressions.Integers.{integer_typed}
 use Rattle.type_proof.proofs.expressions.Words.{IsObjectType, IsSimple, object_simple}
@@ -149,19 +149,25 @@ module _ (n : ℕ) (d : Tables) (g : Env) (scope : Scope) (f : NameOf → Region
       (gives_at_once n d g scope f b low Char (Integer AsChar (x % 256) ∷ []) (λ k w. integer_typed d f w (flying k 0) AsChar (x % 256)))
 
   -- the index of an element
-  denotes_number : (x : ℕ) (v : Value) → Valued v Unsigned → Denotes v (value_use nothing) (value_sense UnsignedShape (give (Integer AsUnsigned x ∷ [])))
-  denotes_number x v h = denotes_value v nothing Unsigned UnsignedShape (give (Integer AsUnsigned x ∷ [])) tt tt h refl
-      (gives_at_once n d g scope f b low Unsigned (Integer AsUnsigned x ∷ []) (λ k w. integer_typed d f w (flying k 0) AsUnsigned x))
+  denotes_index : (x : List ℕ) (at : Spot) (v : Value) → meant g x ≡ Some (OfValue Counter) → entity_of scope x ≡ Some (Variable UnsignedShape at)
+      → Valued v Unsigned → Denotes v (value_use nothing) (place_sense scope.world UnsignedShape (give at))
+  denotes_index x at v m e h = record {
+    simple = subst (λ (y : StaticType). IsSimple y) (sym h.type) tt;
+    below = subst (λ (y : StaticType). TypeBelow g.regions.count y) (sym h.type) tt;
+    seated = unseated v h.seat;
+    place = nowhere v (IsObjectType v.type) h.seat;
+    own = false;
+    sound = inl (sound_index n d g scope f b low at v (λ s k w k2 z. z.indices x at m e) h.type h.seat);
+  }
 
   pub denotes_null : (v : Value) → Valued v Null → Denotes v (value_use nothing) (value_sense (ThinShape (MayBeNull 1) Shared VoidShape) (give (memory.Thin None ∷ [])))
   denotes_null v h = denotes_value v nothing Null _ (give (memory.Thin None ∷ [])) tt tt h refl
       (gives_at_once n d g scope f b low Null (memory.Thin None ∷ []) (λ k w. (refl, tt)))
 
   -- a value that isn't moved out of a place, of an expression that is none
-  denotes_unplaced : (place : ℕ) (moves : Bool) (v : Value) (sh : Shape) (act : Act (List Scalar)) → Denotes v (value_use nothing) (value_sense sh act) → v.seat
-      ≡ Nowhere
-      → Denotes v (place_use place moves false nothing) (value_sense sh act)
-  denotes_unplaced place moves v sh act h seat = record {
+  denotes_unplaced : (place : ℕ) (moves : Bool) (v : Value) (e : Sense) → Denotes v (value_use nothing) e → v.seat ≡ Nowhere
+      → Denotes v (place_use place moves false nothing) e
+  denotes_unplaced place moves v e h seat = record {
     simple = h.simple;
     below = h.below;
     seated = h.seated;
@@ -170,20 +176,20 @@ module _ (n : ℕ) (d : Tables) (g : Env) (scope : Scope) (f : NameOf → Region
     sound = by h.sound;
   }
     where
-      by : Sound n d g scope f b low v (value_use nothing) h.own (value_sense sh act) ⊎ Refuses (value_use nothing)
-          → Sound n d g scope f b low v (place_use place moves false nothing) false (value_sense sh act) ⊎ Refuses (place_use place moves false nothing)
+      by : Sound n d g scope f b low v (value_use nothing) h.own e ⊎ Refuses (value_use nothing)
+          → Sound n d g scope f b low v (place_use place moves false nothing) false e ⊎ Refuses (place_use place moves false nothing)
       by (inr r) = absurd (r.look [] refl)
       by (inl z) = inl (record {
         shape = z.shape;
         owned = λ q. absurd cc;
         value = λ is s q.
             let c : (moves ≡ false) × ((copy_if moves place s).states ≡ s) = uncopied moves place s q in
-            subst (λ (s2 : States). Gives n d g scope f b low s s2 v.type act) (sym c.1) (z.value is s refl);
+            subst (λ (s2 : States). Gives n d g scope f b low s s2 v.type e.value) (sym c.1) (z.value is s refl);
         look = z.look;
         held = λ y. absurd cc;
-        place = nowhere v (FindsAny n d g scope f b low nothing false v.seat v.type Rattle.source_meaning.specs.Steps.stuck) seat;
+        place = nowhere v (FindsAny n d g scope f b low nothing false v.seat v.type e.place) seat;
         pointed = λ o r q. absurd (let y : v.seat ≡ Nowhere = seat in cc);
-        stores = λ is. nowhere v (StoresBy n d g scope f b low nothing v.type Rattle.source_meaning.specs.Steps.stuck) seat;
+        stores = λ is. nowhere v (StoresBy n d g scope f b low nothing v.type e.place) seat;
       })
 
   -- a name of the program's, and one of a local
@@ -257,7 +263,7 @@ module _ (n : ℕ) (d : Tables) (g : Env) (scope : Scope) (f : NameOf → Region
       by : (l : Option Local) → find_local g.locals x.text ≡ l → IsObjectType t
           → (c : ℕ) (z : Bound g.regions.count f (entity_of scope x.text) (ArrayShape c (shape_of t)) t r)
           → Denotes v (use_of_name g x l) (value_sense (FatShape (shape_of t)) (give (span_at c z.at ∷ [])))
-      by None q it c z = denotes_unplaced x.at (is_moved g (variable x.at (find g.tables x.text))) v (FatShape (shape_of t)) (give (span_at c z.at ∷ []))
+      by None q it c z = denotes_unplaced x.at (is_moved g (variable x.at (find g.tables x.text))) v (value_sense (FatShape (shape_of t)) (give (span_at c z.at ∷ [])))
           (denotes_value v nothing (Fat r t) (FatShape (shape_of t)) (give (span_at c z.at ∷ [])) it (z.within, z.below) (value_of x.at (Fat r t) v e) refl
           (gives_array n d g scope f b low x.text t r c z m (ap (is_own g.tables) q))) (value_of x.at (Fat r t) v e).seat
       by (Some l) q it c z =
@@ -287,16 +293,17 @@ module _ (n : ℕ) (d : Tables) (g : Env) (scope : Scope) (f : NameOf → Region
               }
   denotes_variable structs binds x (Some (OfValue Counter)) v p m e l q =
       let z : Numbered (entity_of scope x.text) = binds.variables x.text Counter m in
-      subst (λ (y : Option Entity). Denotes v (use_of_name g x l) (entity_sense scope.world y)) (sym z.is) (by l q z.number)
+      subst (λ (y : Option Entity). Denotes v (use_of_name g x l) (entity_sense scope.world y)) (sym z.is)
+      (by l q (denotes_index x.text z.at v m z.is (value_of x.at Unsigned v e)))
     where
-      by : (l : Option Local) → find_local g.locals x.text ≡ l → (c : ℕ)
-          → Denotes v (use_of_name g x l) (value_sense UnsignedShape (give (Integer AsUnsigned c ∷ [])))
-      by None q c = denotes_unplaced x.at (is_moved g (variable x.at (find g.tables x.text))) v UnsignedShape (give (Integer AsUnsigned c ∷ []))
-          (denotes_number c v (value_of x.at Unsigned v e)) (value_of x.at Unsigned v e).seat
-      by (Some l) q c =
+      by : {at : Spot} (l : Option Local) → find_local g.locals x.text ≡ l
+          → Denotes v (value_use nothing) (place_sense scope.world UnsignedShape (give at))
+          → Denotes v (use_of_name g x l) (place_sense scope.world UnsignedShape (give at))
+      by {at = at} None q h = denotes_unplaced x.at (is_moved g (variable x.at (find g.tables x.text))) v (place_sense scope.world UnsignedShape (give at)) h
+          (value_of x.at Unsigned v e).seat
+      by {at = at} (Some l) q h =
           let is : l.what ≡ Counter = (let a : Some (OfValue l.what) ≡ Some (OfValue Counter) = sym (local_meant g.locals g.tables x.text l q) ∙ m in cc) in
-          subst (λ (y : What). Denotes v (use_of_local g x y) (value_sense UnsignedShape (give (Integer AsUnsigned c ∷ [])))) (sym is)
-          (denotes_number c v (value_of x.at Unsigned v e))
+          subst (λ (y : What). Denotes v (use_of_local g x y) (place_sense scope.world UnsignedShape (give at))) (sym is) h
   denotes_variable structs binds x (Some (OfValue Unknown)) v p m e l q = absurd (p x.text (OfValue Unknown) m)
   denotes_variable structs binds x (Some (OfTag t)) v p m e l q = absurd (never t.sound e)
     where

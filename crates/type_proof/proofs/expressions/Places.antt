@@ -1,29 +1,29 @@
 -- Places are read: their cells are there, in a region that is live.
 use Rattle.std.proofs.Common.{◌≡◌, ℕ, zero, suc, Bool, true, false, Some, List, [], ◌∷◌, refl, sym, ◌∙◌, ap, subst}
 use Rattle.std.specs.Prelude.{map, length, if◌then◌else◌}
-use Rattle.source_meaning.specs.Shapes.{Shape}
+use Rattle.source_meaning.specs.Shapes.{Shape, UnsignedShape}
 use Rattle.source_meaning.specs.Memory as memory
 use Rattle.source_meaning.specs.Memory.{Spot, Scalar, Live, Memory, any_moved}
 use Rattle.source_meaning.specs.Steps.{Scope, Act, give, ◌>>=◌, ◌>>◌}
 use Rattle.source_meaning.specs.Conversions.{cells_of}
 use Rattle.source_meaning.specs.Values.{read_cells, take_cells, put_contents, write_cells}
 use Rattle.source_meaning.specs.Places.{place_sense}
-use Rattle.source_typing.specs.Scope.{Env, Value, Seat, Nowhere, In, InBlock}
-use Rattle.source_typing.specs.Types.{StaticType, renamed, shape_of}
-use Rattle.source_typing.specs.Moves.{copy_if, place_use, value_use}
+use Rattle.source_typing.specs.Scope.{Env, Value, Seat, Nowhere, In, InBlock, is_place}
+use Rattle.source_typing.specs.Types.{StaticType, Unsigned, renamed, shape_of}
+use Rattle.source_typing.specs.Moves.{nothing, copy_if, place_use, value_use}
 use Rattle.source_typing.specs.States.{States, Passed}
 use Rattle.type_proof.specs.Flat.{Tables}
 use Rattle.type_proof.proofs.invariant.Invariant.{RunType, Owner, InCell, Reached, Full, CellOk, Ghost, Laid, HasType, HaveTypes, Inv}
 use Rattle.type_proof.proofs.invariant.Runs.{Safe, Runs, runs_bind}
 use Rattle.type_proof.proofs.invariant.After.{After, flying, flight_kept, grows_base}
-use Rattle.type_proof.proofs.invariant.Growth.{grows_trans, grows_less}
+use Rattle.type_proof.proofs.invariant.Growth.{grows_refl, grows_trans, grows_less}
 use Rattle.type_proof.proofs.invariant.Cells.{cell, seen, runs_read, Copied, runs_read_laid, runs_write_laid}
 use Rattle.type_proof.proofs.invariant.Arguments.{Agrees}
 use Rattle.type_proof.proofs.invariant.Names.{NameOf}
-use Rattle.type_proof.proofs.invariant.Sound.{shape_renamed, Holder, Looked, cells_type, PlaceStands, Gives, Shows, Stores, FindsAny, Sound, none_first}
+use Rattle.type_proof.proofs.invariant.Sound.{shape_renamed, Holder, Looked, cells_type, PlaceStands, Gives, Shows, Stores, FindsAny, Sound, gives_shows, none_first}
 use Rattle.type_proof.proofs.invariant.Sound.{none_second}
 use Rattle.type_proof.proofs.invariant.Standing.{Standing, all_kept}
-use Rattle.type_proof.proofs.invariant.Scenes.{Scene, scene_later, scene_more}
+use Rattle.type_proof.proofs.invariant.Scenes.{IndexStands, Scene, scene_later, scene_more}
 
 -- the cells from a spot on, as holders of rights
 abbrev cells_from : Spot → ℕ → Owner
@@ -176,4 +176,33 @@ module _ (n : ℕ) (d : Tables) (g : Env) (scope : Scope) (f : NameOf → memory
     place = λ z. run;
     pointed = λ o r z. subst (λ (q : Seat). FindsAny n d g scope f b low p false q v.type at) z run;
     stores = λ y z s q. stores_reached s (p s).states v.type v.seat at (run s q);
+  }
+
+-- ---- the index of an element
+
+module _ (n : ℕ) (d : Tables) (g : Env) (scope : Scope) (f : NameOf → memory.Region) (b : ℕ) (low : ℕ) where
+  -- it is read where it lies
+  gives_index : (at : Spot) → ((s : States) (k : ℕ) (w : Ghost) (m : Memory) → Scene d g scope f b low s k w m → IndexStands w m at) → (s : States)
+      → Gives n d g scope f b low s s Unsigned (read_cells 1 at)
+  gives_index at stands s = λ k w m i x.
+      let z : IndexStands w m at = stands s k w m x in
+      runs_read_laid d n w m at (Unsigned ∷ []) (flying k 0) (λ vs. give vs)
+      (λ vs. After d k b w m (λ w' m'. HaveTypes d w' (flying k 0) vs (cells_type d f Unsigned) × Standing d g scope f s w' m')) i
+      (ap m.state z.region ∙ z.live) (z.typed, tt) (refl, tt)
+      (λ vs hv. record { by = λ next q. q vs m (record { ghost = w; inv = i; grows = grows_refl k b w m; holds = (hv, x.stands) }) })
+
+  -- and is no place
+  pub sound_index : (at : Spot) (v : Value) → ((s : States) (k : ℕ) (w : Ghost) (m : Memory) → Scene d g scope f b low s k w m → IndexStands w m at)
+      → v.type ≡ Unsigned → v.seat ≡ Nowhere
+      → Sound n d g scope f b low v (value_use nothing) false (place_sense scope.world UnsignedShape (give at))
+  sound_index at v stands type seat = record {
+    shape = λ z. ap shape_of (sym type);
+    owned = λ z. absurd cc;
+    value = λ y s z. subst (λ (t : StaticType). Gives n d g scope f b low s s t (read_cells 1 at)) (sym type) (gives_index at stands s);
+    look = λ s z. subst (λ (t : StaticType). Shows n d g scope f b low s s t (read_cells 1 at)) (sym type)
+        (gives_shows n d g scope f b low s s Unsigned (read_cells 1 at) (gives_index at stands s));
+    held = λ z. absurd cc;
+    place = λ z. absurd (let y = ap is_place seat in cc);
+    pointed = λ o r z. absurd (let y : v.seat ≡ Nowhere = seat in cc);
+    stores = λ y z. absurd (let u = ap is_place seat in cc);
   }

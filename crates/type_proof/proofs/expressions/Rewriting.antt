@@ -2,7 +2,7 @@
 use Rattle.std.proofs.Common.{◌≡◌, ◌⊎◌, inl, inr, Some, List, [], ◌∷◌, refl, ◌∙◌}
 use Rattle.source_meaning.specs.Memory as memory
 use Rattle.source_meaning.specs.Memory.{Region, Spot, Scalar, Memory, beyond}
-use Rattle.source_meaning.specs.Steps.{Binding, Entity, Variable, Fixed}
+use Rattle.source_meaning.specs.Steps.{Binding, Entity, Variable}
 use Rattle.source_typing.specs.Scope.{Local}
 use Rattle.source_typing.specs.States.{State, Plain, Held, Gone, Lent, States}
 use Rattle.source_typing.specs.Tables as typing
@@ -59,7 +59,6 @@ module _ (w : Ghost) (m : Memory) (w' : Ghost) (m' : Memory) (r : Rewrites w m w
     local_again : (v : What) (e : Entity) (a : State) → LocalStands tables d f v e a w m
         → LocalStands tables d f v e a w' m'
     local_again (Stored t q) (Variable sh at) a h = λ c. cells_again a at _ (h c)
-    local_again (Stored t q) (Fixed sh v) a h = h
     local_again (Arrayed t q) e a h = tt
     local_again Counter e a h = tt
     local_again Unknown e a h = tt

@@ -3,7 +3,7 @@ use Rattle.std.proofs.Common.{◌≡◌, ℕ, suc, ◌+◌, ◌<◌, ◌≤◌, 
 use Rattle.std.specs.Prelude.{nat_eq, ◌&&◌, length, map, slice_get}
 use Rattle.std.proofs.lemmas.Bool.{false≢true}
 use Rattle.std.proofs.lemmas.Bool.Decides.{eqb_tells}
-use Rattle.source_meaning.specs.Memory.{Region, Spot, Scalar, Holds, Blank, Cell, Object, Live, Memory, with_cell, with_object, next_spot, beyond, blank_cell}
+use Rattle.source_meaning.specs.Memory.{Region, Spot, Scalar, Holds, Blank, Cell, Object, Live, Memory, with_cell, with_object, next_spot, beyond}
 use Rattle.source_meaning.specs.Memory.{is_live, state_is_live}
 use Rattle.source_meaning.specs.Steps.{Act, ◌>>=◌, ◌>>◌}
 use Rattle.source_meaning.specs.Values.{write_cells}
@@ -17,27 +17,16 @@ use Rattle.type_proof.proofs.invariant.Moves.{into}
 use Rattle.type_proof.proofs.invariant.Runs.{Runs, runs_check}
 use Rattle.type_proof.proofs.invariant.After.{flying}
 use Rattle.type_proof.proofs.invariant.Cells.{cell, seen, typed_is, runs_write}
-use Rattle.type_proof.proofs.invariant.Objects.{New, BlankAt, filled, inv_filled, grows_filled, inv_object, grows_object, blank_from, old_cells}
+use Rattle.type_proof.proofs.invariant.Objects.{BlankAt, filled, inv_filled, grows_filled}
 
 -- ---- the object
 
--- nothing is stored to its cells yet
-pub runs_blank : {B : Type 0} (d : Tables) (n k b : ℕ) (w : Ghost) (m : Memory) (r : Region) (o : Object) (ts : List RunType) (rest : Spot → Act B)
-    (Q : B → Memory → Type 0) → Inv d w m → m.state r ≡ Live → ((j : ℕ) → o j ≡ slice_get (map blank_cell (map shape_of ts)) j)
-    → ((at : Spot) (m' : Memory) → Inv d w m' → Grows k b w m w m' → New m m' r at → ((y : Spot) (q : Kept) → w.types y ≡ Some q → m'.cells y ≡ m.cells y)
-    → BlankAt w m' at ts
-    → Runs n (rest at) m' Q)
-    → Runs n (make_object r o >>= rest) m Q
-runs_blank d n k b w m r o ts rest Q i l blank go =
-    let m1 : Memory = with_object m r o in
-    let at : Spot = next_spot m r in
-    let there : at.object < m1.objects at.region = at_region m.objects r (m.objects r + 1) r (λ x. m.objects r < x) (λ e. omega arith) (λ e. absurd (e refl)) in
-    let done = go at m1 (inv_object d w m r o i l) (grows_object d k b w m r o i) (record { region = refl; object = refl; counted = there })
-    (λ y q e. old_cells m r o y (i.counted y q e)) (blank_from d w m r o 0 ts i (λ j. ap o (omega arith) ∙ blank j)) in
-    record {
-      by = λ next q. (runs_check n (is_live m r) (λ next2 m2. rest at next2 m1) m Q (ap state_is_live l)
-          (record { by = λ next2 q2. done.by next2 q2 })).by next q;
-    }
+pub runs_object : {B : Type 0} (n : ℕ) (m : Memory) (r : Region) (o : Object) (rest : Spot → Act B) (Q : B → Memory → Type 0) → m.state r ≡ Live
+    → Runs n (rest (next_spot m r)) (with_object m r o) Q → Runs n (make_object r o >>= rest) m Q
+runs_object n m r o rest Q l done = record {
+  by = λ next q. (runs_check n (is_live m r) (λ next2 m2. rest (next_spot m r) next2 (with_object m r o)) m Q (ap state_is_live l)
+      (record { by = λ next2 q2. done.by next2 q2 })).by next q;
+}
 
 -- what is being made stays as it is while an element is evaluated
 pub blank_kept : (k b : ℕ) (w : Ghost) (m : Memory) (w' : Ghost) (m' : Memory) (s : Spot) (ts : List RunType) → s.object < m.objects s.region

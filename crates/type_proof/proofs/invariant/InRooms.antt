@@ -3,7 +3,7 @@ use Rattle.std.proofs.Common.{◌≡◌, ℕ, ◌<◌, ◌≤◌, Bool, true, fa
 use Rattle.std.specs.Prelude.{bytes_eq, if◌then◌else◌}
 use Rattle.source_meaning.specs.Shapes.{Shape}
 use Rattle.source_meaning.specs.Memory.{Frame, Spot}
-use Rattle.source_meaning.specs.Steps.{Entity, Binding, Variable, Fixed}
+use Rattle.source_meaning.specs.Steps.{Entity, Binding, Variable}
 use Rattle.source_meaning.specs.Places.{bound_to}
 use Rattle.type_proof.proofs.invariant.Standing.{InRoom, Rooms, EntityWithin, AllWithin}
 
@@ -18,7 +18,6 @@ room_found b (y ∷ bs) x sh at h e j r = by (bytes_eq y.name x) (λ q. room_fou
         let p : s ≡ at = cc in
         let z : Frame room.frame ≡ Frame j = sym room.region ∙ (ap (λ (c : Spot). c.region) p ∙ r) in
         let c : room.frame ≡ j = cc in let l = room.own in omega (arith, l, c)
-    one (Fixed sh2 u) room q = absurd cc
 
     by : (c : Bool) → (bound_to bs x ≡ Some (Variable sh at) → b ≤ j) → (if c then Some y.entity else bound_to bs x) ≡ Some (Variable sh at) → b ≤ j
     by true others q = one y.entity h.0 (let z : y.entity ≡ Variable sh at = cc in z)
@@ -40,7 +39,6 @@ in_frame count b (y ∷ bs) x sh at h w e = by (bytes_eq y.name x) (λ q. in_fra
     one (Variable sh2 s) room within q =
         let p : s ≡ at = cc in
         subst (λ (o : Spot). InFrame count b o) p (record { frame = room.frame; region = room.region; known = within room.frame room.region; own = room.own })
-    one (Fixed sh2 u) room within q = absurd cc
 
     by : (c : Bool) → (bound_to bs x ≡ Some (Variable sh at) → InFrame count b at) → (if c then Some y.entity else bound_to bs x) ≡ Some (Variable sh at)
         → InFrame count b at

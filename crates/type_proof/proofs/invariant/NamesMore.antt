@@ -1,15 +1,46 @@
--- The names of aliases and keys.
-use Rattle.std.proofs.Common.{◌≡◌, ◌+◌, Bool, true, false, inl, inr, sym, subst, ℕ}
+-- The names of aliases and keys, and names beside a scope that has none.
+use Rattle.std.proofs.Common.{◌≡◌, ◌+◌, Bool, true, false, inl, inr, refl, sym, subst, ℕ}
 use Rattle.std.specs.Prelude.{if◌then◌else◌}
 use Rattle.std.proofs.lemmas.Bool.{cases_Bool, false≢true}
 use Rattle.source_meaning.specs.Memory.{Region, Live, Memory}
 use Rattle.source_typing.specs.Regions.{TheHeap, Level, same_id, Regions, opened, with_name}
 use Rattle.type_proof.specs.Flat.{Tables}
-use Rattle.type_proof.proofs.invariant.Facts.{if_cases}
-use Rattle.type_proof.proofs.invariant.Invariant.{heap, Ghost, Known, Inv}
+use Rattle.type_proof.proofs.invariant.Facts.{if_cases, at_region}
+use Rattle.type_proof.proofs.invariant.Invariant.{heap, Nobody, Ghost, Known, Inv}
+use Rattle.type_proof.proofs.invariant.Births.{bearing, with_birth, Births}
+use Rattle.type_proof.proofs.invariant.Scopes.{above_scope}
 use Rattle.type_proof.proofs.invariant.Names.{NameOf, NamesOk, Stands, Outlasts, naming, below_more, new_below, named_cases, same_only}
 use Rattle.source_typing.specs.Named.{Below}
 use Rattle.source_typing.proofs.NamedBelow.{below_up}
+
+-- a scope begins that has no name
+pub names_beside : (d : Tables) (g : Regions) (f : NameOf → Region) (k : ℕ) (w : Ghost) (m : Memory) (x y : ℕ) (r : Region) → Inv d w m
+    → Births w m x y r Live (above_scope w m r) Nobody false → NamesOk g f k w m
+    → NamesOk g f k (bearing w r (above_scope w m r) Nobody false) (with_birth m x y r Live)
+names_beside d g f k w m x y r i n h = record {
+  heap_is = h.heap_is;
+  known = λ a l. n.more (f a) (h.known a l);
+  bounded = h.bounded;
+  live = λ a l. at_region m.state r Live (f a) (λ q. q ≡ Live) (λ z. refl) (λ z. h.live a l);
+  stands = λ a l. at_region w.owner r Nobody (f a) (λ q. Stands k q) (λ z. inl refl) (λ z. h.stands a l);
+  lasting = λ a l.
+      let z : Below g.count a × Outlasts (f a) k w m = h.lasting a l in (
+        z.0,
+        record {
+          lower = z.1.lower;
+          known = n.more z.1.lower z.1.known;
+          live = at_region m.state r Live z.1.lower (λ q. q ≡ Live) (λ y. refl) (λ y. z.1.live);
+          stands = at_region w.owner r Nobody z.1.lower (λ q. Stands k q) (λ y. inl refl) (λ y. z.1.stands);
+          above = old (f a) z.1.lower z.1.above;
+        },
+      );
+  order = λ a c e. old (f a) (f c) (h.order a c e);
+}
+  where
+    -- what outlives what was there
+    old : (p q : Region) → w.above p q ≡ true → (bearing w r (above_scope w m r) Nobody false).above p q ≡ true
+    old p q e = at_region (λ z. w.above p q) r (above_scope w m r p) q (λ z. z ≡ true)
+        (λ z. absurd (n.new (subst (λ (o : Region). Known m o) z (i.born_lower p q e)))) (λ z. e)
 
 -- a name for a region that is there: only the heap outlives it
 pub names_named : (d : Tables) (g : Regions) (f : NameOf → Region) (k : ℕ) (w : Ghost) (m : Memory) (q : Region) (live : Bool) → Inv d w m → Known m q

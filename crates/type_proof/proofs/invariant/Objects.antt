@@ -303,6 +303,7 @@ blank_from d w m r o j (t ∷ ts) i h = (
 pub record New (m m' : Memory) (r : Region) (at : Spot) : Type 0 where
   pub region : at.region ≡ r
   pub object : at.object ≡ m.objects r
+  pub first : at.cell ≡ 0
   pub counted : at.object < m'.objects r
 
 pub runs_made : {B : Type 0} (d : Tables) (n k b : ℕ) (K : RunType → Kept) (w : Ghost) (m : Memory) (r : Region) (ts : List RunType) (vs : List Scalar)
@@ -317,7 +318,7 @@ runs_made d n k b K w m r ts vs rest Q same i l hv go =
     let there : at.object < m1.objects at.region = at_region m.objects r (m.objects r + 1) r (λ x. m.objects r < x) (λ e. omega arith) (λ e. absurd (e refl)) in
     let fill = runs_fill d n k b 0 K w w m m1 at ts vs (rest at) Q same i1 l (omega arith) there (blank_from d w m r o 0 ts i (λ j. ap o (omega arith))) hv
     (grows_object d k b w m r o i) (λ w' m' i' g' full st os older types z.
-    go at w' m' i' g' (record { region = refl; object = refl; counted = subst (λ (c : Region → ℕ). m.objects r < c r) (sym os) there }) full st
+    go at w' m' i' g' (record { region = refl; object = refl; first = refl; counted = subst (λ (c : Region → ℕ). m.objects r < c r) (sym os) there }) full st
     (record { flights = z.flights; keyed = z.keyed; cells = λ y q e. z.cells y q e ∙ old_cells m r o y (i.counted y q e) })) in
     record {
       by = λ next q. (runs_check n (is_live m r) (λ next2 m2. (write_cells at vs >> rest at) next2 m1) m Q (ap state_is_live l)

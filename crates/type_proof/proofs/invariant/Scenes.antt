@@ -1,19 +1,21 @@
 -- What stands for the names in scope: each variable has its cells, in a region that is live.
-use Rattle.std.proofs.Common.{◌≡◌, ℕ, suc, ◌≤◌, Bool, true, false, arith, Option, Some, List, [], ◌∷◌, sym, ◌∙◌, subst}
+use Rattle.std.proofs.Common.{◌≡◌, ℕ, suc, ◌<◌, ◌≤◌, Bool, true, false, arith, Option, Some, List, [], ◌∷◌, refl, sym, ◌∙◌, subst}
 use Rattle.source_meaning.specs.Shapes.{Shape, ArrayShape, UnsignedShape}
-use Rattle.source_meaning.specs.Memory.{Region, Spot, Integer, AsUnsigned, Memory}
-use Rattle.source_meaning.specs.Steps.{Binding, Entity, Variable, Fixed, World, Scope}
+use Rattle.source_meaning.specs.Memory.{Region, Frame, Spot, Live, Memory}
+use Rattle.source_meaning.specs.Steps.{Binding, Entity, Variable, World, Scope}
 use Rattle.source_meaning.specs.Places.{bound_to, entity_of}
 use Rattle.source_typing.specs.Scope.{Env, find_local, meant}
 use Rattle.source_typing.specs.States.{States}
 use Rattle.source_typing.specs.Tables as typing
 use Rattle.source_typing.specs.Tables.{What, OfValue, Stored, Arrayed, Counter, Unknown, find}
-use Rattle.source_typing.specs.Types.{StaticType, renamed, shape_of}
+use Rattle.source_typing.specs.Types.{StaticType, Unsigned, renamed, shape_of}
 use Rattle.type_proof.specs.Flat.{Tables, flat}
 pub use Rattle.source_typing.specs.Named.{AllBelow, TypeBelow}
 pub use Rattle.type_proof.proofs.invariant.Alikes.{Alike, renamed_alike}
 use Rattle.type_proof.proofs.invariant.Standing.{Alongside, Rooms, AllWithin, AllCounted, counted_more, LocalsBelow, Standing, SameAll, is_own, all_more, all_kept, all_same}
-use Rattle.type_proof.proofs.invariant.Invariant.{RunType, heap, Kept, Reached, Private, Ghost, Laid, AllLaid, Inv, Grows}
+use Rattle.type_proof.proofs.invariant.Facts.{at_region}
+use Rattle.type_proof.proofs.invariant.Births.{bearing, with_birth}
+use Rattle.type_proof.proofs.invariant.Invariant.{RunType, heap, Kept, Reached, Private, Owner, Ghost, Laid, AllLaid, Inv, Grows}
 use Rattle.type_proof.proofs.invariant.Values.{laid_kept, all_laid_kept}
 use Rattle.type_proof.proofs.Strings.{StringsLaid, strings_kept}
 use Rattle.type_proof.proofs.invariant.Names.{NameOf, NamesOk, names_later, names_more}
@@ -30,12 +32,41 @@ pub record Bound (count : ℕ) (f : NameOf → Region) (e : Option Entity) (s : 
   pub within : Below count r
   pub below : TypeBelow count t
 
--- the index of the elements that are made, which is a number
+-- the index of the elements that are made, which is a variable too
 pub record Numbered (e : Option Entity) : Type 0 where
-  pub number : ℕ
-  pub is : e ≡ Some (Fixed UnsignedShape (Integer AsUnsigned number))
+  pub at : Spot
+  pub is : e ≡ Some (Variable UnsignedShape at)
 
--- what a name is bound to: a variable of its type, an array of so many elements, or a number
+-- it is an unsigned number in a block that goes on
+pub record IndexStands (w : Ghost) (m : Memory) (at : Spot) : Type 0 where
+  pub typed : w.types at ≡ Some (Reached Unsigned)
+  pub frame : ℕ
+  pub region : at.region ≡ Frame frame
+  pub known : frame < m.activations
+  pub live : m.state (Frame frame) ≡ Live
+
+pub index_later : (d : Tables) (k b : ℕ) (w : Ghost) (m : Memory) (w' : Ghost) (m' : Memory) (at : Spot) → Inv d w' m' → Grows k b w m w' m'
+    → IndexStands w m at → IndexStands w' m' at
+index_later d k b w m w' m' at i x h = record {
+  typed = x.types at (Reached Unsigned) h.typed;
+  frame = h.frame;
+  region = h.region;
+  known = x.known (Frame h.frame) h.known;
+  live = x.state (Frame h.frame) (i.frames h.frame) ∙ h.live;
+}
+
+-- where a region is born
+pub index_beside : (w : Ghost) (m : Memory) (x y : ℕ) (r : Region) (u : Region → Bool) (o : Owner) (keyed : Bool) (at : Spot)
+    → ((j : ℕ) → j < m.activations → j < x) → IndexStands w m at → IndexStands (bearing w r u o keyed) (with_birth m x y r Live) at
+index_beside w m x y r u o keyed at more h = record {
+  typed = h.typed;
+  frame = h.frame;
+  region = h.region;
+  known = more h.frame h.known;
+  live = at_region m.state r Live (Frame h.frame) (λ z. z ≡ Live) (λ e. refl) (λ e. h.live);
+}
+
+-- what a name is bound to: a variable of its type, an array of so many elements, or an index
 abbrev pub BoundAs : ℕ → (NameOf → Region) → Option Entity → What → Type 0
 BoundAs count f e (Stored t r) = Bound count f e (shape_of t) t r
 BoundAs count f e (Arrayed t r) = (n : ℕ) × Bound count f e (ArrayShape n (shape_of t)) t r
@@ -127,7 +158,10 @@ pub record Scene (d : Tables) (g : Env) (scope : Scope) (f : NameOf → Region) 
   pub rooms : Rooms low scope.locals
   pub inside : AllWithin m.activations scope.locals
   pub counted : AllCounted m scope.locals
+  pub indices : (x : List ℕ) (at : Spot) → meant g x ≡ Some (OfValue Counter) → entity_of scope x ≡ Some (Variable UnsignedShape at) → IndexStands w m at
+  -- the innermost block
   pub own : low ≤ scope.frame
+  pub begun : scope.frame < m.activations
   pub below : LocalsBelow g.regions.count g.locals
   pub stands : Standing d g scope f s w m
 
@@ -148,7 +182,9 @@ scene_later d g scope f b low s s' k w m w' m' i x st h = record {
   rooms = h.rooms;
   inside = all_more m.activations m'.activations scope.locals (base_later k b m.activations w m w' m' (omega arith) x) h.inside;
   counted = counted_more m m' scope.locals x.objects h.counted;
+  indices = λ y at e o. index_later d k b w m w' m' at i x (h.indices y at e o);
   own = h.own;
+  begun = x.known (Frame scope.frame) h.begun;
   below = h.below;
   stands = st;
 }
@@ -166,7 +202,9 @@ scene_more d g scope f b low s k w m h = record {
   rooms = h.rooms;
   inside = h.inside;
   counted = h.counted;
+  indices = h.indices;
   own = h.own;
+  begun = h.begun;
   below = h.below;
   stands = h.stands;
 }

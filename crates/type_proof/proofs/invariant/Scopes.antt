@@ -4,7 +4,7 @@ use Rattle.std.specs.Cmp.Derive.{both_true}
 use Rattle.std.specs.Prelude.{◌&&◌, if◌then◌else◌}
 use Rattle.std.proofs.lemmas.Bool.{cases_Bool, and_parts, false≢true}
 use Rattle.cyc_words.specs.Events.{RegionNew, RegionFree}
-use Rattle.source_meaning.specs.Memory.{Region, Frame, Born, State, Live, Closed, Dead, Memory, same_region, with_state, is_live, state_is_live}
+use Rattle.source_meaning.specs.Memory.{Region, Frame, Born, Object, State, Live, Closed, Dead, Memory, same_region, with_object, with_state, is_live, state_is_live}
 use Rattle.source_meaning.specs.Steps.{Step, Flow, Act, give, ◌>>=◌, ◌>>◌, show}
 use Rattle.source_meaning.specs.Making.{set_state}
 use Rattle.source_meaning.specs.Regions.{in_region, in_block, region_born, region_freed}
@@ -119,21 +119,21 @@ block_ghost w m = bearing w (Frame m.activations) (above_scope w m (Frame m.acti
 abbrev pub block_memory : Memory → Memory
 block_memory m = with_birth m (m.activations + 1) m.births (Frame m.activations) Live
 
--- a block, whatever way it is left
-pub runs_block : (d : Tables) (n k b : ℕ) (w : Ghost) (m : Memory) (body : ℕ → Act Flow) (P R : Flow → Ghost → Memory → Type 0) → Inv d w m
-    → (Inv d (block_ghost w m) (block_memory m) → Runs n (body m.activations) (block_memory m)
-    (λ flow. After d k b (block_ghost w m) (block_memory m) (P flow)))
-    → ((flow : Flow) (w2 : Ghost) (m2 : Memory) → Inv d w2 m2 → Grows k b (block_ghost w m) (block_memory m) w2 m2 → P flow w2 m2
-    → R flow w2 (with_state m2 (Frame m.activations) Dead)) → Runs n (in_block body) m (λ flow. After d k b w m (R flow))
-runs_block d n k b w m body P R i run finish = record {
-  by = λ next g. (run inner).by (λ flow. (set_state r Dead >> give flow) next) (λ flow m2 p.
-      g flow (with_state m2 r Dead) (record {
-        ghost = p.ghost;
-        inv = inv_death d p.ghost m2 r p.inv (free p.ghost m2 p.grows) (λ e. cc)
-            (scope_alone d k b w m (m.activations + 1) m.births r (above_scope w m r) p.ghost m2 i births (λ e. cc) inner p.inv p.grows);
-        grows = grows_scope d k b w m (m.activations + 1) m.births r (above_scope w m r) p.ghost m2 i births p.grows;
-        holds = finish flow p.ghost m2 p.inv p.grows p.holds;
-      }));
+pub block_inv : (d : Tables) (w : Ghost) (m : Memory) → Inv d w m → Inv d (block_ghost w m) (block_memory m)
+block_inv d w m i =
+    inv_birth d w m (m.activations + 1) m.births (Frame m.activations) Live (above_scope w m (Frame m.activations)) Nobody false i (frame_births d w m i)
+
+-- What comes of a block that was entered in a memory: its region ends then.
+pub block_left : (d : Tables) (k b : ℕ) (w : Ghost) (m : Memory) (P R : Ghost → Memory → Type 0) → Inv d w m
+    → ((w2 : Ghost) (m2 : Memory) → Inv d w2 m2 → Grows k b (block_ghost w m) (block_memory m) w2 m2 → P w2 m2
+    → R w2 (with_state m2 (Frame m.activations) Dead)) → (m2 : Memory) → After d k b (block_ghost w m) (block_memory m) P m2
+    → After d k b w m R (with_state m2 (Frame m.activations) Dead)
+block_left d k b w m P R i finish m2 p = record {
+  ghost = p.ghost;
+  inv = inv_death d p.ghost m2 r p.inv (p.grows.scoped r (omega arith) (same_here r Nobody (w.owner r))) (λ e. cc)
+      (scope_alone d k b w m (m.activations + 1) m.births r (above_scope w m r) p.ghost m2 i births (λ e. cc) (block_inv d w m i) p.inv p.grows);
+  grows = grows_scope d k b w m (m.activations + 1) m.births r (above_scope w m r) p.ghost m2 i births p.grows;
+  holds = finish p.ghost m2 p.inv p.grows p.holds;
 }
   where
     r : Region
@@ -142,11 +142,27 @@ runs_block d n k b w m body P R i run finish = record {
     births : Births w m (m.activations + 1) m.births r Live (above_scope w m r) Nobody false
     births = frame_births d w m i
 
-    inner : Inv d (block_ghost w m) (block_memory m)
-    inner = inv_birth d w m (m.activations + 1) m.births r Live (above_scope w m r) Nobody false i births
+-- a block, whatever it gives
+pub runs_block : {A : Type 0} (d : Tables) (n k b : ℕ) (w : Ghost) (m : Memory) (body : ℕ → Act A) (P R : A → Ghost → Memory → Type 0) → Inv d w m
+    → (Inv d (block_ghost w m) (block_memory m) → Runs n (body m.activations) (block_memory m)
+    (λ a. After d k b (block_ghost w m) (block_memory m) (P a)))
+    → ((a : A) (w2 : Ghost) (m2 : Memory) → Inv d w2 m2 → Grows k b (block_ghost w m) (block_memory m) w2 m2 → P a w2 m2
+    → R a w2 (with_state m2 (Frame m.activations) Dead)) → Runs n (in_block body) m (λ a. After d k b w m (R a))
+runs_block d n k b w m body P R i run finish = record {
+  by = λ next g. (run (block_inv d w m i)).by (λ a. (set_state (Frame m.activations) Dead >> give a) next)
+      (λ a m2 p. g a (with_state m2 (Frame m.activations) Dead) (block_left d k b w m (P a) (R a) i (finish a) m2 p));
+}
 
-    free : (w2 : Ghost) (m2 : Memory) → Grows k b (block_ghost w m) (block_memory m) w2 m2 → w2.owner r ≡ Nobody
-    free w2 m2 h = h.scoped r (omega arith) (same_here r Nobody (w.owner r))
+-- a block that is entered behind a new object, which is a part of what the block makes
+pub runs_block_with : {A : Type 0} (d : Tables) (n k b : ℕ) (w : Ghost) (m : Memory) (q : Region) (o : Object) (body : ℕ → Act A)
+    (P R : A → Ghost → Memory → Type 0) → Inv d w m
+    → Runs n (body m.activations) (with_object (block_memory m) q o) (λ a. After d k b (block_ghost w m) (block_memory m) (P a))
+    → ((a : A) (w2 : Ghost) (m2 : Memory) → Inv d w2 m2 → Grows k b (block_ghost w m) (block_memory m) w2 m2 → P a w2 m2
+    → R a w2 (with_state m2 (Frame m.activations) Dead)) → Runs n (in_block body) (with_object m q o) (λ a. After d k b w m (R a))
+runs_block_with d n k b w m q o body P R i run finish = record {
+  by = λ next g. run.by (λ a. (set_state (Frame m.activations) Dead >> give a) next)
+      (λ a m2 p. g a (with_state m2 (Frame m.activations) Dead) (block_left d k b w m (P a) (R a) i (finish a) m2 p));
+}
 
 abbrev pub region_ghost : Ghost → Memory → Ghost
 region_ghost w m = bearing w (Born m.births) (above_scope w m (Born m.births)) Nobody false

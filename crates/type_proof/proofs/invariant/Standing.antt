@@ -3,7 +3,7 @@ use Rattle.std.proofs.Common.{◌≡◌, ℕ, zero, suc, ◌<◌, ◌≤◌, Boo
 use Rattle.std.specs.Prelude.{bytes_eq, not, Option, None, if◌then◌else◌}
 use Rattle.source_meaning.specs.Shapes.{Shape}
 use Rattle.source_meaning.specs.Memory.{Region, Frame, Spot, Memory}
-use Rattle.source_meaning.specs.Steps.{Entity, Variable, Fixed, Binding, Scope}
+use Rattle.source_meaning.specs.Steps.{Entity, Variable, Binding, Scope}
 use Rattle.source_meaning.specs.Places.{bound_to}
 use Rattle.source_typing.specs.States.{State, Plain, Held, Gone, Lent, States, state_of, with_state, meet, meet_all}
 use Rattle.source_typing.specs.Scope.{Env, Local, find_local}
@@ -29,7 +29,6 @@ Alongside (l ∷ ls) [] = ⊥
 
 abbrev pub EntityApart : Spot → Entity → Type 0
 EntityApart s (Variable sh at) = Apart s at
-EntityApart s (Fixed sh v) = Unit {0}
 
 abbrev pub ApartFrom : Spot → List Binding → Type 0
 ApartFrom s [] = Unit {0}
@@ -44,7 +43,6 @@ pub record Room (b : ℕ) (at : Spot) (bs : List Binding) : Type 0 where
 
 abbrev pub InRoom : ℕ → Entity → List Binding → Type 0
 InRoom b (Variable sh at) bs = Room b at bs
-InRoom b (Fixed sh v) bs = Unit {0}
 
 abbrev pub Rooms : ℕ → List Binding → Type 0
 Rooms b [] = Unit {0}
@@ -54,7 +52,6 @@ module _ (tables : typing.Tables) (d : Tables) (f : NameOf → Region) where
   -- a local that can't be copied stands as its state says; of others nothing is said
   abbrev pub LocalStands : What → Entity → State → Ghost → Memory → Type 0
   LocalStands (Stored t r) (Variable sh at) a w m = is_copyable tables t ≡ false → CellsStand a w m at (cells_type d f t)
-  LocalStands (Stored t r) (Fixed sh v) a w m = is_copyable tables t ≡ false → ⊥
   LocalStands (Arrayed t r) e a w m = Unit {0}
   LocalStands Counter e a w m = Unit {0}
   LocalStands Unknown e a w m = Unit {0}
@@ -118,7 +115,6 @@ module _ (tables : typing.Tables) (d : Tables) (f : NameOf → Region) (w : Ghos
   local_same : (v : What) (e : Entity) (a : State) → ((sh : Shape) (s : Spot) → e ≡ Variable sh s → Same w m w' m' s) → LocalStands tables d f v e a w m
       → LocalStands tables d f v e a w' m'
   local_same (Stored t r) (Variable sh at) a k h = λ c. cells_same a w m w' m' at (cells_type d f t) (k sh at refl) (h c)
-  local_same (Stored t r) (Fixed sh v) a k h = h
   local_same (Arrayed t r) e a k h = tt
   local_same Counter e a k h = tt
   local_same Unknown e a k h = tt
@@ -139,7 +135,6 @@ module _ (tables : typing.Tables) (d : Tables) (f : NameOf → Region) (w : Ghos
       entity_beside : (e : Entity) → EntityApart at e → (sh : Shape) (s : Spot) → e ≡ Variable sh s → Same w m w' m' s
       entity_beside (Variable sh s) q = λ sh2 s2 u. let z : s ≡ s2 = cc in
           subst (λ (o : Spot). Same w m w' m' o) z (same_beside at s w m w' m' (λ g o. q (sym g) (sym o)) k)
-      entity_beside (Fixed sh v) q = λ sh2 s2 u. absurd cc
 
   -- a variable that is found further on lies apart from this one
   apart_found : (s : Spot) (bs : List Binding) (x : List ℕ) (sh : Shape) (at : Spot) → ApartFrom s bs → bound_to bs x ≡ Some (Variable sh at) → Apart s at
@@ -154,7 +149,6 @@ module _ (tables : typing.Tables) (d : Tables) (f : NameOf → Region) (w : Ghos
       → Beside at w m w' m' → (sh2 : Shape) (s : Spot) → e ≡ Variable sh2 s → Same w m w' m' s
   before_found b (Variable sh1 s1) bs x sh at p e k = λ sh2 s2 u. let z : s1 ≡ s2 = cc in
       subst (λ (o : Spot). Same w m w' m' o) z (same_beside at s1 w m w' m' (apart_found s1 bs x sh at p.apart e) k)
-  before_found b (Fixed sh1 v) bs x sh at p e k = λ sh2 s2 u. absurd cc
 
   -- a local stands in another state, and the others as they did
   pub updated : (b : ℕ) (ls : List Local) (bs : List Binding) (s : States) (x : List ℕ) (l : Local) (sh : Shape) (at : Spot) (a : State) → Alongside ls bs
@@ -187,7 +181,6 @@ module _ (tables : typing.Tables) (d : Tables) (f : NameOf → Region) (w : Ghos
 -- the blocks of a function are fewer than so many activations
 abbrev pub EntityWithin : ℕ → Entity → Type 0
 EntityWithin j (Variable sh at) = (i : ℕ) → at.region ≡ Frame i → i < j
-EntityWithin j (Fixed sh v) = Unit {0}
 
 abbrev pub AllWithin : ℕ → List Binding → Type 0
 AllWithin j [] = Unit {0}
@@ -196,7 +189,6 @@ AllWithin j (y ∷ bs) = EntityWithin j y.entity × AllWithin j bs
 -- more activations
 entity_more : (i j : ℕ) (e : Entity) → i ≤ j → EntityWithin i e → EntityWithin j e
 entity_more i j (Variable sh at) l h = λ k q. let z : k < i = h k q in omega (arith, l, z)
-entity_more i j (Fixed sh v) l h = tt
 
 pub all_more : (i j : ℕ) (bs : List Binding) → i ≤ j → AllWithin i bs → AllWithin j bs
 all_more i j [] l h = tt
@@ -214,7 +206,6 @@ module _ (tables : typing.Tables) (d : Tables) (f : NameOf → Region) where
         types = g.types;
         cells = λ y t e o p. g.kept y t room.frame (e ∙ room.region) (within room.frame room.region) p;
       })
-      one (Fixed sh v) os room within = λ sh2 at2 u. absurd cc
 
       each : (os : List Binding) → Rooms b os → AllWithin j os → SameAll tables d f w m w' m' os
       each [] r q = tt
@@ -225,7 +216,6 @@ module _ (tables : typing.Tables) (d : Tables) (f : NameOf → Region) where
   first_kind : (v : What) (e : Entity) (a c : State) (w : Ghost) (m : Memory) → IsKind tables d f v c → LocalStands tables d f v e a w m
       → LocalStands tables d f v e (meet a c) w m
   first_kind (Stored t r) (Variable sh at) a c w m n h = λ q. met_first a c w m at (cells_type d f t) (n q) (h q)
-  first_kind (Stored t r) (Fixed sh v) a c w m n h = h
   first_kind (Arrayed t r) e a c w m n h = tt
   first_kind Counter e a c w m n h = tt
   first_kind Unknown e a c w m n h = tt
@@ -233,7 +223,6 @@ module _ (tables : typing.Tables) (d : Tables) (f : NameOf → Region) where
   second_kind : (v : What) (e : Entity) (a c : State) (w : Ghost) (m : Memory) → IsKind tables d f v a → LocalStands tables d f v e c w m
       → LocalStands tables d f v e (meet a c) w m
   second_kind (Stored t r) (Variable sh at) a c w m n h = λ q. met_second a c w m at (cells_type d f t) (n q) (h q)
-  second_kind (Stored t r) (Fixed sh v) a c w m n h = h
   second_kind (Arrayed t r) e a c w m n h = tt
   second_kind Counter e a c w m n h = tt
   second_kind Unknown e a c w m n h = tt
@@ -263,7 +252,6 @@ module _ (tables : typing.Tables) (d : Tables) (f : NameOf → Region) where
   -- a state of a local that stands is of its kind
   kind_is : (v : What) (e : Entity) (a : State) (w : Ghost) (m : Memory) → LocalStands tables d f v e a w m → IsKind tables d f v a
   kind_is (Stored t r) (Variable sh at) a w m h = λ q z. subst (λ (c : State). CellsStand c w m at (cells_type d f t)) z (h q)
-  kind_is (Stored t r) (Fixed sh v) a w m h = λ q z. h q
   kind_is (Arrayed t r) e a w m h = tt
   kind_is Counter e a w m h = tt
   kind_is Unknown e a w m h = tt
@@ -325,7 +313,6 @@ module _ (tables : typing.Tables) (d : Tables) (f h : NameOf → Region) (c : �
   local_alike (Stored t r) (Variable sh at) a w m same below s = λ q.
       subst (λ (u : RunType). CellsStand a w m at (flat (Rattle.type_proof.proofs.invariant.Invariant.heap) d u))
       (sym (renamed_alike c f h t same below)) (s q)
-  local_alike (Stored t r) (Fixed sh v) a w m same below s = s
   local_alike (Arrayed t r) e a w m same below s = tt
   local_alike Counter e a w m same below s = tt
   local_alike Unknown e a w m same below s = tt
@@ -345,7 +332,6 @@ module _ (tables : typing.Tables) (d : Tables) (f h : NameOf → Region) (c : �
 -- the locals' objects are among those that were made
 abbrev pub EntityCounted : Memory → Entity → Type 0
 EntityCounted m (Variable sh at) = at.object < m.objects at.region
-EntityCounted m (Fixed sh v) = Unit {0}
 
 abbrev pub AllCounted : Memory → List Binding → Type 0
 AllCounted m [] = Unit {0}
@@ -357,7 +343,6 @@ counted_more m m' (y ∷ bs) up h = (one y.entity h.0, counted_more m m' bs up h
   where
     one : (e : Entity) → EntityCounted m e → EntityCounted m' e
     one (Variable sh at) l = let u : m.objects at.region ≤ m'.objects at.region = up at.region in omega (arith, l, u)
-    one (Fixed sh v) l = tt
 
 -- a new object lies apart from them
 pub counted_apart : (m : Memory) (at : Spot) (bs : List Binding) → m.objects at.region ≤ at.object → AllCounted m bs → ApartFrom at bs
@@ -366,7 +351,6 @@ counted_apart m at (y ∷ bs) l h = (one y.entity h.0, counted_apart m at bs l h
   where
     one : (e : Entity) → EntityCounted m e → EntityApart at e
     one (Variable sh s) q = λ u v. let z : s.object < m.objects at.region = subst (λ (r : Region). s.object < m.objects r) (sym u) q in omega (arith, l, z, v)
-    one (Fixed sh v) q = tt
 
 -- ---- the locals of a scope
 

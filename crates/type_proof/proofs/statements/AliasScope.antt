@@ -106,7 +106,9 @@ scene_name live d world tables g scope f gives names q b s k w m h ok z = record
   rooms = z.rooms;
   inside = z.inside;
   counted = z.counted;
+  indices = z.indices;
   own = z.own;
+  begun = z.begun;
   below = locals_up g.regions.count g.locals z.below;
   stands = stands_in d g scope f s q w m w m z.below (λ y p e. e) (λ y. refl) z.stands;
 }
@@ -158,7 +160,9 @@ scene_open d g scope f q b s k w m ok z = record {
   rooms = z.rooms;
   inside = z.inside;
   counted = z.counted;
+  indices = z.indices;
   own = z.own;
+  begun = z.begun;
   below = z.below;
   stands = z.stands;
 }

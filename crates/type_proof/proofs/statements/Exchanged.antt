@@ -213,7 +213,9 @@ scene_still d g scope f b s k w m h = record {
   rooms = h.rooms;
   inside = h.inside;
   counted = h.counted;
+  indices = h.indices;
   own = h.own;
+  begun = h.begun;
   below = h.below;
   stands = h.stands;
 }

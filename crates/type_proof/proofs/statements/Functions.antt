@@ -128,7 +128,10 @@ scene_entry d world tables sources x s F judged h k w m i globals enters top = r
   rooms = tt;
   inside = tt;
   counted = tt;
+  indices = λ y at e o.
+      absurd (sources.structs.plain y (OfValue Counter) (sym (means d world tables sources x s F judged h enters.heap_is m.activations y) ∙ e));
   own = omega arith;
+  begun = omega arith;
   below = subst (λ (ls : List Local). LocalsBelow (judged.outside.regions.count + 1) ls) (sym judged.locals) tt;
   stands = subst (λ (ls : List Local). standing.AllStand judged.outside.tables d (naming h judged.outside.regions.count (Frame m.activations)) ls []
       (map (λ l. begins_as top l.what) ls) (block_ghost w m) (block_memory m))

@@ -1,5 +1,5 @@
 -- A lexical region comes into scope: its name stands for the region that was born, and what was in scope stays as it was.
-use Rattle.std.proofs.Common.{◌≡◌, ℕ, ◌+◌, true, List, refl, ◌∙◌}
+use Rattle.std.proofs.Common.{◌≡◌, ℕ, ◌+◌, true, false, List, refl, ◌∙◌}
 use Rattle.std.specs.Prelude.{is_some}
 use Rattle.cyc_tree.specs.Tree as tree
 use Rattle.source_meaning.specs.Memory.{Region, Born, Memory}
@@ -13,11 +13,11 @@ use Rattle.source_typing.specs.Written.{RegionNamed, find_region}
 use Rattle.source_typing.specs.States.{States}
 use Rattle.type_proof.specs.Flat.{Tables}
 use Rattle.type_proof.proofs.invariant.Facts.{if_cases}
-use Rattle.type_proof.proofs.invariant.Invariant.{RunType, Ghost, Inv}
-use Rattle.type_proof.proofs.invariant.Scopes.{region_ghost, region_memory, born_births}
+use Rattle.type_proof.proofs.invariant.Invariant.{RunType, Nobody, Ghost, Inv}
+use Rattle.type_proof.proofs.invariant.Scopes.{above_scope, region_ghost, region_memory, born_births}
 use Rattle.type_proof.proofs.invariant.Names.{NameOf, naming, names_scope}
 use Rattle.source_typing.proofs.NamedBelow.{below_up}
-use Rattle.type_proof.proofs.invariant.Scenes.{renamed_alike, bound_as_alike, lives_more, laid_as_later, globals_kept, Scene}
+use Rattle.type_proof.proofs.invariant.Scenes.{renamed_alike, bound_as_alike, lives_more, laid_as_later, globals_kept, index_beside, Scene}
 use Rattle.type_proof.proofs.statements.Surroundings.{ResultIs, Surrounds, type_up, locals_up, stands_in, naming_alike, lives_in_scope}
 
 -- a scope with one more region, and these names
@@ -78,7 +78,10 @@ scene_region d world tables g scope f gives names b s k w m h i z = record {
   rooms = z.rooms;
   inside = z.inside;
   counted = z.counted;
+  indices = λ y at e o. index_beside w m m.activations (m.births + 1) (Born m.births) (above_scope w m (Born m.births)) Nobody false at (λ j l. l)
+      (z.indices y at e o);
   own = z.own;
+  begun = z.begun;
   below = locals_up g.regions.count g.locals z.below;
   stands = stands_in d g scope f s (Born m.births) w m (region_ghost w m) (region_memory m) z.below (λ y q e. e) (λ y. refl) z.stands;
 }

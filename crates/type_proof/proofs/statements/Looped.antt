@@ -42,7 +42,9 @@ scene_loop d g scope f b s k w m h = record {
   rooms = h.rooms;
   inside = h.inside;
   counted = h.counted;
+  indices = h.indices;
   own = h.own;
+  begun = h.begun;
   below = h.below;
   stands = h.stands;
 }
@@ -77,7 +79,9 @@ scene_switch d g scope f b s k w m h = record {
   rooms = h.rooms;
   inside = h.inside;
   counted = h.counted;
+  indices = h.indices;
   own = h.own;
+  begun = h.begun;
   below = h.below;
   stands = h.stands;
 }

@@ -3,7 +3,7 @@ use Rattle.std.proofs.Common.{◌≡◌, ℕ, suc, ◌+◌, ◌<◌, ◌≤◌, 
 use Rattle.std.specs.Prelude.{length, map}
 use Rattle.source_meaning.specs.Shapes.{Shape, Part, part_shapes}
 use Rattle.source_meaning.specs.Memory.{Region, Frame, Spot, Scalar, State, Memory}
-use Rattle.source_meaning.specs.Steps.{Entity, Binding, Variable, Fixed, World, Scope}
+use Rattle.source_meaning.specs.Steps.{Entity, Binding, Variable, World, Scope}
 use Rattle.source_meaning.specs.Places.{with_binding}
 use Rattle.source_typing.specs.Scope.{Env, Local}
 use Rattle.source_typing.specs.Tables as typing
@@ -109,7 +109,6 @@ beginning top ls = map (λ l. begins_as top l.what) ls
 -- the parameters so far are the first objects of their block
 abbrev EntityUnder : ℕ → Entity → Type 0
 EntityUnder o (Variable sh at) = at.object < o
-EntityUnder o (Fixed sh v) = Unit {0}
 
 abbrev pub AllUnder : ℕ → List Binding → Type 0
 AllUnder o [] = Unit {0}
@@ -121,7 +120,6 @@ under_more o c (y ∷ bs) l h = (one y.entity h.0, under_more o c bs l h.1)
   where
     one : (e : Entity) → EntityUnder o e → EntityUnder c e
     one (Variable sh at) q = omega (arith, l, q)
-    one (Fixed sh v) q = tt
 
 under_apart : (o : ℕ) (at : Spot) (bs : List Binding) → o ≤ at.object → AllUnder o bs → ApartFrom at bs
 under_apart o at [] l h = tt
@@ -129,7 +127,6 @@ under_apart o at (y ∷ bs) l h = (one y.entity h.0, under_apart o at bs l h.1)
   where
     one : (e : Entity) → EntityUnder o e → EntityApart at e
     one (Variable sh s) q = λ u v. omega (arith, l, q, v)
-    one (Fixed sh v) q = tt
 
 -- how a parameter's cells are kept, by its type in the run
 abbrev pub kept_parameter : typing.Tables → RunType → RunType → Kept

@@ -4,7 +4,7 @@ use Rattle.std.specs.Prelude.{bytes_eq, not, if◌then◌else◌}
 use Rattle.std.proofs.lemmas.Bool.{eq-eqb}
 use Rattle.std.proofs.lemmas.Bool.Decides.{eqb_tells}
 use Rattle.cyc_tree.specs.Tree as tree
-use Rattle.source_meaning.specs.Shapes.{Shape, ArrayShape}
+use Rattle.source_meaning.specs.Shapes.{Shape, UnsignedShape, ArrayShape}
 use Rattle.source_meaning.specs.Memory.{Region, Frame, Spot, Scalar, Memory}
 use Rattle.source_meaning.specs.Steps.{Binding, Entity, Variable, World, Scope}
 use Rattle.source_meaning.specs.Places.{bound_to, or_else, entity_of, with_binding}
@@ -18,10 +18,10 @@ use Rattle.source_typing.specs.Types.{Int, Unsigned, Char, Void, Null, Thin, Fat
 use Rattle.type_proof.specs.Flat.{Tables, flat}
 use Rattle.type_proof.specs.Judged.{named, extended, arrayed}
 use Rattle.type_proof.proofs.invariant.Facts.{if_cases}
-use Rattle.type_proof.proofs.invariant.Invariant.{RunType, heap, Kept, Known, Ghost, Laid, AllLaid, Inv}
+use Rattle.type_proof.proofs.invariant.Invariant.{RunType, heap, Nobody, Kept, Known, Ghost, Laid, AllLaid, Inv}
 use Rattle.type_proof.proofs.invariant.Arguments.{Agrees}
 use Rattle.type_proof.proofs.invariant.Layouts.{Structs, agrees}
-use Rattle.type_proof.proofs.invariant.Scopes.{block_ghost, block_memory, frame_births}
+use Rattle.type_proof.proofs.invariant.Scopes.{above_scope, block_ghost, block_memory, frame_births}
 use Rattle.type_proof.proofs.invariant.Names.{NameOf, naming, names_scope}
 use Rattle.source_typing.specs.Named.{Below}
 use Rattle.source_typing.proofs.NamedBelow.{all_up, below_up}
@@ -39,6 +39,8 @@ use Rattle.type_proof.proofs.invariant.Scenes.{
   laid_as_later,
   globals_kept,
   Binds,
+  IndexStands,
+  index_beside,
   Scene,
 }
 use Rattle.type_proof.proofs.invariant.Objects.{FullAt}
@@ -80,7 +82,7 @@ agrees_here d world tables g scope f gives h = subst (λ (y : World). Agrees y d
 
 module _ (d : Tables) (world : World) (tables : typing.Tables) (g : Env) (scope : Scope) (f : NameOf → Region) (x : tree.Name) (v : What) (e : Entity)
     (gives : RunType) (h : Surrounds d world tables g scope f gives) (plain : (y : List ℕ) → MeansEntry scope.world y (OfValue v))
-    (bound : BoundAs g.regions.count f (Some e) v) (lives : LivesAs g.regions.live v)
+    (bound : BoundAs g.regions.count f (Some e) v) (lives : LivesAs g.regions.live v) (no_index : v ≡ Counter → ⊥)
   where
     name_bound : (y : List ℕ) (u : What) (c : Bool) → (if c then Some (OfValue v) else meant g y) ≡ Some (OfValue u)
         → BoundAs g.regions.count f (or_else (if c then Some e else bound_to scope.locals y) (bound_to scope.world.globals y)) u
@@ -128,6 +130,12 @@ module _ (d : Tables) (world : World) (tables : typing.Tables) (g : Env) (scope 
     name_laid b s k w m z laid y u true q o = let a : v ≡ u = cc in subst (λ (p : What). LaidAs d f w (Some e) p) a (laid o)
     name_laid b s k w m z laid y u false q o = z.variables y u q o
 
+    name_stands : (b : ℕ) (s : States) (k : ℕ) (w : Ghost) (m : Memory) → Scene d g scope f b b s k w m → (y : List ℕ) (at : Spot) (c : Bool)
+        → (if c then Some (OfValue v) else meant g y) ≡ Some (OfValue Counter)
+        → or_else (if c then Some e else bound_to scope.locals y) (bound_to scope.world.globals y) ≡ Some (Variable UnsignedShape at) → IndexStands w m at
+    name_stands b s k w m z y at true q o = absurd (no_index (let a : v ≡ Counter = cc in a))
+    name_stands b s k w m z y at false q o = z.indices y at q o
+
     -- the new local has a place of its own, and stands in some state
     pub scene_named : (b : ℕ) (a : State) (s : States) (k : ℕ) (w : Ghost) (m : Memory) → Scene d g scope f b b s k w m
         → (owns g.tables v ≡ false → LaidAs d f w (Some e) v)
@@ -142,7 +150,9 @@ module _ (d : Tables) (world : World) (tables : typing.Tables) (g : Env) (scope 
       rooms = (room, z.rooms);
       inside = (inside, z.inside);
       counted = (counted, z.counted);
+      indices = λ y at q o. name_stands b s k w m z y at (bytes_eq x.text y) q o;
       own = z.own;
+      begun = z.begun;
       below = (below, z.below);
       stands = (stands, z.stands);
     }
@@ -158,11 +168,12 @@ module _ (d : Tables) (world : World) (tables : typing.Tables) (g : Env) (scope 
     pub surrounds_local : Surrounds d world tables (extended g x t) (with_binding scope x.text (Variable (shape_of t) at)) f gives
     surrounds_local =
         surrounds_named d world tables g scope f x (Stored t g.frame) (Variable (shape_of t) at) gives h (λ y. object) (new_bound (shape_of t)) h.frame_lives
+        (λ q. cc)
 
     pub surrounds_array : (n : ℕ) → Surrounds d world tables (arrayed g x t) (with_binding scope x.text (Variable (ArrayShape n (shape_of t)) at)) f gives
     surrounds_array n =
         surrounds_named d world tables g scope f x (Arrayed t g.frame) (Variable (ArrayShape n (shape_of t)) at) gives h (λ y. object)
-        (n, new_bound (ArrayShape n (shape_of t))) h.frame_lives
+        (n, new_bound (ArrayShape n (shape_of t))) h.frame_lives (λ q. cc)
 
     -- the only variable that the name is bound to
     local_laid : (w : Ghost) → Laid w at (flat heap d (renamed f t)) → LaidAs d f w (Some (Variable (shape_of t) at)) (Stored t g.frame)
@@ -195,7 +206,7 @@ module _ (d : Tables) (world : World) (tables : typing.Tables) (g : Env) (scope 
         → ApartFrom at scope.locals → at.object < m.objects at.region
         → Scene d (extended g x t) (with_binding scope x.text (Variable (shape_of t) at)) f b b (begins_as top (Stored t g.frame) ∷ s) k w m
     scene_local b top s k w m vs same z full apart counted =
-        scene_named d world tables g scope f x (Stored t g.frame) (Variable (shape_of t) at) gives h (λ y. object) (new_bound (shape_of t)) h.frame_lives
+        scene_named d world tables g scope f x (Stored t g.frame) (Variable (shape_of t) at) gives h (λ y. object) (new_bound (shape_of t)) h.frame_lives (λ q. cc)
         b (begins_as top (Stored t g.frame)) s k w m z
         (λ o. local_laid w (laid_new g.tables d f t w m at vs full (reached (is_copyable g.tables t) o))) (new_room b s k w m z apart)
         (new_within b s k w m z) counted below
@@ -207,7 +218,7 @@ module _ (d : Tables) (world : World) (tables : typing.Tables) (g : Env) (scope 
         → Scene d (arrayed g x t) (with_binding scope x.text (Variable (ArrayShape n (shape_of t)) at)) f b b (a ∷ s) k w m
     scene_array n b a s k w m z laid apart counted =
         scene_named d world tables g scope f x (Arrayed t g.frame) (Variable (ArrayShape n (shape_of t)) at) gives h (λ y. object)
-        (n, new_bound (ArrayShape n (shape_of t))) h.frame_lives b a s k w m z (λ o. array_laid w n laid) (new_room b s k w m z apart) (new_within b s k w m z)
+        (n, new_bound (ArrayShape n (shape_of t))) h.frame_lives (λ q. cc) b a s k w m z (λ o. array_laid w n laid) (new_room b s k w m z apart) (new_within b s k w m z)
         counted tt tt
 
 -- ---- a block is entered
@@ -345,7 +356,10 @@ scene_block d world tables g scope f gives b s k w m h i z = record {
   rooms = z.rooms;
   inside = all_more m.activations (m.activations + 1) scope.locals (omega arith) z.inside;
   counted = z.counted;
+  indices = λ y at e o. index_beside w m (m.activations + 1) m.births (Frame m.activations) (above_scope w m (Frame m.activations)) Nobody false at
+      (λ j l. omega (arith, l)) (z.indices y at e o);
   own = z.base;
+  begun = omega arith;
   below = locals_up g.regions.count g.locals z.below;
   stands = stands_in d g scope f s (Frame m.activations) w m (block_ghost w m) (block_memory m) z.below (λ y q e. e) (λ y. refl) z.stands;
 }

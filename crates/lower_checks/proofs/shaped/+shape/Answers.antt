@@ -31,10 +31,10 @@ use Rattle.source_meaning.specs.Operators.{operator_shape}
 use Rattle.source_meaning.specs.Shapes.{Shape, FatShape, NeverNull, ThinShape, UnionShape}
 use Rattle.source_lowering.specs.Lowered.{
   call_shape,
+  element_names,
   linked_shape,
   named_shape,
   new_shape,
-  number_named,
   owner_in,
   prefix_shape,
   static_shape,
@@ -235,7 +235,7 @@ new_shape-returns-in-Array-clause-shape t c =
     let n = names_in c.args.scope.now in
     let o = owner_tree c.args.owner in
     let x = c.in-Array in
-    let inner = number_named x.index.text.items 0 ∷ n in
+    let inner = element_names x.index.text.items n in
     shaped_as c.elements_shape.result (FatShape (static_shape w inner (expression_tree c.deref-in-Array.result.now)))
     (new_shape w n o (made_tree c.args.made.now)) c.elements_shape.ensures.shape
     (ap (λ e. FatShape (static_shape w inner (expression_tree e))) c.deref-in-Array.ensures

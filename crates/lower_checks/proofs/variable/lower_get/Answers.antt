@@ -1,11 +1,8 @@
-use Rattle.std.proofs.Common.{◌≡◌, ◌∙◌, sym, ap₂, Option, None}
+use Rattle.std.proofs.Common.{◌≡◌, sym, ap₂, Option, None}
 use Rattle.source_meaning.specs.Places.{bound_to}
 use Rattle.source_meaning.specs.Steps.{Entity}
 use Rattle.source_lowering.specs.Lowered.{Named, get_by, local_named}
-use Rattle.lower_checks.specs.Numbers.{numbers_in}
 use Rattle.lower_checks.specs.Scoped.{names_in, world_in}
-use Rattle.lower_checks.specs.Visible.{names_of}
-use Rattle.lower_checks.proofs.Naming.{found_behind}
 use Rattle.lower_checks.proofs.Nothing.{emitted_none}
 use Rattle.lower_checks.proofs.variable.lower_get.Goals as goal
 
@@ -15,7 +12,5 @@ returns-in_default-global_named-clause-code c sound =
     let s = c.args.scope.now in
     let name = c.args.name.now in
     let global = bound_to (world_in s).globals name in
-    let local : local_named (names_in s) name ≡ None =
-    found_behind (numbers_in s.numbers.now) (names_of s.locals.now) name c.in_default.ensures ∙ sym c.in_default-named.ensures in
     emitted_none c.args.body.now (get_by (local_named (names_in s) name) global c.args.to.0) sound
-    (ap₂ (λ (l : Option Named) (g : Option Entity). get_by l g c.args.to.0) local (sym c.in_default-global_named.ensures.named))
+    (ap₂ (λ (l : Option Named) (g : Option Entity). get_by l g c.args.to.0) (sym c.in_default.ensures) (sym c.in_default-global_named.ensures.named))

@@ -1,0 +1,4 @@
+pub mod Names
+pub mod Defaults
+pub mod Numbered
+pub mod Laws

@@ -1,5 +1,5 @@
--- Which names of a source's function may live in a register: those of an integer, a thin pointer, a handle or a key to which `&` is never applied. The names are
--- the parameters, the locals, those that a `case` gives to what it copies, and the indices of `for`.
+-- Which names of a source's function may live in a register: those of an integer, a thin pointer, a handle or a key to which `&` is never applied. The names
+-- are the parameters, the locals, those that a `case` gives to what it copies, and the indices of `for`.
 use Rattle.std.specs.Prelude.{ℕ, suc, Bool, true, false, not, ◌||◌, ◌&&◌, if◌then◌else◌, Some, List, [], ◌∷◌, ◌++◌, bytes_eq, length}
 use Rattle.cyc_tree.specs.declared.expression.Prefix.{Prefix}
 use Rattle.cyc_tree.specs.declared.expression.Prefix.TheVariants as prefix
@@ -60,8 +60,8 @@ abbrev pub is_address : Prefix → Bool
 is_address prefix.AddressOf = true
 is_address _ = false
 
--- Whether `&` is applied to the name of a variable that is in scope around a phrase. Where the phrase declares the name again, it stands for another variable from
--- there on.
+-- Whether `&` is applied to the name of a variable that is in scope around a phrase. Where the phrase declares the name again, it stands for another variable
+-- from there on.
 abbrev mutual
   pub pointed : (name : List ℕ) → Expression → Bool
   pointed name (Expression.Call x arguments) = pointed_in_all name arguments

@@ -358,7 +358,7 @@ struct_made w x a b c =
     ap (λ z. if z then false else (if bytes_eq x (codes "putchar") then false else has_tag w.structs x)) a
     ∙ (ap (λ z. if z then false else has_tag w.structs x) b ∙ c)
 
--- of each program whose names are what lowering takes them for
+-- the names of a program that is judged are what lowering takes them for
 pub calls_fit : (p : Program) → ProgramJudged p (tables_of false p) → CallsFit (world_of p) (tables_of false p)
 calls_fit p judged x (OfFunction s) q =
     let f : Function (world_of p) x s = judged.plain x (OfFunction s) q in
@@ -376,12 +376,3 @@ calls_fit p judged x (OfValue (Arrayed t r)) q = tt
 calls_fit p judged x (OfValue Counter) q = tt
 calls_fit p judged x (OfValue Unknown) q = tt
 calls_fit p judged x OfOther q = tt
-
--- of each function of it
-pub function_enough : (p : Program) → ProgramJudged p (tables_of false p) → (x : List ℕ) (s : Signature) (F : Function (world_of p) x s)
-    → FunctionJudged (world_of p) (tables_of false p) x s F → HaveArguments (world_of p) F.routine.body
-function_enough p judged x s F j =
-    let inside : Env = block_entered j.outside in
-    let same : (with_all F.routine.parameters F.types inside).tables ≡ tables_of false p = all_tables F.routine.parameters F.types inside ∙ j.tables_are in
-    items_enough (world_of p) F.routine.body (with_all F.routine.parameters F.types inside) true
-    (subst (λ (z : Tables). CallsFit (world_of p) z) (sym same) (calls_fit p judged)) j.body

@@ -17,7 +17,8 @@ use Rattle.home_proof.specs.Defaults.{HaveOneDefault}
 use Rattle.home_proof.specs.Laws.{HomesAreOfNames, homes_of}
 use Rattle.home_proof.specs.Names.{function_names, in_turn}
 use Rattle.home_proof.specs.Numbered.{function_flags}
-use Rattle.home_proof.proofs.Defaults.{one_default}
+use Rattle.home_proof.proofs.Bodies.{bodies_fit}
+use Rattle.home_proof.proofs.Eligible.{eligible_flags}
 use Rattle.home_proof.proofs.Ordered.{function_ordered}
 use Rattle.home_proof.proofs.OrderOnce.{locals_apart}
 use Rattle.home_proof.proofs.Turns.{in_turns}
@@ -40,6 +41,6 @@ pub homes_of_names : HomesAreOfNames
 homes_of_names p accepted few number f there =
     let w : World = world_of p in
     let lowerable = accepted_proof.lowerable p accepted few in
-    let one = one_default p accepted number f there in
+    let fit = bodies_fit p accepted number f there in
     let is = routine_at w w.functions number f (routines_are w p lowerable.items) there in
-    turns_of w f one ?
+    turns_of w f fit.0 (eligible_flags w f (world_plain p lowerable) is fit.0 fit.1)

@@ -1,12 +1,12 @@
-pub mod Turns
-pub mod Places
-pub mod Counts
-pub mod OrderOnce
-pub mod Ordered
-mod Defaults
+mod Turns
+mod Places
+mod Counts
+mod OrderOnce
+mod Ordered
+mod Bodies
 mod NameSamples
 pub mod HomesOfNames
-pub mod Arguments
+mod Arguments
 mod Codes
 mod Leads
 mod Pieces
@@ -21,4 +21,4 @@ mod Declared
 mod Exchanges
 mod Blocks
 mod Statements
-pub mod Eligible
+mod Eligible

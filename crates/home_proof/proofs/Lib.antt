@@ -1,0 +1,24 @@
+mod Turns
+mod Places
+mod Counts
+mod OrderOnce
+mod Ordered
+mod Bodies
+mod NameSamples
+pub mod HomesOfNames
+mod Arguments
+mod Codes
+mod Leads
+mod Pieces
+mod Scopes
+mod Variables
+mod Parts
+mod Branches
+mod Expressions
+mod Runs
+mod Locals
+mod Declared
+mod Exchanges
+mod Blocks
+mod Statements
+mod Eligible

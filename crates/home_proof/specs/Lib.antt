@@ -1,0 +1,5 @@
+pub mod Names
+pub mod Defaults
+pub mod Arguments
+pub mod Numbered
+pub mod Laws

@@ -17,6 +17,7 @@ use Rattle.source_typing.specs.Tags.{settled_alone}
 use Rattle.source_typing.specs.Types.{Fat, Handle, Char, Int, Key, PartialType, StaticType, Struct, Thin, Union, Unique, Unsigned, Void, is_void, shape_of}
 use Rattle.source_typing.specs.Verdicts.{after, if_fits}
 use Rattle.source_typing.specs.Written.{Found, Is, IsUnique, Missing, RegionNamed, Spot, base_spots, find_region, spot, spots_of, written, written_with}
+use Rattle.source_typing.proofs.NamedBelow.{below_more}
 use Rattle.accepted_proof.specs.Good.{Surely}
 use Rattle.accepted_proof.proofs.FoundRegions.{AreAllFound, AreArguments, FoundBelow, IsFoundAs, base_arguments}
 use Rattle.accepted_proof.proofs.good.Pointers.{IsWritten, RegionBelow, WritesKey, WritesNothing, WritesObject}
@@ -26,10 +27,6 @@ use Rattle.accepted_proof.proofs.Owners.{settled_alone_is}
 use Rattle.accepted_proof.proofs.Sure.{surely_after, surely_also}
 
 -- ---- more region names
-
-pub below_more : (n m : ℕ) (r : Region) → n ≤ m → Below n r → Below m r
-below_more n m TheHeap l h = tt
-below_more n m (Level k) l h = omega arith
 
 all_more : (n m : ℕ) (rs : List Region) → n ≤ m → AllBelow n rs → AllBelow m rs
 all_more n m [] l h = tt

@@ -141,7 +141,7 @@ every holds i u c v z thin fat unique handle key struct union (Union tag rs) = u
 abbrev joined : StaticType → StaticType → StaticType
 joined a b = (if is_unsigned a || is_unsigned b then Unsigned else Int)
 
-abbrev Joined : StaticType → StaticType → Type 0
+abbrev Joined : (left right : StaticType) → Type 0
 Joined a b = (common a b ≡ joined a b)
 
 pub common_is : (a b : StaticType) → common a b ≡ (if is_unsigned a || is_unsigned b then Unsigned else Int)

@@ -7,6 +7,7 @@ use Rattle.std.proofs.lemmas.List.{length-set}
 use Rattle.cyc_types.specs.Regions.{region_of, regions_of}
 use Rattle.cyc_types.specs.declared.region.RegionId.{RegionId}
 use Rattle.source_typing.proofs.Converting.{id_is}
+use Rattle.source_typing.proofs.NamedBelow.{below_more}
 use Rattle.source_typing.specs.Named.{Below, BoundsBelow}
 use Rattle.source_typing.specs.Regions.{Level, Region, TheHeap, any_of, by_bounds, is_among, same_id}
 use Rattle.check_regions.specs.Reached.{most, past}
@@ -18,13 +19,9 @@ use Rattle.check_regions.proofs.Rounds.{both_bounds, has_room, or_none, or_or}
 pub no_bounds : AreRows [] []
 no_bounds = record { are = λ x y. refl; enough = tt }
 
-pub region_up : (m n : ℕ) (r : Region) → m ≤ n → Below m r → Below n r
-region_up m n TheHeap l h = tt
-region_up m n (Level k) l h = omega (arith, h, l)
-
 pub bounds_up : (m n : ℕ) (bs : List (Region × Region)) → m ≤ n → BoundsBelow m bs → BoundsBelow n bs
 bounds_up m n [] l h = tt
-bounds_up m n ((x, y) ∷ bs) l h = (region_up m n x l h.0, region_up m n y l h.1, bounds_up m n bs l h.2)
+bounds_up m n ((x, y) ∷ bs) l h = (below_more m n x l h.0, below_more m n y l h.1, bounds_up m n bs l h.2)
 
 -- ---- one more region
 

@@ -8,9 +8,8 @@ use Rattle.core_meaning.specs.Meaning.{falls_to, statement, statements}
 use Rattle.cyc_core.specs.declared.operation.Operation.{Operation}
 use Rattle.cyc_core.specs.declared.statement.Statement as code
 use Rattle.cyc_core.specs.declared.statement.Statement.TheVariants as form
-use Rattle.cyc_core.specs.declared.statement.Statement.TheOpen.{Statement-F}
-use Rattle.cyc_core.specs.declared.statement.Statement.TheFolds.{fold-roll-Statement}
-use Rattle.cyc_core.specs.Trees.{operation_tree, statement_step, statement_tree, body_tree}
+use Rattle.cyc_core.specs.Trees.{operation_tree, statement_tree, body_tree}
+use Rattle.cyc_core.proofs.Forms.{do_tree}
 use Rattle.core_eval.specs.declared.pending.Due.{Due}
 use Rattle.core_eval.specs.Pendings.{Task, Follow, Execute, Leave, Wait, Then, Next, Go, Mark, next_of, waits_behind, rest_of}
 use Rattle.core_eval.specs.Standing.{Known, Agrees, StandsStill}
@@ -105,9 +104,6 @@ one_done s ss ws known known' m =
     reaches_on over (Follow ss) ws known' (others_next known' ws ss)
 
 -- ---- from what the code answers
-
-do_tree : (o : Operation) → statement_tree (form.Do o) ≡ core.Do (operation_tree o)
-do_tree o = ap statement_tree (sym (form.rolls-Do o)) ∙ fold-roll-Statement core.Statement statement_step (Statement-F.Do o)
 
 pub some_wait : (l : List code.Statement) (ws : List Wait) → 0 < length l → Then (body_tree l) ∷ ws ≡ waits_behind (body_tree l) ws
 some_wait [] ws h = absurd (omega (arith, h))

@@ -6,9 +6,6 @@ use Rattle.core_meaning.specs.Steps as steps
 use Rattle.core_meaning.specs.Meaning.{values_of}
 use Rattle.cyc_core.specs.declared.operation.Words.{Words}
 use Rattle.cyc_core.specs.declared.statement.Statement.TheVariants as form
-use Rattle.cyc_core.specs.declared.statement.Statement.TheOpen.{Statement-F}
-use Rattle.cyc_core.specs.declared.statement.Statement.TheFolds.{fold-roll-Statement}
-use Rattle.cyc_core.specs.Trees.{optional_tree, statement_step, statement_tree}
 use Rattle.core_eval.specs.declared.frame.Frame.{Frame}
 use Rattle.core_eval.specs.declared.memory.Memory.{Memory}
 use Rattle.core_eval.specs.declared.pending.Due.{Due}
@@ -33,9 +30,6 @@ return_enters known ws ts vs is =
       ap (λ (us : List Content). rest_of main ws marks (steps.Returns us) c)
           (ap (λ (temps : ℕ → Content). values_of temps ts) (λ i k. h.temps k i) ∙ is),
     )) (omega arith)
-
-pub return_tree : (words : Option Words) → statement_tree (form.Return words) ≡ core.Return (optional_tree words)
-return_tree words = ap statement_tree (sym (form.rolls-Return words)) ∙ fold-roll-Statement core.Statement statement_step (Statement-F.Return words)
 
 pub return_answer : {E : Type 0} (r : Result Due E) (s : core.Statement) (ts : List ℕ) (vs : List Content) (ws : List Wait) (known : Known) (ws' : List Wait)
     (known' : Known) → s ≡ core.Return ts → values_of (temp_of known.temps) ts ≡ vs

@@ -5,6 +5,7 @@ use Rattle.std.proofs.lemmas.Bool.{eq-eqb, le-leb, lt-ltb, cases_lt, eqb-true, l
 use Rattle.std.proofs.lemmas.Nat.{mod-mul-add}
 use Rattle.std.proofs.lemmas.Option.{slice_get_within, same_Some}
 use Rattle.std.proofs.Math.Nat.{mod-add-div', mul-le-mul_right}
+use Rattle.core_meaning.specs.Memory as core
 use Rattle.core_meaning.specs.Memory.{Spot, Part, PartShape, Layout, Memory, shape_in, beyond, same_region}
 use Rattle.core_meaning.specs.Operations.{is_part, are_parts, are_laid, are_elements, same_object, cells_on, part_of, content_from, on_from, copied, in_element, begun, cleared}
 use Rattle.core_meaning.proofs.Spots.{region_same, region_self}
@@ -17,7 +18,7 @@ at_cell s a b e = ap (λ c. record s { cell = c }) e
 pub beyond_none : (s : Spot) → s ≡ beyond s 0
 beyond_none s = at_cell s s.cell (s.cell + 0) (omega arith)
 
-pub beyond_both : (s : Spot) (a b c : ℕ) → a + b ≡ c → beyond (beyond s a) b ≡ beyond s c
+pub beyond_both : (s : core.Spot) (a b c : ℕ) → a + b ≡ c → beyond (beyond s a) b ≡ beyond s c
 beyond_both s a b c e = at_cell s (s.cell + a + b) (s.cell + c) (omega (arith, e))
 
 -- ---- the parts that a layout has

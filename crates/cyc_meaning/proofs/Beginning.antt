@@ -5,7 +5,7 @@ use Rattle.std.proofs.Common.{ℕ, suc, List, [], ◌∷◌, Option, sym, subst,
 use Rattle.std.proofs.KnownBytes.{Appends-nil, Consumes-nil}
 use Rattle.cyc_words.specs.Events.{Returned, visible}
 use Rattle.cyc_tree.specs.Tree as tree
-use Rattle.cyc_tree.specs.Tree.{Constant, Initial, Item, Program, Statement}
+use Rattle.cyc_tree.specs.Tree.{Constant, Initial, Item, Statement}
 use Rattle.core_eval.specs.declared.ending.EvalEnding.TheVariants as ending
 use Rattle.source_meaning.specs.Shapes.{Part, Shape, settled, written}
 use Rattle.source_meaning.specs.Memory.{Memory, Scalar, Spot}
@@ -60,19 +60,19 @@ entered_quiet f w = record {
       (tt, (body_quiet f w f.parameters).go ended m (λ flow m1. (result_quiet f flow).go returned m1 (λ vs m2. (tt, h vs m2))));
 }
 
-status_quiet : (w : World) (p : Program) → Quiet (status_of w p)
+status_quiet : (w : World) (p : tree.Program) → Quiet (status_of w p)
 status_quiet w p = record {
   go = λ next m h. (globals_quiet w p 0).go _ m (λ a m1. (need_quiet (function_of w.functions (codes "main"))).go _ m1
       (λ f m2. (entered_quiet f w).go _ m2 (λ vs m3. (one_quiet vs).go _ m3 (λ v m4. (integer_quiet v).go next m4 h))));
 }
 
-start_quiet : (p : Program) → IsQuiet (start p)
+start_quiet : (p : tree.Program) → IsQuiet (start p)
 start_quiet p = (status_quiet (world_of p) p).go _ (first_memory p) (λ status m. tt)
 
 -- ---- nothing done
 
 -- With no unit of fuel a run reads and writes nothing, so a host without memory need not have begun.
-pub nothing_done : (p : Program) (fuel : ℕ) (reader writer : Option (List ℕ)) → IsEvaluated ending.HostMemory p fuel reader reader writer writer
+pub nothing_done : (p : tree.Program) (fuel : ℕ) (reader writer : Option (List ℕ)) → IsEvaluated ending.HostMemory p fuel reader reader writer writer
 nothing_done p fuel reader writer =
     let silent : AreSilent (visible (source p [] 0).events) = silent_run (start p) [] (start_quiet p) in
     record {

@@ -49,7 +49,7 @@ use Rattle.cyc_tree.specs.Tree.{
 use Rattle.source_meaning.specs.Calls.{function_of}
 use Rattle.source_meaning.specs.Expressions.{is_unique_region}
 use Rattle.source_meaning.specs.Programs.{world_of}
-use Rattle.source_meaning.specs.Shapes.{IntShape, Part, Shape, has_tag}
+use Rattle.source_meaning.specs.Shapes.{IntShape, Shape}
 use Rattle.source_meaning.specs.Steps.{Routine, World}
 use Rattle.source_typing.specs.Calls.{Target, ToBuiltin, ToFunction, arguments_fit, builtin_parameters, call_entered, called, target, target_of_tag}
 use Rattle.source_typing.specs.Calls.{union_made, union_tag}
@@ -64,14 +64,15 @@ use Rattle.source_typing.specs.Scope.{Env, block_entered, Local, Value, meant, v
 use Rattle.source_typing.specs.Statements.{Chosen, clause_scope}
 use Rattle.source_typing.specs.Tables.{Arrayed, Counter, Entry, OfBuiltin, OfFunction, OfOther, OfTag, OfValue, Signature, Stored, Tables, Unknown, find}
 use Rattle.source_typing.specs.Types.{Int, StaticType, shape_of}
-use Rattle.source_typing.specs.Verdicts.{Of, Verdict, after, both, other_kind}
+use Rattle.source_typing.specs.Verdicts.{Of, Verdict, after, both}
 use Rattle.source_typing.proofs.CallsFit.{arguments_are, sound_is}
 use Rattle.source_typing.proofs.Inversion.{after_is, array_is, assign_is, both_is, call_is, goal_is, links_first, of_is, prefix_is, suffixes_first, tests_first}
 use Rattle.source_lowering.specs.Lowered.{call_parameters, makes_struct, parameter_shapes}
 use Rattle.type_proof.specs.Entries.{Builtin, Function, Structure, Unioned}
 use Rattle.type_proof.specs.Judged.{ClausesJudged, DeclarationJudged, ItemsJudged, PatternJudged, StatementJudged, on_union}
-use Rattle.type_proof.specs.Programs.{FunctionJudged, ProgramJudged, with_all}
+use Rattle.type_proof.specs.Programs.{ProgramJudged}
 use Rattle.source_typing.specs.Fixing.{more}
+use Rattle.accepted_proof.proofs.lowered.Calls.{makes_one, no_kind}
 use Rattle.home_proof.specs.Arguments.{
   AreEnough,
   AreEnoughBy,
@@ -106,10 +107,6 @@ meant_fits w g (l ∷ ls) x e fit q = by (bytes_eq l.name x) (λ z. meant_fits w
         → CallFits w x e
     by true others p = let z : OfValue l.what ≡ e = cc in subst (λ d. CallFits w x d) z tt
     by false others p = others p
-
-no_kind : {A : Type 0} (c : Bool) (at : ℕ) (v : A) → other_kind c at ≡ Of v → ⊥
-no_kind true at v e = cc
-no_kind false at v e = cc
 
 many_builtin : (n : ℕ) → length (builtin_parameters n) ≡ n
 many_builtin zero = refl
@@ -330,13 +327,6 @@ module _ (w : World) where
 
 -- ---- programs
 
--- a body has the tables of the scope around it
-pub all_tables : (ps : List Part) (ts : List StaticType) (g : Env) → (with_all ps ts g).tables ≡ g.tables
-all_tables [] [] g = refl
-all_tables [] (t ∷ ts) g = refl
-all_tables (p ∷ ps) [] g = refl
-all_tables (p ∷ ps) (t ∷ ts) g = all_tables ps ts _
-
 named_parameters : (w : World) (x : List ℕ) → bytes_eq x (codes "getchar") ≡ false → bytes_eq x (codes "putchar") ≡ false
     → call_parameters w x ≡ parameter_shapes (function_of w.functions x)
 named_parameters w x a b =
@@ -352,12 +342,6 @@ builtin_fits w x n (inr z) =
     z.2 ∙ sym (ap (λ (b : Bool). length (if b then [] else (if bytes_eq x (codes "putchar") then IntShape ∷ [] else own))) z.0 ∙
     ap (λ (b : Bool). length (if b then IntShape ∷ [] else own)) z.1)
 
-struct_made : (w : World) (x : List ℕ) → bytes_eq x (codes "getchar") ≡ false → bytes_eq x (codes "putchar") ≡ false → has_tag w.structs x ≡ true
-    → makes_struct w x ≡ true
-struct_made w x a b c =
-    ap (λ z. if z then false else (if bytes_eq x (codes "putchar") then false else has_tag w.structs x)) a
-    ∙ (ap (λ z. if z then false else has_tag w.structs x) b ∙ c)
-
 -- the names of a program that is judged are what lowering takes them for
 pub calls_fit : (p : Program) → ProgramJudged p (tables_of false p) → CallsFit (world_of p) (tables_of false p)
 calls_fit p judged x (OfFunction s) q =
@@ -369,7 +353,7 @@ calls_fit p judged x (OfBuiltin n) q = builtin_fits (world_of p) x n (judged.pla
 calls_fit p judged x (OfTag t) q = by (judged.plain x (OfTag t) q)
   where
     by : Structure (world_of p) x t ⊎ Unioned (world_of p) x t → t.is_union ≡ false → makes_struct (world_of p) x ≡ true
-    by (inl s) none = struct_made (world_of p) x s.not_read s.not_written s.there
+    by (inl s) none = makes_one (world_of p) x s.not_read s.not_written s.there
     by (inr u) none = absurd (false≢true (sym none ∙ u.union))
 calls_fit p judged x (OfValue (Stored t r)) q = tt
 calls_fit p judged x (OfValue (Arrayed t r)) q = tt

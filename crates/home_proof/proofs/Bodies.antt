@@ -17,6 +17,7 @@ use Rattle.source_typing.specs.Tables.{Tables}
 use Rattle.source_typing.specs.Ways.{ways_of}
 use Rattle.type_proof.specs.Judged.{ClausesJudged, ItemsJudged, StatementJudged, on_union}
 use Rattle.type_proof.specs.Programs.{with_all}
+use Rattle.type_proof.proofs.statements.Parameters.{with_all_tables}
 use Rattle.accepted_programs.specs.Accepted.{IsAccepted}
 use Rattle.accepted_proof.specs.Good.{BodiesJudged}
 use Rattle.accepted_proof.proofs.Found.{AllKnown}
@@ -25,7 +26,7 @@ use Rattle.accepted_proof.proofs.good.Expressions.{expressions_judged}
 use Rattle.accepted_proof.proofs.Programs as programs
 use Rattle.home_proof.specs.Arguments.{HaveArguments}
 use Rattle.home_proof.specs.Defaults.{HasOneDefault, HaveOneDefault, ClausesHaveOneDefault}
-use Rattle.home_proof.proofs.Arguments.{CallsFit, all_tables, calls_fit, items_enough}
+use Rattle.home_proof.proofs.Arguments.{CallsFit, calls_fit, items_enough}
 
 -- clauses that fit have one at most
 few_defaults : (g : Env) (c : Chosen) (cs : Clauses) → clauses_fit g c cs ≡ true → defaults cs ≤ 1
@@ -78,7 +79,7 @@ all_fit w g h i (j ∷ js) (tree.FunctionItem f ∷ is) fit k =
     let good = k.0.good in
     let ps = map part_of f.parameters in
     let outside : Env = function_scope false g i (head_of false g f) in
-    let same = all_tables ps good.head.signature.types outside in (
+    let same = with_all_tables ps good.head.signature.types outside in (
       (
         items_one _ true f.body good.body,
         items_enough w f.body (with_all ps good.head.signature.types outside) true (subst (CallsFit w) (sym same) fit) good.body,

@@ -1,5 +1,6 @@
 -- The sides of an exchange: a word is reached by its name, and what is reached by its place is no word.
 use Rattle.std.proofs.Common.{◌≡◌, ℕ, List, [], ◌∷◌, true, false, Option, Some, None, refl, sym, ◌∙◌}
+use Rattle.std.proofs.Math.Bool.{and-false}
 use Rattle.std.specs.Prelude.{◌||◌, ◌&&◌, not, nat_eq}
 use Rattle.cyc_tree.specs.Tree.{Expression}
 use Rattle.source_meaning.specs.Shapes.{Shape, FatShape, StructShape, UnionShape, ArrayShape}
@@ -12,7 +13,7 @@ use Rattle.source_lowering.specs.Lowerable.{TakesPlace}
 use Rattle.home_proof.specs.Arguments.{HasArguments}
 use Rattle.home_proof.specs.Names.{is_word, pointed}
 use Rattle.home_proof.specs.Numbered.{expression_flags}
-use Rattle.home_proof.proofs.Codes.{addresses, and_false, flags_of}
+use Rattle.home_proof.proofs.Codes.{addresses, flags_of}
 use Rattle.home_proof.proofs.Leads.{Does, at_home, is_word_at}
 use Rattle.home_proof.proofs.Variables.{elsewhere}
 use Rattle.home_proof.proofs.Expressions.{place_does}
@@ -55,7 +56,7 @@ pub side_does : (w : World) (names : List Named) (e : Expression) (d next : ℕ)
 side_does w names (Expression.Variable name) d next h g = record {
   flagged = side_flags (local_named names name.text) (bound_to w.globals name.text) d;
   pointed = λ out index n visible l.
-      side_free (local_named names name.text) (bound_to w.globals name.text) d out index (l.word name.text) ∙ sym (and_false visible);
+      side_free (local_named names name.text) (bound_to w.globals name.text) d out index (l.word name.text) ∙ sym (and-false visible);
 }
 side_does w names (Expression.Grouped at inner) d next h g = side_does w names inner d next h g
 side_does w names (Expression.Prefixed at operator operand) d next h g = place_does w names (Expression.Prefixed at operator operand) d next h g

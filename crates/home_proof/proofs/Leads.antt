@@ -1,11 +1,12 @@
 -- What a name leads to: where the variable of a name is in its block, and what code does of which that is asked.
 use Rattle.std.proofs.Common.{◌≡◌, ℕ, List, [], ◌++◌, Bool, true, false, Option, Some, None, sym, ap, ◌∙◌}
+use Rattle.std.proofs.Math.Bool.{and-false}
 use Rattle.std.specs.Prelude.{◌||◌, ◌&&◌, not, nat_eq, bytes_eq}
 use Rattle.std.proofs.lemmas.List.{append-nil}
 use Rattle.core_meaning.specs.Core.{Statement}
 use Rattle.source_lowering.specs.Lowered.{Home, InBlock, Left, Named, local_named}
 use Rattle.home_proof.specs.Names.{is_word}
-use Rattle.home_proof.proofs.Codes.{IsPlain, addresses, addresses_both, and_false, and_or, flags_both, flags_of, or_false}
+use Rattle.home_proof.proofs.Codes.{IsPlain, addresses, addresses_both, and_or, flags_both, flags_of, or_false}
 
 -- ---- homes
 
@@ -60,7 +61,7 @@ module _ {names : List Named} {xs ys : List Statement} where
   }
 
 pub nothing : {names : List Named} {code : List Statement} → IsPlain code → Does names code (λ n. false) []
-nothing a = record { flagged = a.flags; pointed = λ out index name visible h. a.free out index ∙ sym (and_false visible) }
+nothing a = record { flagged = a.flags; pointed = λ out index name visible h. a.free out index ∙ sym (and-false visible) }
 
 -- the same, said otherwise
 pub said : {names : List Named} {code : List Statement} {p q : List ℕ → Bool} {f g : List Bool} → Does names code p f → ((n : List ℕ) → p n ≡ q n) → f ≡ g

@@ -1,5 +1,6 @@
 -- The code of what a local begins with: it takes the address of that local where it is no word, and else of words to whose names `&` is applied.
 use Rattle.std.proofs.Common.{◌≡◌, ℕ, ◌+◌, List, [], ◌++◌, Bool, true, false, refl, sym, ap, ◌∙◌}
+use Rattle.std.proofs.Math.Bool.{and-false}
 use Rattle.std.specs.Prelude.{◌||◌, ◌&&◌, not, nat_eq}
 use Rattle.std.proofs.lemmas.List.{append-nil}
 use Rattle.cyc_tree.specs.Tree.{Expression}
@@ -14,7 +15,7 @@ use Rattle.source_lowering.specs.Lowerable.{TakesValue}
 use Rattle.home_proof.specs.Arguments.{HasArguments}
 use Rattle.home_proof.specs.Names.{is_word, pointed}
 use Rattle.home_proof.specs.Numbered.{expression_flags}
-use Rattle.home_proof.proofs.Codes.{addresses, addresses_both, and_false, and_or, flags_both, flags_of, or_false}
+use Rattle.home_proof.proofs.Codes.{addresses, addresses_both, and_or, flags_both, flags_of, or_false}
 use Rattle.home_proof.proofs.Leads.{Does, Leads}
 use Rattle.home_proof.proofs.Pieces.{conversion_plain}
 use Rattle.home_proof.proofs.Variables.{elsewhere, stored_flags, stored_free}
@@ -53,7 +54,7 @@ module _ {at : (out index : ℕ) → Type 0} {names : List Named} where
 
   pub nothing_at : {code : List Statement} → flags_of code ≡ [] → ((out index : ℕ) → at out index → addresses out index code ≡ false)
       → DoesAt at names code (λ n. false) []
-  nothing_at none free = record { flagged = none; pointed = λ out index name visible t h. free out index t ∙ sym (and_false visible) }
+  nothing_at none free = record { flagged = none; pointed = λ out index name visible t h. free out index t ∙ sym (and-false visible) }
 
 -- another home than that of this local of the block, or a word's
 abbrev pub Fits : Shape → (count out index : ℕ) → Type 0

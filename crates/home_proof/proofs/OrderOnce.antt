@@ -59,18 +59,18 @@ use Rattle.source_lowering.specs.Order.{
 }
 use Rattle.home_proof.specs.Defaults.{HasOneDefault, HaveOneDefault, ClausesHaveOneDefault}
 use Rattle.home_proof.proofs.Turns.{AreApart}
-use Rattle.home_proof.proofs.Places.{apart, times, times_both, within, within_both, within_once}
+use Rattle.home_proof.proofs.Places.{apart, occurrences, occurrences_both, within, within_both, within_once}
 
 -- numbers of two lists that stand one behind the other, in either order
-both : (m first a b : ℕ) (ns ms : List ℕ) → times m ns ≡ within first a m → times m ms ≡ within (first + a) b m → times m (ns ++ ms) ≡ within first (a + b) m
-both m first a b ns ms h k = let all = times_both m ns ms in let parts = within_both first a b m in omega (arith, all, parts, h, k)
+both : (m first a b : ℕ) (ns ms : List ℕ) → occurrences m ns ≡ within first a m → occurrences m ms ≡ within (first + a) b m → occurrences m (ns ++ ms) ≡ within first (a + b) m
+both m first a b ns ms h k = let all = occurrences_both m ns ms in let parts = within_both first a b m in omega (arith, all, parts, h, k)
 
-turned : (m first a b : ℕ) (ns ms : List ℕ) → times m ms ≡ within first a m → times m ns ≡ within (first + a) b m → times m (ns ++ ms) ≡ within first (a + b) m
-turned m first a b ns ms h k = let all = times_both m ns ms in let parts = within_both first a b m in omega (arith, all, parts, h, k)
+turned : (m first a b : ℕ) (ns ms : List ℕ) → occurrences m ms ≡ within first a m → occurrences m ns ≡ within (first + a) b m → occurrences m (ns ++ ms) ≡ within first (a + b) m
+turned m first a b ns ms h k = let all = occurrences_both m ns ms in let parts = within_both first a b m in omega (arith, all, parts, h, k)
 
 module _ (m : ℕ) where
   mutual
-    pub expression_once : (first : ℕ) (e : Expression) → times m (expression_order first e) ≡ within first (indices_in e) m
+    pub expression_once : (first : ℕ) (e : Expression) → occurrences m (expression_order first e) ≡ within first (indices_in e) m
     expression_once first (Expression.Call x arguments) = all_once first arguments
     expression_once first (Expression.MakeUnion tag member value) = expression_once first value
     expression_once first (Expression.NumElts at operand) = expression_once first operand
@@ -92,17 +92,17 @@ module _ (m : ℕ) where
         turned m first (indices_in value) (indices_in place) _ _ (expression_once first value) (expression_once (first + indices_in value) place)
     expression_once first _ = refl
 
-    pub all_once : (first : ℕ) (es : Expressions) → times m (all_order first es) ≡ within first (indices_in_all es) m
+    pub all_once : (first : ℕ) (es : Expressions) → occurrences m (all_order first es) ≡ within first (indices_in_all es) m
     all_once first NoExpressions = refl
     all_once first (MoreExpressions e others) =
         both m first (indices_in e) (indices_in_all others) _ _ (expression_once first e) (all_once (first + indices_in e) others)
 
-    pub links_once : (first : ℕ) (ls : Links) → times m (link_order first ls) ≡ within first (indices_in_links ls) m
+    pub links_once : (first : ℕ) (ls : Links) → occurrences m (link_order first ls) ≡ within first (indices_in_links ls) m
     links_once first NoLinks = refl
     links_once first (MoreLinks operator operand others) =
         both m first (indices_in operand) (indices_in_links others) _ _ (expression_once first operand) (links_once (first + indices_in operand) others)
 
-    pub suffixes_once : (first : ℕ) (ss : Suffixes) → times m (suffix_order first ss) ≡ within first (indices_in_suffixes ss) m
+    pub suffixes_once : (first : ℕ) (ss : Suffixes) → occurrences m (suffix_order first ss) ≡ within first (indices_in_suffixes ss) m
     suffixes_once first NoSuffixes = refl
     suffixes_once first (Index index others) =
         turned m first (indices_in_suffixes others) (indices_in index) _ _ (suffixes_once first others)
@@ -111,17 +111,17 @@ module _ (m : ℕ) where
     suffixes_once first (Arrow f others) = suffixes_once first others
 
     -- the index has the number behind those of its count
-    pub made_once : (first : ℕ) (new : Made) → times m (made_order first new) ≡ within first (indices_in_made new) m
+    pub made_once : (first : ℕ) (new : Made) → occurrences m (made_order first new) ≡ within first (indices_in_made new) m
     made_once first (One value) = expression_once first value
     made_once first (Array index count element) =
         let own = first + indices_in count in
-        let all = times_both m (expression_order first count) (expression_order (suc own) element) in
+        let all = occurrences_both m (expression_order first count) (expression_order (suc own) element) in
         let of_count = expression_once first count in
         let of_element = expression_once (suc own) element in
         let parts = within_both first (indices_in count) (suc (indices_in element)) m in
         omega (arith, all, of_count, of_element, parts)
 
-  pub declaration_once : (first : ℕ) (d : Declaration) → times m (declaration_order first d) ≡ within first (indices_in_declaration d) m
+  pub declaration_once : (first : ℕ) (d : Declaration) → occurrences m (declaration_order first d) ≡ within first (indices_in_declaration d) m
   declaration_once first (tree.Local of x (Initializer.Value e)) = expression_once first e
   declaration_once first (tree.Local of x Initializer.Unset) = refl
   declaration_once first (tree.Local of x (Initializer.Elements count)) = refl
@@ -137,7 +137,7 @@ module _ (m : ℕ) where
   no_default (MoreClauses at Default body others) e = absurd (omega (arith, e))
 
   mutual
-    pub statement_once : (inner : ℕ) (s : Statement) → HasOneDefault s → times m (statement_order inner s) ≡ within inner (declared_in s) m
+    pub statement_once : (inner : ℕ) (s : Statement) → HasOneDefault s → occurrences m (statement_order inner s) ≡ within inner (declared_in s) m
     statement_once inner (Statement.Empty at) one = refl
     statement_once inner (Statement.Block at items) one =
         let parts = within_both inner (declared_here items) (declared_within items) m in
@@ -171,31 +171,31 @@ module _ (m : ℕ) where
     statement_once inner (Statement.FreeKey at key) one = refl
 
     pub items_once : (here inner : ℕ) (items : BlockItems) → HaveOneDefault items
-        → times m (items_order here inner items) ≡ within here (declared_here items) m + within inner (declared_within items) m
+        → occurrences m (items_order here inner items) ≡ within here (declared_here items) m + within inner (declared_within items) m
     items_once here inner NoItems one = refl
     items_once here inner (Declare d others) one =
         let k = indices_in_declaration d in
-        let all = times_both m (declaration_order inner d) (items_order (suc here) (inner + k) others) in
+        let all = occurrences_both m (declaration_order inner d) (items_order (suc here) (inner + k) others) in
         let of_it = declaration_once inner d in
         let of_others = items_once (suc here) (inner + k) others one in
         let parts = within_both inner k (declared_within others) m in
         omega (arith, all, of_it, of_others, parts)
     items_once here inner (Execute s others) one =
         let k = declared_in s in
-        let all = times_both m (statement_order inner s) (items_order here (inner + k) others) in
+        let all = occurrences_both m (statement_order inner s) (items_order here (inner + k) others) in
         let of_it = statement_once inner s one.0 in
         let of_others = items_once here (inner + k) others one.1 in
         let parts = within_both inner k (declared_within others) m in
         omega (arith, all, of_it, of_others, parts)
 
     pub clauses_once : (named default : ℕ) (cs : Clauses) → defaults cs ≤ 1 → ClausesHaveOneDefault cs
-        → times m (clauses_order named default cs) ≡ within named (declared_in_cases cs) m + within default (declared_in_default cs) m
+        → occurrences m (clauses_order named default cs) ≡ within named (declared_in_cases cs) m + within default (declared_in_default cs) m
     clauses_once named default NoClauses few one = refl
     clauses_once named default (MoreClauses at (Case f x) body others) few one =
         let here = declared_here body in
         let inside = declared_within body in
         let next = suc named + (here + inside) in
-        let all = times_both m (items_order (suc named) (suc named + here) body) (clauses_order next default others) in
+        let all = occurrences_both m (items_order (suc named) (suc named + here) body) (clauses_order next default others) in
         let of_it = items_once (suc named) (suc named + here) body one.0 in
         let of_others = clauses_once next default others few one.1 in
         let parts = within_both (suc named) (here + inside) (declared_in_cases others) m in
@@ -205,7 +205,7 @@ module _ (m : ℕ) where
         let whole : within named (suc (here + inside) + cases) m ≡ within named (suc (here + inside + cases)) m = ap (λ k. within named k m) more in
         omega (arith, all, of_it, of_others, parts, both_parts, whole)
     clauses_once named default (MoreClauses at Default body others) few one =
-        let all = times_both m (items_order default (default + declared_here body) body) (clauses_order named default others) in
+        let all = occurrences_both m (items_order default (default + declared_here body) body) (clauses_order named default others) in
         let of_it = items_once default (default + declared_here body) body one.0 in
         let of_others = clauses_once named default others (omega (arith, few)) one.1 in
         let none : declared_in_default others ≡ 0 = no_default others (omega (arith, few)) in
@@ -213,16 +213,16 @@ module _ (m : ℕ) where
         let parts = within_both default (declared_here body) (declared_within body) m in
         omega (arith, all, of_it, of_others, none_there, parts)
 
-  numbers_once : (first count : ℕ) → times m (numbers_from first count) ≡ within first count m
+  numbers_once : (first count : ℕ) → occurrences m (numbers_from first count) ≡ within first count m
   numbers_once first zero = refl
   numbers_once first (suc count) = let h = numbers_once (suc first) count in omega (arith, h)
 
-  locals_once : (f : Routine) → HaveOneDefault f.body → times m (locals_order f) ≤ 1
+  locals_once : (f : Routine) → HaveOneDefault f.body → occurrences m (locals_order f) ≤ 1
   locals_once f one =
       let p = length f.parameters in
       let here = declared_here f.body in
       let inside = declared_within f.body in
-      let all = times_both m (numbers_from 0 p) (items_order p (p + here) f.body) in
+      let all = occurrences_both m (numbers_from 0 p) (items_order p (p + here) f.body) in
       let of_parameters = numbers_once 0 p in
       let of_body = items_once p (p + here) f.body one in
       let parts = within_both 0 p (here + inside) m in

@@ -48,13 +48,13 @@ lies flags = lie_behind flags [] flags refl
 
 -- ---- how often a number stands in a list
 
-abbrev pub times : ℕ → List ℕ → ℕ
-times m [] = 0
-times m (n ∷ ns) = one_if (nat_eq m n) + times m ns
+abbrev pub occurrences : ℕ → List ℕ → ℕ
+occurrences m [] = 0
+occurrences m (n ∷ ns) = one_if (nat_eq m n) + occurrences m ns
 
-pub times_both : (m : ℕ) (ns ms : List ℕ) → times m (ns ++ ms) ≡ times m ns + times m ms
-times_both m [] ms = omega arith
-times_both m (n ∷ ns) ms = let h = times_both m ns ms in omega (arith, h)
+pub occurrences_both : (m : ℕ) (ns ms : List ℕ) → occurrences m (ns ++ ms) ≡ occurrences m ns + occurrences m ms
+occurrences_both m [] ms = omega arith
+occurrences_both m (n ∷ ns) ms = let h = occurrences_both m ns ms in omega (arith, h)
 
 -- and among so many numbers from one on
 abbrev pub within : (first count : ℕ) → ℕ → ℕ
@@ -92,19 +92,19 @@ within_once first (suc count) m = by (nat_eq m first) refl (within_once (suc fir
     by true e h = let same = eqb-true m first e in let none = within_above (suc first) count m (omega (arith, same)) in omega (arith, none)
     by false e h = omega (arith, h)
 
-none_among : (n : ℕ) (ns : List ℕ) → times n ns ≡ 0 → is_among n ns ≡ false
+none_among : (n : ℕ) (ns : List ℕ) → occurrences n ns ≡ 0 → is_among n ns ≡ false
 none_among n [] e = refl
 none_among n (m ∷ ms) e = by (nat_eq n m) e (λ h. none_among n ms h)
   where
-    by : (b : Bool) → one_if b + times n ms ≡ 0 → (times n ms ≡ 0 → is_among n ms ≡ false) → (b || is_among n ms) ≡ false
+    by : (b : Bool) → one_if b + occurrences n ms ≡ 0 → (occurrences n ms ≡ 0 → is_among n ms ≡ false) → (b || is_among n ms) ≡ false
     by true h later = absurd (omega (arith, h))
     by false h later = later (omega (arith, h))
 
 -- a list in which each number stands once at most
-pub apart : (ns : List ℕ) → ((m : ℕ) → times m ns ≤ 1) → AreApart ns
+pub apart : (ns : List ℕ) → ((m : ℕ) → occurrences m ns ≤ 1) → AreApart ns
 apart [] once = tt
 apart (n ∷ ns) once = (none_among n ns (by (nat_eq n n) (eq-eqb n n refl) (once n)), apart ns (λ m. let h = once m in omega (arith, h)))
   where
-    by : (b : Bool) → b ≡ true → one_if b + times n ns ≤ 1 → times n ns ≡ 0
+    by : (b : Bool) → b ≡ true → one_if b + occurrences n ns ≤ 1 → occurrences n ns ≡ 0
     by true e h = omega (arith, h)
     by false e h = absurd (cc e)

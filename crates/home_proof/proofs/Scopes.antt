@@ -6,16 +6,9 @@ use Rattle.std.proofs.lemmas.Slice.Eq.{bytes_eq-Decides}
 use Rattle.source_meaning.specs.Shapes.{Shape, UnsignedShape}
 use Rattle.source_lowering.specs.Lowered.{Home, InBlock, Named, element_names, local_named}
 use Rattle.source_lowering.specs.Programs.{further_out, named_here, one_out, outward}
+use Rattle.type_proof.proofs.invariant.Layouts.{same_text}
 use Rattle.home_proof.specs.Names.{is_word}
 use Rattle.home_proof.proofs.Leads.{Leads, at_home, is_word_at, leads}
-
--- ---- names
-
-pub same_name : (x y : List ℕ) → bytes_eq x y ≡ true → x ≡ y
-same_name x y h = (bytes_eq-Decides x y).0 h
-
-pub its_name : (x : List ℕ) → bytes_eq x x ≡ true
-its_name x = (bytes_eq-Decides x x).1 refl
 
 -- ---- numbers
 
@@ -25,9 +18,6 @@ next_eq a b = by (nat_eq a b) refl
     by : (t : Bool) → nat_eq a b ≡ t → nat_eq (suc a) (suc b) ≡ t
     by true e = eq-eqb (suc a) (suc b) (ap suc (eqb-true a b e))
     by false e = ne_eqb (suc a) (suc b) (λ q. eqb-false a b e (omega (arith, q)))
-
-next_none : (a : ℕ) → nat_eq (suc a) 0 ≡ false
-next_none a = ne_eqb (suc a) 0 (λ q. omega (arith, q))
 
 -- ---- one block further in
 
@@ -63,7 +53,7 @@ none_here None index = refl
 none_here (Some l) index = by l.home
   where
     by : (h : Home) → at_home (further_out h) 0 index ≡ false
-    by (InBlock o i) = ap (λ z. z && nat_eq i index) (next_none o)
+    by (InBlock o i) = ap (λ z. z && nat_eq i index) (ne_eqb (suc o) 0 (λ q. omega (arith, q)))
 
 pub leads_within : (names : List Named) (out index : ℕ) (name : List ℕ) (visible : Bool) → Leads names out index name visible
     → Leads (outward names) (suc out) index name visible
@@ -100,11 +90,11 @@ leads_behind names x s count out index name visible before h = record {
     by m true e true f v g true h = here
     by m true e false f v g false h = here
     by m true e false f false g true h = here
-    by m true e false f true g true h = absurd (false≢true (sym f ∙ subst (λ z. bytes_eq z name ≡ true) (sym (same_name x m e)) g))
+    by m true e false f true g true h = absurd (false≢true (sym f ∙ subst (λ z. bytes_eq z name ≡ true) (sym ((bytes_eq-Decides x m).0 e)) g))
     by m false e true f v g false h = h
     by m false e true f false g true h = h
     by m false e true f true g true h =
-        absurd (false≢true (sym e ∙ subst (λ z. bytes_eq x z ≡ true) (same_name x name f ∙ sym (same_name m name g)) (its_name x)))
+        absurd (false≢true (sym e ∙ subst (λ z. bytes_eq x z ≡ true) ((bytes_eq-Decides x name).0 f ∙ sym ((bytes_eq-Decides m name).0 g)) (same_text x)))
     by m false e false f v g false h = h
     by m false e false f v g true h = h
 
@@ -152,11 +142,11 @@ leads_here names x s count h is = record {
 }
   where
     other : (m : List ℕ) → bytes_eq x m ≡ false → bytes_eq m x ≡ false
-    other m e = false_from_ne_true (bytes_eq m x) (λ g. false≢true (sym e ∙ subst (λ z. bytes_eq x z ≡ true) (sym (same_name m x g)) (its_name x)))
+    other m e = false_from_ne_true (bytes_eq m x) (λ g. false≢true (sym e ∙ subst (λ z. bytes_eq x z ≡ true) (sym ((bytes_eq-Decides m x).0 g)) (same_text x)))
 
     by : (m : List ℕ) (t : Bool) → bytes_eq x m ≡ t → leads 0 count (local_named names m) ≡ false
         → leads 0 count (if t then Some (named_here x s count) else local_named names m) ≡ bytes_eq m x
-    by m true e h = eq-eqb count count refl ∙ sym (subst (λ z. bytes_eq z x ≡ true) (same_name x m e) (its_name x))
+    by m true e h = eq-eqb count count refl ∙ sym (subst (λ z. bytes_eq z x ≡ true) ((bytes_eq-Decides x m).0 e) (same_text x))
     by m false e h = h ∙ sym (other m e)
 
     word_by : (m : List ℕ) (t : Bool) → is_word_at 0 count (local_named names m) ≡ true

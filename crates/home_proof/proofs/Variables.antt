@@ -1,5 +1,6 @@
 -- The code of variables: a word is read and written without its address, and `&` takes it.
 use Rattle.std.proofs.Common.{◌≡◌, ℕ, ◌+◌, List, [], Bool, true, false, Option, Some, None, refl, sym, ◌∙◌}
+use Rattle.std.proofs.Math.Bool.{and-false}
 use Rattle.std.specs.Prelude.{◌||◌, ◌&&◌, not, nat_eq, bytes_eq}
 use Rattle.cyc_tree.specs.Tree.{Expression}
 use Rattle.source_meaning.specs.Shapes.{
@@ -41,7 +42,7 @@ use Rattle.source_lowering.specs.Lowered.{
 }
 use Rattle.source_lowering.specs.Lowerable.{IsObject, IsUnionShape, IsWholeShape}
 use Rattle.home_proof.specs.Names.{is_name, is_word, pointed}
-use Rattle.home_proof.proofs.Codes.{addresses, and_false, flags_of}
+use Rattle.home_proof.proofs.Codes.{addresses, flags_of}
 use Rattle.home_proof.proofs.Leads.{Does, Leads, at_home, is_word_at, leads}
 use Rattle.home_proof.proofs.Pieces.{global_plain, stores_plain}
 
@@ -90,7 +91,7 @@ read_free None None d out index h = refl
 pub read_does : (w : World) (names : List Named) (name : List ℕ) (d : ℕ) → Does names (get_code w names name d) (λ n. false) []
 read_does w names name d = record {
   flagged = read_flags (local_named names name) (bound_to w.globals name) d;
-  pointed = λ out index n visible h. read_free (local_named names name) (bound_to w.globals name) d out index (h.word name) ∙ sym (and_false visible);
+  pointed = λ out index n visible h. read_free (local_named names name) (bound_to w.globals name) d out index (h.word name) ∙ sym (and-false visible);
 }
 
 put_flags : (l : Option Named) (e : Option Entity) (d : ℕ) → flags_of (put_by l e d) ≡ []
@@ -113,7 +114,7 @@ pub put_does : (w : World) (names : List Named) (name : List ℕ) (d : ℕ)
     → Does names (put_by (local_named names name) (bound_to w.globals name) d) (λ n. false) []
 put_does w names name d = record {
   flagged = put_flags (local_named names name) (bound_to w.globals name) d;
-  pointed = λ out index n visible h. put_free (local_named names name) (bound_to w.globals name) d out index (h.word name) ∙ sym (and_false visible);
+  pointed = λ out index n visible h. put_free (local_named names name) (bound_to w.globals name) d out index (h.word name) ∙ sym (and-false visible);
 }
 
 -- ---- places
@@ -175,7 +176,7 @@ pub apart : (w : World) (names : List Named) (e : Expression) (out index : ℕ) 
 apart w names (Expression.Variable x) out index name visible h is =
     sym (h.led x.text) ∙ not_led (local_named names x.text) (bound_to w.globals x.text) out index is (h.word x.text)
 apart w names (Expression.Grouped at inner) out index name visible h is = apart w names inner out index name visible h is
-apart w names _ out index name visible h is = and_false visible
+apart w names _ out index name visible h is = and-false visible
 
 -- the place of what is no word
 pub placed : (w : World) (names : List Named) (e : Expression) (code : List Statement) (flags : List Bool)

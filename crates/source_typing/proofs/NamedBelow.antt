@@ -1,8 +1,12 @@
--- What was declared before so many region names was declared before one more.
-use Rattle.std.proofs.Common.{ℕ, ◌+◌, List, [], ◌∷◌, arith}
+-- What was declared before so many region names was declared before more of them.
+use Rattle.std.proofs.Common.{ℕ, ◌+◌, ◌≤◌, List, [], ◌∷◌, arith}
 use Rattle.source_typing.specs.Named.{AllBelow, Below, NamesBelow}
 use Rattle.source_typing.specs.Regions.{Level, Region, TheHeap}
 use Rattle.source_typing.specs.Written.{RegionNamed}
+
+pub below_more : (m n : ℕ) (r : Region) → m ≤ n → Below m r → Below n r
+below_more m n TheHeap l h = tt
+below_more m n (Level k) l h = omega (arith, h, l)
 
 pub below_up : (n : ℕ) (a : Region) → Below n a → Below (n + 1) a
 below_up n TheHeap h = tt

@@ -27,7 +27,8 @@ use Rattle.source_typing.proofs.Inversion.{none_of_both, own_is, test_is}
 use Rattle.accepted_proof.specs.Good.{AllGood, BodiesJudged, IsGood, IsGoodEntry, IsStructTag, MeansNamed}
 use Rattle.accepted_proof.proofs.kinds.Types.{TypesName, parameters_named, structs_known}
 use Rattle.accepted_proof.proofs.good.Scopes.{good_local, one_more}
-use Rattle.accepted_proof.proofs.HeadTypes.{below_more, object_more}
+use Rattle.source_typing.proofs.NamedBelow.{below_more}
+use Rattle.accepted_proof.proofs.HeadTypes.{object_more}
 use Rattle.accepted_proof.proofs.good.Types.{good_tags}
 use Rattle.accepted_proof.proofs.Heads.{HeadGood, head_good}
 use Rattle.source_typing.proofs.NamedBelow.{names_up}

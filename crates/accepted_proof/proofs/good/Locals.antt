@@ -34,7 +34,7 @@ use Rattle.accepted_proof.proofs.Owners.{IsSaid, ShapedIfSome, Writes, filled_sh
 -- ---- missing regions
 
 -- a type that they are taken from, where there is one
-abbrev pub SourceBelow : ℕ → Option StaticType → Type 0
+abbrev pub SourceBelow : (count : ℕ) → (source : Option StaticType) → Type 0
 SourceBelow n None = Unit {0}
 SourceBelow n (Some t) = IsValueType t × TypeBelow n t
 
@@ -60,7 +60,7 @@ record IsFilled (n : ℕ) (t : StaticType) : Type 0 where
   below : TypeBelow n t
 
 -- a fat pointer that would be unique is no type
-abbrev FilledIfSome : ℕ → Option StaticType → Type 0
+abbrev FilledIfSome : (count : ℕ) → Option StaticType → Type 0
 FilledIfSome n None = Unit {0}
 FilledIfSome n (Some t) = IsFilled n t
 

@@ -31,7 +31,7 @@ use Rattle.accepted_proof.proofs.lowered.Forms.{AreKnown, AreWords, IsGiven, IsT
 use Rattle.accepted_proof.proofs.lowered.Forms.{word_is}
 use Rattle.accepted_proof.proofs.lowered.Stands.{stands_same}
 
-no_kind : {A : Type 0} (c : Bool) (at : ℕ) (v : A) → other_kind c at ≡ Of v → ⊥
+pub no_kind : {A : Type 0} (c : Bool) (at : ℕ) (v : A) → other_kind c at ≡ Of v → ⊥
 no_kind true at v e = cc
 no_kind false at v e = cc
 
@@ -59,7 +59,7 @@ makes_none w x e = by (bytes_eq x (codes "getchar")) (bytes_eq x (codes "putchar
     by false true = refl
     by false false = e
 
-makes_one : (w : World) (x : List ℕ) → bytes_eq x (codes "getchar") ≡ false → bytes_eq x (codes "putchar") ≡ false → has_tag w.structs x ≡ true
+pub makes_one : (w : World) (x : List ℕ) → bytes_eq x (codes "getchar") ≡ false → bytes_eq x (codes "putchar") ≡ false → has_tag w.structs x ≡ true
     → makes_struct w x ≡ true
 makes_one w x a b c =
     ap (λ z. if z then false else (if bytes_eq x (codes "putchar") then false else has_tag w.structs x)) a

@@ -23,7 +23,7 @@ use Rattle.source_typing.specs.Regions.{TheHeap}
 use Rattle.source_typing.specs.Scope.{Env, In, Value, meant}
 use Rattle.source_typing.specs.Tables.{Arrayed, Counter, Entry, OfBuiltin, OfFunction, OfOther, OfTag, OfValue, Stored, Unknown}
 use Rattle.source_typing.specs.Types.{Char, Fat, Handle, Null, StaticType, Unsigned, integer_type, shape_of}
-use Rattle.source_typing.specs.Verdicts.{Of, Verdict, both, other_kind}
+use Rattle.source_typing.specs.Verdicts.{Of, Verdict, both}
 use Rattle.source_typing.proofs.Inversion.{after_is, array_is, assign_is, both_is, call_is, goal_is, links_first, of_is, prefix_is, suffixes_first, tests_first}
 use Rattle.source_typing.proofs.OperatorsFit.{applied_to_is, counted_is}
 use Rattle.type_proof.proofs.expressions.FatForms.{text_valued}
@@ -32,7 +32,7 @@ use Rattle.type_proof.proofs.expressions.Single.{no_array_alone}
 use Rattle.type_proof.proofs.expressions.WordRules.{Valued, value_of}
 use Rattle.accepted_proof.proofs.Known.{IsKnownValue, IsWord, known_value}
 use Rattle.accepted_proof.proofs.lowered.Forms.{IsKnownScope, IsTaken, TakenWord, taken_grouped, taken_place, taken_word, valued_type, word_is}
-use Rattle.accepted_proof.proofs.lowered.Calls.{AllTaken, call_taken}
+use Rattle.accepted_proof.proofs.lowered.Calls.{AllTaken, call_taken, no_kind}
 use Rattle.accepted_proof.proofs.lowered.Unions.{union_taken}
 use Rattle.source_typing.specs.Calls.{union_made, union_tag}
 use Rattle.accepted_proof.proofs.lowered.Makings.{array_taken, making_taken, unique_making_taken}
@@ -56,10 +56,6 @@ number_known : (w : World) (i : IntegerType) → IsKnownValue w (integer_type i)
 number_known w AsInt = tt
 number_known w AsUnsigned = tt
 number_known w AsChar = tt
-
-no_kind : (c : Bool) (at : ℕ) (v : Value) → other_kind c at ≡ Of v → ⊥
-no_kind true at v e = cc
-no_kind false at v e = cc
 
 fat_word : (t : StaticType) → is_fat t ≡ true → IsWord t
 fat_word (Fat r t) e = tt

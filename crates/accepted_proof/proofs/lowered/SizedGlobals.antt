@@ -31,7 +31,7 @@ AreSized w g i [] = Unit {0}
 AreSized w g i (x ∷ is) = IsSized w g i x × AreSized w g (suc i) is
 
 -- unions that have the same members, in whatever order
-abbrev pub SameUnions : List Layout → List Layout → Type 0
+abbrev pub SameUnions : (unions others : List Layout) → Type 0
 SameUnions ls ms = (tag : List ℕ) → parts_of ls tag ≡ parts_of ms tag
 
 -- what is measured alike by structs and unions is so in all shapes

@@ -3,7 +3,8 @@ use Rattle.cyc_core.specs.Trees.{body_tree, optional_tree, statement_tree}
 use Rattle.core_eval.specs.Pendings.{optional_value, waits_of}
 use Rattle.core_eval.specs.Standing.{known_of}
 use Rattle.core_eval.proofs.Entered.{block_tree, block_answer, breakable_tree, breakable_answer}
-use Rattle.core_eval.proofs.Returning.{return_tree, return_answer}
+use Rattle.cyc_core.proofs.Forms.{return_tree}
+use Rattle.core_eval.proofs.Returning.{return_answer}
 use Rattle.core_eval.proofs.enter.enter_statement.Goals as goal
 
 pub returns-in-Block : goal.returns-in-Block

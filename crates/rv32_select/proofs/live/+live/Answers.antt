@@ -34,7 +34,7 @@ use Rattle.core_lines.specs.Saved.{all_flagged, either_flagged, live_in, live_of
 use Rattle.core_lines.specs.Selected.{Surroundings, holding, names_after_all, naming}
 use Rattle.rv32_select.specs.Places.{surroundings}
 use Rattle.rv32_select.specs.Starts.{Start, point_start, starting, starts_of}
-use Rattle.rv32_select.proofs.Forms.{block_tree, call_tree, do_tree, if_tree, leave_tree, while_tree}
+use Rattle.cyc_core.proofs.Forms.{block_tree, call_tree, do_tree, if_tree, leave_tree, while_tree}
 use Rattle.rv32_select.proofs.Sizes.{statement_size, statements_size}
 use Rattle.rv32_select.proofs.Backwards.{ends_alike, size_last, last_start, starts_last, starts_many, as_same, same_back, same_there, live_back, saves_back}
 use Rattle.rv32_select.proofs.Raised.{check_saves}

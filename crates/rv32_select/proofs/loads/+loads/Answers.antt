@@ -8,7 +8,7 @@ use Rattle.core_lines.specs.Loaded.{loads_in, loads_of}
 use Rattle.core_lines.specs.Saved.{all_flagged}
 use Rattle.core_lines.specs.Selected.{Surroundings, homes_after, holding, naming, names_after, names_after_all}
 use Rattle.rv32_select.specs.Places.{surroundings}
-use Rattle.rv32_select.proofs.Forms.{block_tree, if_tree, while_tree, leave_tree}
+use Rattle.cyc_core.proofs.Forms.{block_tree, if_tree, while_tree, leave_tree}
 use Rattle.rv32_select.proofs.Sizes.{statement_size, statements_size}
 use Rattle.rv32_select.proofs.Stepping.{same_behind, names_behind, held_there, flags_behind, choice_flags, loop_flags}
 use Rattle.rv32_select.proofs.loads.+loads.Goals as goal

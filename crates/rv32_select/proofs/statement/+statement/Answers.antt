@@ -19,7 +19,7 @@ use Rattle.core_lines.specs.Selected.{Surroundings, statement_code, statements_c
 use Rattle.core_lines.specs.Selected.{names_after_all}
 use Rattle.rv32_select.specs.Places.{surroundings, saves_left}
 use Rattle.rv32_select.proofs.Coding.{choice_lines, leave_lines, loop_lines}
-use Rattle.rv32_select.proofs.Forms.{block_tree, call_tree, do_tree, if_tree, leave_tree, return_tree, while_tree}
+use Rattle.cyc_core.proofs.Forms.{block_tree, call_tree, do_tree, if_tree, leave_tree, return_tree, while_tree}
 use Rattle.rv32_select.proofs.Sizes.{statement_size, statements_size}
 use Rattle.rv32_select.proofs.Stepping.{same_behind, names_behind, held_there, flags_left, code_behind}
 use Rattle.rv32_select.proofs.statement.+statement.Goals as goal

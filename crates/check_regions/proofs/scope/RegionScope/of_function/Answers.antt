@@ -6,7 +6,7 @@ use Rattle.check_regions.specs.Fields.{pair_of}
 use Rattle.check_regions.specs.Reached.{has, reaches_any}
 use Rattle.check_regions.proofs.Entering.{AreMarks, enters_as}
 use Rattle.check_regions.proofs.Rounds.{first_marked}
-use Rattle.check_regions.proofs.Rows.{region_up}
+use Rattle.source_typing.proofs.NamedBelow.{below_more}
 use Rattle.check_regions.proofs.scope.RegionScope.of_function.Goals as goal
 
 pub returns : goal.returns
@@ -17,7 +17,7 @@ returns c =
     let live : List Bool = c.as_slice.result.now in
     let heap : List Bool = c.as_slice-2.result.now in
     let later : List Bool = c.as_slice-3.result.now in
-    let inside : (a : Region) → Below c.args.variables a → Below size a = λ a l. region_up c.args.variables size a c.size-size.ensures.enough l in
+    let inside : (a : Region) → Below c.args.variables a → Below size a = λ a l. below_more c.args.variables size a c.size-size.ensures.enough l in
     let same : c.in_ok-bounds.bounds ≡ bs = c.in_ok-bounds.ensures in
     let marks : AreMarks c.args.variables effect bs live heap later = record {
       of_effect = λ a l. ap (λ m. has m a) (c.as_slice.ensures.value ∙ c.in_ok-live.ensures) ∙ first_marked size effect a (inside a l);

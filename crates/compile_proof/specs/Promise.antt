@@ -47,7 +47,7 @@ frame_bound_of w name = bound_in w (function_of w.functions name)
 
 -- ---- the promise
 
--- A machine that begins with lines of the program's lowered Core, whichever of their jumps on zero are of two words, and with its data does what the source
+-- A machine that begins with lines of the program's lowered Core, whichever of their conditional jumps are of two words, and with its data does what the source
 -- does, on each input of bytes on which the source is never stuck, whatever its store answers.
 abbrev pub DoesAsSource : Program → Type 0
 DoesAsSource p =

@@ -1,15 +1,13 @@
 -- What the code of a check does: a branch over what raises its exception.
-use Rattle.std.specs.Prelude.{nat_eq, not, if◌then◌else◌}
-use Rattle.std.proofs.Common.{◌≡◌, ℕ, suc, pos, ◌+◌, ◌%◌, ◌<◌, ◌≤◌, Bool, true, false, List, [], ◌∷◌, ◌++◌, Option, Some, None}
+use Rattle.std.specs.Prelude.{not, if◌then◌else◌}
+use Rattle.std.proofs.Common.{◌≡◌, ℕ, pos, ◌+◌, ◌%◌, ◌<◌, ◌≤◌, Bool, true, false, List, [], ◌∷◌, ◌++◌, Option, Some, None}
 use Rattle.std.proofs.Common.{refl, sym, ap, subst, ◌∙◌, arith}
-use Rattle.std.proofs.lemmas.Bool.{eq-eqb}
 use Rattle.std.proofs.lemmas.Option.{none-some}
 use Rattle.cyc_words.specs.declared.faults.Kind.{Kind}
 use Rattle.cyc_words.specs.Words.{word, sum_of}
-use Rattle.rv32_isa.specs.declared.instruction.Instr.{Instr}
-use Rattle.rv32_isa.specs.declared.instruction.Instr.TheVariants.{Beq, Bne}
+use Rattle.core_lines.specs.declared.comparison.Comparison.{Comparison}
+use Rattle.core_lines.specs.Comparisons.{inverse, branch_if}
 use Rattle.rv32_machine.specs.State.{code_base}
-use Rattle.rv32_machine.specs.Step.{branches}
 use Rattle.core_meaning.specs.Memory.{Content, Memory}
 use Rattle.core_meaning.specs.Core.{Statement, Do, If, While, Block, Leave, Break, Continue, Call, Return, Raise, Statements, NoStatements, MoreStatements}
 use Rattle.core_meaning.specs.Meaning as core
@@ -21,156 +19,112 @@ use Rattle.core_lines.specs.Machines.{Machine, state_of}
 use Rattle.core_lines.specs.Lines.{code_length}
 use Rattle.core_lines.specs.Frames.{raise_code}
 use Rattle.core_lines.specs.Held.{Holding, held_behind}
-use Rattle.core_lines.specs.Operands.{operand_in, operand_code}
+use Rattle.core_lines.specs.Operands.{test_in, test_ready}
 use Rattle.core_lines.specs.Checks.{kind_of, kind_in, Failure, Always, ByTest, either_failure, failure_of, failure_in, check_of}
 use Rattle.core_lines.specs.Checks.{failure_code, check_code, checked_code}
 use Rattle.core_lines.specs.Completing.{can_complete}
 use Rattle.core_lines.specs.Lies.{Maps}
 use Rattle.core_lines.proofs.Lengths.{failure_within}
 use Rattle.core_lines.proofs.memory.Relations.{Moves, World, IsInOrder, Has, Waiting, Goes, active_of, keeping}
-use Rattle.core_lines.proofs.memory.Moving.{Reach, Comes, comes_then, comes_as, goes_from, goes_stuck}
+use Rattle.core_lines.proofs.memory.Moving.{Reach, Comes, comes_then, comes_as, bare, goes_from, goes_stuck}
+use Rattle.core_lines.proofs.memory.Verdicts.{is_so, not_so, branch_as, branch_lawful}
 use Rattle.core_lines.proofs.memory.Access.{written_out, length_of_both, behind}
 use Rattle.core_lines.proofs.Steps.{state_at, is_in_code, goes_to, passes}
 use Rattle.core_lines.proofs.frames.Passing.{has_first, has_second}
 use Rattle.core_lines.proofs.frames.Bodies.{with_config, GoesHolding, goes_any, goes_fewer}
 use Rattle.core_lines.proofs.operations.Raising.{raise_goes}
-use Rattle.core_lines.proofs.operations.Registers.{AtWith, AtHolding, InOperand, AreThere, IsServed, elsewhere, knows, with_there, as_holding}
-use Rattle.core_lines.proofs.operations.Registers.{operand_some, brings}
+use Rattle.core_lines.proofs.operations.Registers.{AtWith, AtHolding, AreThere, IsServed, elsewhere, knows, with_there, as_holding}
 use Rattle.core_lines.proofs.operations.EachOperation.{scoped}
 use Rattle.core_lines.proofs.Loads.{statements_below}
 use Rattle.core_lines.proofs.Ways.{Needs, Does, Tested, Fails, Holds, Neither}
 use Rattle.core_lines.proofs.Shown.{AreWhole, showing, showing_all, first_way, second_way, choice_served}
-use Rattle.core_lines.proofs.Tests.{fails_zero, holds_other, tested}
+use Rattle.core_lines.proofs.Tests.{isnt_so, is_so_where, Tells, ready, tested}
 
--- a branch that is made where a register is 0, or where it isn't
-abbrev branch_by : Bool → (register over : ℕ) → Instr
-branch_by true register over = Beq register 0 (pos over)
-branch_by false register over = Bne register 0 (pos over)
-
--- ---- a branch over code, behind an operand
+-- ---- a branch over code, behind a test
 
 module _ (w : World) (order : IsInOrder w) (x : Waiting) (outer : List Waiting) (mem : Memory) (held : List Holding) (t place : ℕ) (skipped : List Line)
     (named : t < x.fn.temporaries) (served : IsServed w x held t) (few : code_length skipped ≤ 60) where
   abbrev over : ℕ
   over = 4 + code_length skipped
 
-  abbrev operand : List Line
-  operand = operand_code x.fn.passed held 5 t
+  abbrev ready_lines : List Line
+  ready_lines = test_ready x.fn.passed held 5 t
 
   abbrev at_branch : ℕ
-  at_branch = place + code_length operand
+  at_branch = place + code_length ready_lines
 
-  abbrev Brought : ℕ → Maps → (ℕ → ℕ) → Type 0
-  Brought register m registers = InOperand 5 register (x.config.temps t) m registers × AreThere held x.config.temps m registers
+  abbrev Told : Maps → (ℕ → ℕ) → Type 0
+  Told = Tells w order x outer mem held t place named served (test_in held 5 t)
 
-  abbrev At_branch : ℕ → Machine → Type 0
-  At_branch register = AtWith w x outer mem at_branch (Brought register)
+  abbrev At_branch : Machine → Type 0
+  At_branch = AtWith w x outer mem at_branch Told
 
-  still : (at register : ℕ) (s : Machine) → AtWith w x outer mem at (Brought register) s → AtHolding w x outer mem at held s
-  still at register s a =
-      as_holding w x outer mem at held s (knows w order x outer mem at (Brought register) (AreThere held x.config.temps) s (λ m registers h. h.1) a)
+  still : (at : ℕ) (s : Machine) → AtWith w x outer mem at Told s → AtHolding w x outer mem at held s
+  still at s a = as_holding w x outer mem at held s (knows w order x outer mem at Told (AreThere held x.config.temps) s (λ m registers h. h.1) a)
 
-  is_made : (zero : Bool) (r : ℕ) → Has w at_branch (Plain (branch_by zero (suc r) over) ∷ []) → (s : Machine) (a : At_branch (suc r) s)
-      → nat_eq (s.registers (suc r)) 0 ≡ zero → Reach w.areas 1 (AtHolding w x outer mem (at_branch + over) held) s
-  is_made true r has s a is =
-      let now = state_at at_branch s.registers s.bytes s.store in
-      let to = at_branch + over in
-      let aligned = behind (at_branch + 4) skipped (let e = a.stands.aligned in omega (arith, e)) in
-      let lines_aligned : to % 4 ≡ 0 = omega (arith, aligned) in
-      let near = is_in_code w.areas w.code order.code_within s.store at_branch (Beq (suc r) 0 (pos over)) has.0.0 in
-      record {
-        next = state_at to s.registers s.bytes s.store;
-        moves = subst (λ (q : Machine). Moves w.areas 1 q (state_at to s.registers s.bytes s.store))
-            (sym (written_out w order mem at_branch a.maps (a.frame ∷ a.others) a.sp s a.stands))
-            (goes_to w.areas w.code order.code_within s.store at_branch s.registers s.bytes a.stands.kept (Beq (suc r) 0 (pos over)) has.0.0 0
-            (sum_of (code_base + at_branch) (word (pos over))) to (omega (arith, near, few)) lines_aligned
-            (λ answer. ap (λ b. branches b (pos over) (state_of now)) is) tt);
-        there = still to (suc r) _
-            (elsewhere w order x outer mem at_branch to (Brought (suc r)) (Brought (suc r)) s a s.registers lines_aligned (λ q h. refl) a.holds);
-      }
-  is_made false r has s a is =
-      let now = state_at at_branch s.registers s.bytes s.store in
-      let to = at_branch + over in
-      let aligned = behind (at_branch + 4) skipped (let e = a.stands.aligned in omega (arith, e)) in
-      let lines_aligned : to % 4 ≡ 0 = omega (arith, aligned) in
-      let near = is_in_code w.areas w.code order.code_within s.store at_branch (Bne (suc r) 0 (pos over)) has.0.0 in
-      record {
-        next = state_at to s.registers s.bytes s.store;
-        moves = subst (λ (q : Machine). Moves w.areas 1 q (state_at to s.registers s.bytes s.store))
-            (sym (written_out w order mem at_branch a.maps (a.frame ∷ a.others) a.sp s a.stands))
-            (goes_to w.areas w.code order.code_within s.store at_branch s.registers s.bytes a.stands.kept (Bne (suc r) 0 (pos over)) has.0.0 0
-            (sum_of (code_base + at_branch) (word (pos over))) to (omega (arith, near, few)) lines_aligned
-            (λ answer. ap (λ b. branches (not b) (pos over) (state_of now)) is) tt);
-        there = still to (suc r) _
-            (elsewhere w order x outer mem at_branch to (Brought (suc r)) (Brought (suc r)) s a s.registers lines_aligned (λ q h. refl) a.holds);
-      }
+  -- the branch is made where a comparison holds, which is that of the test or its inverse
+  module _ (c : Comparison) (has : Has w place (ready_lines ++ (Plain (branch_if c (pos over)) ∷ []))) where
+    abbrev last : Has w at_branch (Plain (branch_if c (pos over)) ∷ [])
+    last = has_second w place ready_lines (Plain (branch_if c (pos over)) ∷ []) has
 
-  isnt_made : (zero : Bool) (r : ℕ) → Has w at_branch (Plain (branch_by zero (suc r) over) ∷ []) → (s : Machine) (a : At_branch (suc r) s)
-      → nat_eq (s.registers (suc r)) 0 ≡ not zero → Reach w.areas 1 (AtHolding w x outer mem (at_branch + 4) held) s
-  isnt_made true r has s a is =
-      let now = state_at at_branch s.registers s.bytes s.store in
-      let to = at_branch + 4 in
-      let lines_aligned : to % 4 ≡ 0 = let e = a.stands.aligned in omega (arith, e) in
-      record {
-        next = state_at to s.registers s.bytes s.store;
-        moves = subst (λ (q : Machine). Moves w.areas 1 q (state_at to s.registers s.bytes s.store))
-            (sym (written_out w order mem at_branch a.maps (a.frame ∷ a.others) a.sp s a.stands))
-            (passes w.areas w.code order.code_within s.store at_branch s.registers s.bytes a.stands.kept (Beq (suc r) 0 (pos over)) has.0.0
-            (λ answer. ap (λ b. branches b (pos over) (state_of now)) is) tt);
-        there = still to (suc r) _
-            (elsewhere w order x outer mem at_branch to (Brought (suc r)) (Brought (suc r)) s a s.registers lines_aligned (λ q h. refl) a.holds);
-      }
-  isnt_made false r has s a is =
-      let now = state_at at_branch s.registers s.bytes s.store in
-      let to = at_branch + 4 in
-      let lines_aligned : to % 4 ≡ 0 = let e = a.stands.aligned in omega (arith, e) in
-      record {
-        next = state_at to s.registers s.bytes s.store;
-        moves = subst (λ (q : Machine). Moves w.areas 1 q (state_at to s.registers s.bytes s.store))
-            (sym (written_out w order mem at_branch a.maps (a.frame ∷ a.others) a.sp s a.stands))
-            (passes w.areas w.code order.code_within s.store at_branch s.registers s.bytes a.stands.kept (Bne (suc r) 0 (pos over)) has.0.0
-            (λ answer. ap (λ b. branches (not b) (pos over) (state_of now)) is) tt);
-        there = still to (suc r) _
-            (elsewhere w order x outer mem at_branch to (Brought (suc r)) (Brought (suc r)) s a s.registers lines_aligned (λ q h. refl) a.holds);
-      }
+    abbrev here : Comes w (AtHolding w x outer mem place held) At_branch
+    here = comes_then w _ _ _ (comes_as w _ _ (with_there w x outer mem place held))
+        (ready w order x outer mem held t place named served (has_first w place ready_lines (Plain (branch_if c (pos over)) ∷ []) has))
 
-  -- from its operand on, where the register that has it is such
-  module _ (zero : Bool) (has : Has w place (operand ++ (Plain (branch_by zero (operand_in held 5 t) over) ∷ []))) where
-    abbrev is_such : Bool → Type 0
-    is_such b = (m : Maps) (registers : ℕ → ℕ) (q : ℕ) → Brought q m registers → nat_eq (registers q) 0 ≡ b
+    is_made : (s : Machine) → At_branch s → is_so c s.registers ≡ true → Reach w.areas 1 (AtHolding w x outer mem (at_branch + over) held) s
+    is_made s a is =
+        let now = state_at at_branch s.registers s.bytes s.store in
+        let to = at_branch + over in
+        let aligned = behind (at_branch + 4) skipped (let e = a.stands.aligned in omega (arith, e)) in
+        let lines_aligned : to % 4 ≡ 0 = omega (arith, aligned) in
+        let near = is_in_code w.areas w.code order.code_within s.store at_branch (branch_if c (pos over)) last.0.0 in
+        record {
+          next = state_at to s.registers s.bytes s.store;
+          moves = subst (λ (q : Machine). Moves w.areas 1 q (state_at to s.registers s.bytes s.store))
+              (sym (written_out w order mem at_branch a.maps (a.frame ∷ a.others) a.sp s a.stands))
+              (goes_to w.areas w.code order.code_within s.store at_branch s.registers s.bytes a.stands.kept (branch_if c (pos over)) last.0.0 0
+              (sum_of (code_base + at_branch) (word (pos over))) to (omega (arith, near, few)) lines_aligned
+              (λ answer. branch_as w.areas answer c (pos over) (state_of now) true is) (branch_lawful w.areas (bare now) c (pos over)));
+          there = still to _ (elsewhere w order x outer mem at_branch to Told Told s a s.registers lines_aligned (λ q h. refl) a.holds);
+        }
 
-    brought : Comes w (AtHolding w x outer mem place held) (At_branch (operand_in held 5 t))
-    brought = comes_then w _ _ _ (comes_as w _ _ (with_there w x outer mem place held))
-        (brings w order x outer mem 4 t place held named served refl (has_first w place operand (Plain (branch_by zero (operand_in held 5 t) over) ∷ []) has))
+    isnt_made : (s : Machine) → At_branch s → is_so c s.registers ≡ false → Reach w.areas 1 (AtHolding w x outer mem (at_branch + 4) held) s
+    isnt_made s a isnt =
+        let now = state_at at_branch s.registers s.bytes s.store in
+        let to = at_branch + 4 in
+        let lines_aligned : to % 4 ≡ 0 = let e = a.stands.aligned in omega (arith, e) in
+        record {
+          next = state_at to s.registers s.bytes s.store;
+          moves = subst (λ (q : Machine). Moves w.areas 1 q (state_at to s.registers s.bytes s.store))
+              (sym (written_out w order mem at_branch a.maps (a.frame ∷ a.others) a.sp s a.stands))
+              (passes w.areas w.code order.code_within s.store at_branch s.registers s.bytes a.stands.kept (branch_if c (pos over)) last.0.0
+              (λ answer. branch_as w.areas answer c (pos over) (state_of now) false isnt) (branch_lawful w.areas (bare now) c (pos over)));
+          there = still to _ (elsewhere w order x outer mem at_branch to Told Told s a s.registers lines_aligned (λ q h. refl) a.holds);
+        }
 
-    steps : (to : ℕ) (b : Bool) → ((r : ℕ) → Has w at_branch (Plain (branch_by zero (suc r) over) ∷ []) → (s : Machine) (a : At_branch (suc r) s)
-        → nat_eq (s.registers (suc r)) 0 ≡ b → Reach w.areas 1 (AtHolding w x outer mem to held) s)
-        → is_such b → (q r : ℕ) → q ≡ suc r → Has w at_branch (Plain (branch_by zero q over) ∷ []) → Comes w (At_branch q) (AtHolding w x outer mem to held)
-    steps to b step such q r e =
-        subst (λ q. Has w at_branch (Plain (branch_by zero q over) ∷ []) → Comes w (At_branch q) (AtHolding w x outer mem to held)) (sym e)
-        (λ there. record { count = 1; by = λ s a. step r there s a (such a.maps s.registers (suc r) a.holds) })
+    -- where it is known whether it is made
+    abbrev Decided : Bool → Type 0
+    Decided b = (m : Maps) (registers : ℕ → ℕ) → Told m registers → is_so c registers ≡ b
 
-    abbrev last : Has w at_branch (Plain (branch_by zero (operand_in held 5 t) over) ∷ [])
-    last = has_second w place operand (Plain (branch_by zero (operand_in held 5 t) over) ∷ []) has
+    pub made : Decided true → Comes w (AtHolding w x outer mem place held) (AtHolding w x outer mem (at_branch + over) held)
+    made decided = comes_then w _ _ _ here (record { count = 1; by = λ s a. is_made s a (decided a.maps s.registers a.holds) })
 
-    pub made : is_such zero → Comes w (AtHolding w x outer mem place held) (AtHolding w x outer mem (at_branch + over) held)
-    made such = let o = operand_some held 4 t in
-        comes_then w _ _ _ brought (steps (at_branch + over) zero (is_made zero) such (operand_in held 5 t) o.0 o.1 last)
-
-    pub not_made : is_such (not zero) → Comes w (AtHolding w x outer mem place held) (AtHolding w x outer mem (at_branch + 4) held)
-    not_made such = let o = operand_some held 4 t in
-        comes_then w _ _ _ brought (steps (at_branch + 4) (not zero) (isnt_made zero) such (operand_in held 5 t) o.0 o.1 last)
+    pub not_made : Decided false → Comes w (AtHolding w x outer mem place held) (AtHolding w x outer mem (at_branch + 4) held)
+    not_made decided = comes_then w _ _ _ here (record { count = 1; by = λ s a. isnt_made s a (decided a.maps s.registers a.holds) })
 
 -- ---- by what the temporary holds
 
 module _ (w : World) (order : IsInOrder w) (x : Waiting) (outer : List Waiting) where
   -- a choice by a branch, made where the temporary is 0 or NULL, or where it is neither
+  abbrev branch_by : Bool → Comparison → Comparison
+  branch_by zero test = (if zero then inverse test else test)
+
   branch_goes : (kept : List Bool) (fuel : ℕ) (held : List Holding) (t place : ℕ) (skipped : List Line) (zero : Bool) (these those : Config → Step)
       → t < x.fn.temporaries → IsServed w (keeping kept x) held t → code_length skipped ≤ 60
-      → Has w place (operand_code x.fn.passed held 5 t ++ (Plain (branch_by zero (operand_in held 5 t) (4 + code_length skipped)) ∷ []))
-      → GoesHolding w (keeping kept x) outer fuel (place + code_length (operand_code x.fn.passed held 5 t) + (if zero then 4 else 4 + code_length skipped)) held
+      → Has w place (test_ready x.fn.passed held 5 t ++ (Plain (branch_if (branch_by zero (test_in held 5 t)) (pos (4 + code_length skipped))) ∷ []))
+      → GoesHolding w (keeping kept x) outer fuel (place + code_length (test_ready x.fn.passed held 5 t) + (if zero then 4 else 4 + code_length skipped)) held
       these
-      → GoesHolding w (keeping kept x) outer fuel (place + code_length (operand_code x.fn.passed held 5 t) + (if zero then 4 + code_length skipped else 4)) held
+      → GoesHolding w (keeping kept x) outer fuel (place + code_length (test_ready x.fn.passed held 5 t) + (if zero then 4 + code_length skipped else 4)) held
       those
       → GoesHolding w (keeping kept x) outer fuel place held (λ c. core.branch (c.temps t) (these c) (those c))
   branch_goes kept fuel held t place skipped zero these those named served few has one other c is = by (c.temps t) refl (tested (c.temps t))
@@ -182,21 +136,27 @@ module _ (w : World) (order : IsInOrder w) (x : Waiting) (outer : List Waiting) 
       R at s = AtHolding w y outer c.memory at held s
 
       at_branch : ℕ
-      at_branch = place + code_length (operand_code x.fn.passed held 5 t)
+      at_branch = place + code_length (test_ready x.fn.passed held 5 t)
 
-      holds : (b : Bool) → Has w place (operand_code x.fn.passed held 5 t ++ (Plain (branch_by b (operand_in held 5 t) (4 + code_length skipped)) ∷ []))
-          → ((a d : Step) → core.branch (c.temps t) a d ≡ a) → Comes w (R place) (R (at_branch + (if b then 4 else 4 + code_length skipped)))
-      holds true there h = not_made w order y outer c.memory held t place skipped named served few true there
-          (λ m registers q i. holds_other m (c.temps t) (registers q) i.0.0.0 h)
-      holds false there h = made w order y outer c.memory held t place skipped named served few false there
-          (λ m registers q i. holds_other m (c.temps t) (registers q) i.0.0.0 h)
+      test : Comparison
+      test = test_in held 5 t
 
-      fails : (b : Bool) → Has w place (operand_code x.fn.passed held 5 t ++ (Plain (branch_by b (operand_in held 5 t) (4 + code_length skipped)) ∷ []))
-          → ((a d : Step) → core.branch (c.temps t) a d ≡ d) → Comes w (R place) (R (at_branch + (if b then 4 + code_length skipped else 4)))
-      fails true there h = made w order y outer c.memory held t place skipped named served few true there
-          (λ m registers q i. eq-eqb (registers q) 0 (fails_zero m (c.temps t) (registers q) i.0.0.0 h))
-      fails false there h = not_made w order y outer c.memory held t place skipped named served few false there
-          (λ m registers q i. eq-eqb (registers q) 0 (fails_zero m (c.temps t) (registers q) i.0.0.0 h))
+      There : Bool → Type 0
+      There b = Has w place (test_ready x.fn.passed held 5 t ++ (Plain (branch_if (branch_by b test) (pos (4 + code_length skipped))) ∷ []))
+
+      holds : (b : Bool) → There b → ((a d : Step) → core.branch (c.temps t) a d ≡ a)
+          → Comes w (R place) (R (at_branch + (if b then 4 else 4 + code_length skipped)))
+      holds true there h = not_made w order y outer c.memory held t place skipped named served few (inverse test) there
+          (λ m registers j. not_so test registers ∙ ap not (is_so_where test m (c.temps t) registers j.0 h))
+      holds false there h = made w order y outer c.memory held t place skipped named served few test there
+          (λ m registers j. is_so_where test m (c.temps t) registers j.0 h)
+
+      fails : (b : Bool) → There b → ((a d : Step) → core.branch (c.temps t) a d ≡ d)
+          → Comes w (R place) (R (at_branch + (if b then 4 + code_length skipped else 4)))
+      fails true there h = made w order y outer c.memory held t place skipped named served few (inverse test) there
+          (λ m registers j. not_so test registers ∙ ap not (isnt_so test m (c.temps t) registers j.0 h))
+      fails false there h = not_made w order y outer c.memory held t place skipped named served few test there
+          (λ m registers j. isnt_so test m (c.temps t) registers j.0 h)
 
       by : (v : Content) → c.temps t ≡ v → Tested v → Goes w fuel (core.branch (c.temps t) (these c) (those c)) (R place) (active_of w (x ∷ outer))
       by v e (Fails u f) =
@@ -226,8 +186,8 @@ module _ (w : World) (order : IsInOrder w) (x : Waiting) (outer : List Waiting) 
       (λ c. core.branch (c.temps t) (core.statements (MoreStatements (Raise first) NoStatements) k c)
       (core.statements (MoreStatements (Raise second) NoStatements) k c))
   either_goes kept fuel held t first second place k named served has =
-      let operand = operand_code x.fn.passed held 5 t in
-      let branch : List Line = Plain (Beq (operand_in held 5 t) 0 (pos 16)) ∷ [] in
+      let operand = test_ready x.fn.passed held 5 t in
+      let branch : List Line = Plain (branch_if (inverse (test_in held 5 t)) (pos 16)) ∷ [] in
       let front = operand ++ branch in
       let both = front ++ raise_code first in
       let has_both = has_first w place both (raise_code second) has in
@@ -341,9 +301,9 @@ module _ (w : World) (order : IsInOrder w) (x : Waiting) (outer : List Waiting) 
       by f has known = record {
         goes = λ place fuel le k aligned lines ways.
             let start = showing w hss names held needs (If t NoStatements (failing f)) in
-            let operand = operand_code x.fn.passed held 5 t in
+            let operand = test_ready x.fn.passed held 5 t in
             let raising = failure_code x.fn.passed held f in
-            let branch : List Line = Plain (Bne (operand_in held 5 t) 0 (pos (4 + code_length raising))) ∷ [] in
+            let branch : List Line = Plain (branch_if (test_in held 5 t) (pos (4 + code_length raising))) ∷ [] in
             let front = operand ++ branch in
             let few = (failure_within x.fn.passed held f).is in
             let at_raising : place + code_length front ≡ place + code_length operand + 4 = omega (arith, length_of_both operand branch) in

@@ -2,18 +2,19 @@
 use Rattle.std.proofs.Common.{◌≡◌, ℕ, zero, suc, ◌+◌, ◌*◌, ◌/◌, ◌%◌, ◌^◌, ◌≤◌, nat_eq, Bool, true, false, nat_lt}
 use Rattle.std.proofs.Common.{if◌then◌else◌, List, [], ◌∷◌, ◌++◌, length, refl, arith, length-append}
 use Rattle.std.specs.Prelude.{pos, Option, Some, None, drop}
-use Rattle.rv32_isa.specs.declared.instruction.Instr.TheVariants.{Beq, Bne}
+use Rattle.core_lines.specs.declared.comparison.Comparison.{Comparison}
+use Rattle.core_lines.specs.Comparisons.{inverse, branch_if}
 use Rattle.core_lines.specs.declared.line.Line.{Line}
 use Rattle.core_meaning.specs.Core.{Statement, Do, If, While, Block, Leave, Break, Continue, Call, Return, Raise, Statements, NoStatements}
 use Rattle.core_meaning.specs.Core.{MoreStatements, Function, Program}
-use Rattle.core_lines.specs.declared.line.Line.TheVariants.{Plain, Label, Jump, JumpIfZero, BranchIfZero, CallTo}
+use Rattle.core_lines.specs.declared.line.Line.TheVariants.{Plain, Label, Jump, JumpUnless, BranchUnless, CallTo}
 use Rattle.core_lines.specs.Lines.{code_length}
 use Rattle.core_lines.specs.Frames.{is_short, slot_of, load_code, save_code, environment_code, test_code, move_code, saves_code, epilogue_code, raise_code}
-use Rattle.core_lines.specs.Held.{Source, Register, Number, Holding, source_of, without_register, result_register, held_behind, held_behind_all}
-use Rattle.core_lines.specs.Operands.{operand_in, bring_code, operand_code, into_code, keep_code, pass_code, result_code, values_code, return_code}
-use Rattle.core_lines.specs.Operands.{take_code, prologue_code}
+use Rattle.core_lines.specs.Held.{Source, Register, Number, Compared, Holding, source_of, without_register, result_register, held_behind, held_behind_all}
+use Rattle.core_lines.specs.Operands.{operand_in, operand_code, into_code, keep_code, pass_code, result_code, values_code, return_code}
+use Rattle.core_lines.specs.Operands.{test_in, ready_code, test_ready, take_code, prologue_code}
 use Rattle.core_lines.specs.Checks.{Failure, Always, ByTest, check_of, failure_code, check_code, checked_code}
-use Rattle.core_lines.specs.Choosing.{jump_if_zero, choice_code, between_code, behind_code}
+use Rattle.core_lines.specs.Choosing.{jump_unless, choice_code, between_code, behind_code}
 use Rattle.core_lines.specs.Completing.{can_complete, can_complete_all, ends_in_return_all}
 use Rattle.core_lines.specs.Saved.{results_in, results_all, live_at_start, saves_at}
 use Rattle.core_lines.specs.Homes.{saved_slot, saved_by, flag_at}
@@ -25,7 +26,7 @@ use Rattle.core_lines.proofs.memory.Access.{length_of_both}
 use Rattle.core_lines.proofs.homes.SavedFew.{ends_within}
 use Rattle.core_meaning.specs.Bounds.{branch_count, statement_operations, operations_of, all_operations, core_code}
 use Rattle.core_lines.proofs.OperationLengths.{IsWithin, both_within, less_within, if_within, nothing_within, load_within, save_within, operand_within}
-use Rattle.core_lines.proofs.OperationLengths.{into_within, keep_within, operation_within}
+use Rattle.core_lines.proofs.OperationLengths.{test_within, into_within, keep_within, operation_within}
 
 -- ---- statements
 
@@ -59,17 +60,17 @@ return_within passed hs ts exit =
     less_within (12 * length ts + 4) (64 * (1 + length ts)) _ (omega arith)
     (both_within (12 * length ts) 4 (values_code passed hs 9 ts) (Jump exit ∷ []) (values_within passed hs 9 ts) (record { is = omega arith }))
 
-jump_within : (wide : ℕ → Bool) (register label : ℕ) → IsWithin 8 (jump_if_zero wide register label ∷ [])
-jump_within wide register label = by (wide label)
+jump_within : (wide : ℕ → Bool) (comparison : Comparison) (label : ℕ) → IsWithin 8 (jump_unless wide comparison label ∷ [])
+jump_within wide comparison label = by (wide label)
   where
-    by : (b : Bool) → IsWithin 8 ((if b then JumpIfZero register label else BranchIfZero register label) ∷ [])
+    by : (b : Bool) → IsWithin 8 ((if b then JumpUnless comparison label else BranchUnless comparison label) ∷ [])
     by true = record { is = omega arith }
     by false = record { is = omega arith }
 
 choice_within : (wide : ℕ → Bool) (passed : ℕ) (hs : List Holding) (t label : ℕ) → IsWithin 20 (choice_code wide passed hs t label)
 choice_within wide passed hs t label =
-    both_within 12 8 (operand_code passed hs 5 t) (jump_if_zero wide (operand_in hs 5 t) label ∷ []) (operand_within passed hs 5 t)
-    (jump_within wide (operand_in hs 5 t) label)
+    both_within 12 8 (test_ready passed hs 5 t) (jump_unless wide (test_in hs 5 t) label ∷ []) (test_within passed hs 5 t)
+    (jump_within wide (test_in hs 5 t) label)
 
 between_within : (completes : Bool) (those : Statements) (behind next : ℕ) → IsWithin 4 (between_code completes those behind next)
 between_within completes NoStatements behind next = record { is = omega arith }
@@ -83,10 +84,10 @@ behind_within (MoreStatements s ss) behind = record { is = omega arith }
 pub failure_within : (passed : ℕ) (hs : List Holding) (f : Failure) → IsWithin 40 (failure_code passed hs f)
 failure_within passed hs (Always kind) = record { is = omega arith }
 failure_within passed hs (ByTest t first second) =
-    let branch : List Line = Plain (Beq (operand_in hs 5 t) 0 (pos 16)) ∷ [] in
-    both_within 28 12 (operand_code passed hs 5 t ++ branch ++ raise_code first) (raise_code second)
-    (both_within 16 12 (operand_code passed hs 5 t ++ branch) (raise_code first)
-    (both_within 12 4 (operand_code passed hs 5 t) branch (operand_within passed hs 5 t) (record { is = omega arith })) (record { is = omega arith }))
+    let branch : List Line = Plain (branch_if (inverse (test_in hs 5 t)) (pos 16)) ∷ [] in
+    both_within 28 12 (test_ready passed hs 5 t ++ branch ++ raise_code first) (raise_code second)
+    (both_within 16 12 (test_ready passed hs 5 t ++ branch) (raise_code first)
+    (both_within 12 4 (test_ready passed hs 5 t) branch (test_within passed hs 5 t) (record { is = omega arith })) (record { is = omega arith }))
     (record { is = omega arith })
 
 -- each of its lines has four bytes
@@ -99,31 +100,32 @@ four_if : (c : Bool) (first second : List Line) → code_length first ≡ 4 * le
 four_if true first second a b = a
 four_if false first second a b = b
 
-operand_four : (passed : ℕ) (hs : List Holding) (t : ℕ) → code_length (operand_code passed hs 5 t) ≡ 4 * length (operand_code passed hs 5 t)
-operand_four passed hs t = by (source_of hs t)
+test_four : (passed : ℕ) (hs : List Holding) (t : ℕ) → code_length (test_ready passed hs 5 t) ≡ 4 * length (test_ready passed hs 5 t)
+test_four passed hs t = by (source_of hs t)
   where
-    by : (source : Option Source) → code_length (bring_code passed 5 t source) ≡ 4 * length (bring_code passed 5 t source)
+    by : (source : Option Source) → code_length (ready_code passed 5 t source) ≡ 4 * length (ready_code passed 5 t source)
     by None = four_if (is_short (4 * slot_of passed t)) _ _ refl refl
     by (Some (Register r)) = refl
     by (Some (Number n)) = four_if (is_short n) _ _ refl (four_if (nat_eq (n % 2 ^ 12) 0) _ _ refl refl)
+    by (Some (Compared c)) = refl
 
 pub failure_four : (passed : ℕ) (hs : List Holding) (f : Failure) → code_length (failure_code passed hs f) ≡ 4 * length (failure_code passed hs f)
 failure_four passed hs (Always kind) = refl
 failure_four passed hs (ByTest t first second) =
-    let branch : List Line = Plain (Beq (operand_in hs 5 t) 0 (pos 16)) ∷ [] in
-    let operand = operand_code passed hs 5 t in
-    four_both (operand ++ branch ++ raise_code first) (raise_code second)
-    (four_both (operand ++ branch) (raise_code first) (four_both operand branch (operand_four passed hs t) refl) refl) refl
+    let branch : List Line = Plain (branch_if (inverse (test_in hs 5 t)) (pos 16)) ∷ [] in
+    let ready = test_ready passed hs 5 t in
+    four_both (ready ++ branch ++ raise_code first) (raise_code second)
+    (four_both (ready ++ branch) (raise_code first) (four_both ready branch (test_four passed hs t) refl) refl) refl
 
 checked_within : (n passed : ℕ) (hs : List Holding) (t : ℕ) (check : Option Failure) (lines : List Line) → 56 ≤ n → IsWithin n lines
     → IsWithin n (checked_code passed hs t check lines)
 checked_within n passed hs t None lines few is = is
 checked_within n passed hs t (Some f) lines few is =
     let raising = failure_code passed hs f in
-    let branch : List Line = Plain (Bne (operand_in hs 5 t) 0 (pos (4 + code_length raising))) ∷ [] in
+    let branch : List Line = Plain (branch_if (test_in hs 5 t) (pos (4 + code_length raising))) ∷ [] in
     less_within 56 n (check_code passed hs t f) few
-    (both_within 16 40 (operand_code passed hs 5 t ++ branch) raising
-    (both_within 12 4 (operand_code passed hs 5 t) branch (operand_within passed hs 5 t) (record { is = omega arith })) (failure_within passed hs f))
+    (both_within 16 40 (test_ready passed hs 5 t ++ branch) raising
+    (both_within 12 4 (test_ready passed hs 5 t) branch (test_within passed hs 5 t) (record { is = omega arith })) (failure_within passed hs f))
 
 -- an exception alone is three lines
 branch_within : (flags : List Bool) (u : Surroundings) (next out again : ℕ) (ss : Statements) (n : ℕ)

@@ -10,6 +10,7 @@ pub mod operations
 pub mod regions
 pub mod Streams
 pub mod Tests
+mod TestSamples
 pub mod labels
 pub mod Programs
 pub mod EachFunction

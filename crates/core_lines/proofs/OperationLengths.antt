@@ -9,16 +9,21 @@ use Rattle.core_meaning.specs.Core.{KeyOpen, KeyClose, KeyFree}
 use Rattle.rv32_isa.specs.declared.instruction.Instr.{Instr}
 use Rattle.rv32_isa.specs.declared.instruction.Instr.TheVariants as instr
 use Rattle.rv32_machine.specs.State.{data_base}
+use Rattle.core_lines.specs.declared.comparison.Condition.{Condition}
+use Rattle.core_lines.specs.declared.comparison.Condition.TheVariants as condition
+use Rattle.core_lines.specs.declared.comparison.Comparison.{Comparison}
 use Rattle.core_lines.specs.declared.line.Line.{Line}
 use Rattle.core_lines.specs.declared.line.Line.TheVariants.{Plain}
 use Rattle.core_lines.specs.Lines.{code_length}
 use Rattle.core_lines.specs.Frames.{is_short, word_code, load_code, save_code, slot_of, environment_code}
 use Rattle.core_lines.specs.Loops.{are_words, copy_loop, clear_loop}
-use Rattle.core_lines.specs.Held.{Source, Register, Number, Holding, source_of, result_register, same_as}
-use Rattle.core_lines.specs.Operands.{number_code, bring_code, operand_code, fetch_code, into_code, keep_code, number_kept, move_kept}
+use Rattle.core_lines.specs.Comparisons.{verdict_on, verdict_code}
+use Rattle.core_lines.specs.Held.{Source, Register, Number, Compared, Holding, source_of, result_register, same_as, comparison_of}
+use Rattle.core_lines.specs.Operands.{number_code, bring_code, operand_code, fetch_code, into_code, keep_code, number_kept}
+use Rattle.core_lines.specs.Operands.{verdict_kept, move_kept, ready_code, test_ready}
 use Rattle.core_lines.specs.Selected.{Surroundings, nth, local_offset, local_home, from_temp, to_temp, far_code, read_line, read_code, write_line, write_code}
 use Rattle.core_lines.specs.Selected.{binary_code, turned, immediate_code, immediate_for, operand, has_operand, both_code, apply_code, keep_result}
-use Rattle.core_lines.specs.Selected.{applied_kept, address_code, get_code, byte_code, put_code}
+use Rattle.core_lines.specs.Selected.{computed_kept, applied_kept, address_code, get_code, byte_code, put_code}
 use Rattle.core_lines.specs.Selected.{number_in, narrow_kept, exponent_of, times_code, element_code, bytes_code, further_code, bytes_in, operation_code}
 use Rattle.core_lines.proofs.memory.Access.{length_of_both}
 use Rattle.core_meaning.specs.Bounds.{operation_count}
@@ -53,6 +58,19 @@ number_within to w =
     if_within 8 (is_short w) _ _ (record { is = omega arith })
     (if_within 8 (nat_eq (w % 2 ^ 12) 0) _ (word_code to w) (record { is = omega arith }) (record { is = omega arith }))
 
+verdict_on_within : (c : Condition) (to left right : ℕ) → IsWithin 8 (verdict_on c to left right)
+verdict_on_within condition.Equal to left zero = record { is = omega arith }
+verdict_on_within condition.Equal to left (suc right) = record { is = omega arith }
+verdict_on_within condition.NotEqual to left zero = record { is = omega arith }
+verdict_on_within condition.NotEqual to left (suc right) = record { is = omega arith }
+verdict_on_within condition.Less to left right = record { is = omega arith }
+verdict_on_within condition.NotLess to left right = record { is = omega arith }
+verdict_on_within condition.LessUnsigned to left right = record { is = omega arith }
+verdict_on_within condition.NotLessUnsigned to left right = record { is = omega arith }
+
+verdict_within : (to : ℕ) (c : Comparison) → IsWithin 8 (verdict_code to c)
+verdict_within to c = verdict_on_within c.condition to c.left c.right
+
 address_within : (to w : ℕ) → IsWithin 12 (address_code to w)
 address_within to w = if_within 12 (is_short w) _ _ (record { is = omega arith }) (record { is = omega arith })
 
@@ -86,6 +104,16 @@ operand_within passed hs spare t = by (source_of hs t)
     by None = load_within spare (slot_of passed t)
     by (Some (Register r)) = nothing_within 12
     by (Some (Number w)) = less_within 8 12 _ (omega arith) (number_within spare w)
+    by (Some (Compared c)) = less_within 8 12 _ (omega arith) (verdict_within spare c)
+
+pub test_within : (passed : ℕ) (hs : List Holding) (spare t : ℕ) → IsWithin 12 (test_ready passed hs spare t)
+test_within passed hs spare t = by (source_of hs t)
+  where
+    by : (s : Option Source) → IsWithin 12 (ready_code passed spare t s)
+    by None = load_within spare (slot_of passed t)
+    by (Some (Register r)) = nothing_within 12
+    by (Some (Number w)) = less_within 8 12 _ (omega arith) (number_within spare w)
+    by (Some (Compared c)) = nothing_within 12
 
 pub into_within : (passed : ℕ) (hs : List Holding) (to t : ℕ) → IsWithin 12 (into_code passed hs to t)
 into_within passed hs to t = by (source_of hs t)
@@ -94,6 +122,7 @@ into_within passed hs to t = by (source_of hs t)
     by None = load_within to (slot_of passed t)
     by (Some (Register r)) = if_within 12 (nat_eq r to) _ _ (nothing_within 12) (record { is = omega arith })
     by (Some (Number w)) = less_within 8 12 _ (omega arith) (number_within to w)
+    by (Some (Compared c)) = less_within 8 12 _ (omega arith) (verdict_within to c)
 
 pub keep_within : (keeps : Bool) (passed register t : ℕ) → IsWithin 12 (keep_code keeps passed register t)
 keep_within keeps passed register t = if_within 12 keeps _ _ (save_within register (slot_of passed t)) (nothing_within 12)
@@ -105,12 +134,20 @@ number_kept_within keeps passed t w =
     (both_within 8 12 (number_code 5 w) (save_code 5 (slot_of passed t)) (number_within 5 w) (save_within 5 (slot_of passed t))))
     (nothing_within 64)
 
+verdict_kept_within : (keeps : Bool) (passed t : ℕ) (c : Comparison) → IsWithin 64 (verdict_kept keeps passed t c)
+verdict_kept_within keeps passed t c =
+    if_within 64 keeps _ _
+    (less_within 20 64 _ (omega arith)
+    (both_within 8 12 (verdict_code 5 c) (save_code 5 (slot_of passed t)) (verdict_within 5 c) (save_within 5 (slot_of passed t))))
+    (nothing_within 64)
+
 move_within : (keeps : Bool) (passed own t x : ℕ) (s : Option Source) → IsWithin 64 (move_kept keeps passed own t x s)
 move_within keeps passed own t x None =
     less_within 24 64 _ (omega arith)
     (both_within 12 12 (load_code own (slot_of passed x)) (keep_code keeps passed own t) (load_within own (slot_of passed x)) (keep_within keeps passed own t))
 move_within keeps passed own t x (Some (Register r)) = less_within 12 64 _ (omega arith) (keep_within keeps passed r t)
 move_within keeps passed own t x (Some (Number w)) = number_kept_within keeps passed t w
+move_within keeps passed own t x (Some (Compared c)) = verdict_kept_within keeps passed t c
 
 -- ---- operations on words
 
@@ -170,6 +207,7 @@ immediate_for_within : (o : Binary) (to left : ℕ) (s : Option Source) → IsWi
 immediate_for_within o to left None = nothing_within 8
 immediate_for_within o to left (Some (Register r)) = nothing_within 8
 immediate_for_within o to left (Some (Number n)) = immediate_within o to left n
+immediate_for_within o to left (Some (Compared c)) = nothing_within 8
 
 -- ---- operations
 
@@ -211,10 +249,16 @@ apply_within u o to x y =
         (binary_within o to (has_operand u 5 x) (has_operand u 6 y))
     by (Some lines) h = less_within 20 32 _ (omega arith) (with_within 8 u 5 x lines h)
 
-applied_within : (keeps : Bool) (u : Surroundings) (o : Binary) (t x y : ℕ) (same : Option ℕ) → IsWithin 64 (applied_kept keeps u o t x y same)
-applied_within keeps u o t x y None =
+computed_within : (keeps : Bool) (u : Surroundings) (o : Binary) (t x y : ℕ) (compared : Option Comparison)
+    → IsWithin 64 (computed_kept keeps u o t x y compared)
+computed_within keeps u o t x y None =
     result_within 32 keeps u t (apply_code u o (result_register t) x y) (omega arith) (apply_within u o (result_register t) x y)
-applied_within keeps u o t x y (Some z) = move_within keeps u.passed (result_register t) t z (source_of u.held z)
+computed_within keeps u o t x y (Some c) = verdict_kept_within keeps u.passed t c
+
+applied_within : (keeps : Bool) (u : Surroundings) (o : Binary) (t x y : ℕ) (same : Option ℕ) (compared : Option Comparison)
+    → IsWithin 64 (applied_kept keeps u o t x y same compared)
+applied_within keeps u o t x y None compared = computed_within keeps u o t x y compared
+applied_within keeps u o t x y (Some z) compared = move_within keeps u.passed (result_register t) t z (source_of u.held z)
 
 times_within : (exponent : Option ℕ) (left bytes : ℕ) → IsWithin 12 (times_code exponent left bytes)
 times_within None left bytes = both_within 8 4 (number_code 6 bytes) (Plain (instr.Mul 5 left 6) ∷ []) (number_within 6 bytes) (record { is = omega arith })
@@ -283,7 +327,8 @@ operation_within keeps u (Constant t w) = number_kept_within keeps u.passed t (w
 operation_within keeps u (NullPointer t) = less_within 12 64 _ (omega arith) (keep_within keeps u.passed 0 t)
 operation_within keeps u (Move t x) = move_within keeps u.passed (result_register t) t x (source_of u.held x)
 operation_within keeps u (Narrow t x) = narrow_within keeps u t x (number_in (source_of u.held x))
-operation_within keeps u (Apply o t x y) = applied_within keeps u o t x y (same_as o x y (source_of u.held x) (source_of u.held y))
+operation_within keeps u (Apply o t x y) =
+    applied_within keeps u o t x y (same_as o x y (source_of u.held x) (source_of u.held y)) (comparison_of o (source_of u.held x) (source_of u.held y))
 operation_within keeps u (LocalAddress t out local) =
     let offset = local_offset u out local in
     result_within 12 keeps u t (address_code (result_register t) offset) (omega arith) (address_within (result_register t) offset)

@@ -93,7 +93,7 @@ pub ended_places : (exit : ℕ) (returns : Bool) (lines : List Line) → (return
 ended_places exit = ended (λ less lines. labels_placed less ≡ labels_placed lines) exit (λ lines. refl)
     (λ before. sym (labels_placed-append before (Jump exit ∷ []) ∙ append-nil (labels_placed before)))
 
--- and is no jump on zero
+-- and is no conditional jump
 pub ended_targets : (exit : ℕ) (returns : Bool) (lines : List Line) → (returns ≡ true → JumpsLast exit lines)
     → targets (ended_code returns lines) ≡ targets lines
 ended_targets exit = ended (λ less lines. targets less ≡ targets lines) exit (λ lines. refl)

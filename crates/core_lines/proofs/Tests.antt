@@ -1,33 +1,37 @@
 -- What the code of a test does.
 use Rattle.std.specs.Prelude.{nat_eq, not, if◌then◌else◌}
-use Rattle.std.proofs.Common.{◌≡◌, ℕ, suc, pos, ◌+◌, ◌<◌, ◌≤◌, Bool, true, false, List, [], ◌∷◌, ◌++◌, refl, sym, ap, subst, ◌∙◌, arith}
+use Rattle.std.proofs.Common.{◌≡◌, ℕ, zero, suc, pos, ◌+◌, ◌<◌, ◌≤◌, Bool, true, false, List, [], ◌∷◌, ◌++◌, Option, Some, None}
+use Rattle.std.proofs.Common.{refl, sym, ap, subst, ◌∙◌, arith}
 use Rattle.std.proofs.lemmas.Bool.{eqb-true, eq-eqb, ne_eqb}
 use Rattle.cyc_words.specs.Events.{SourceEnding}
 use Rattle.cyc_words.specs.Words.{word, sum_of}
-use Rattle.rv32_isa.specs.declared.instruction.Instr.TheVariants.{Jal, Beq, Bne}
+use Rattle.rv32_isa.specs.declared.instruction.Instr.TheVariants.{Jal}
 use Rattle.rv32_machine.specs.State.{code_base}
-use Rattle.rv32_machine.specs.Step.{branches}
+use Rattle.rv32_machine.specs.Step.{truth}
 use Rattle.step_trees.specs.Trees.{Stops}
 use Rattle.core_meaning.specs.Memory.{Content, Blank, Word, Null, Pointer, Birth, Memory}
 use Rattle.core_meaning.specs.Meaning as core
 use Rattle.core_meaning.specs.Steps.{Step, stuck}
+use Rattle.core_lines.specs.declared.comparison.Comparison.{Comparison}
+use Rattle.core_lines.specs.Comparisons.{inverse, branch_if}
 use Rattle.core_lines.specs.declared.line.Line.{Line}
-use Rattle.core_lines.specs.declared.line.Line.TheVariants.{JumpIfZero, BranchIfZero}
+use Rattle.core_lines.specs.declared.line.Line.TheVariants.{JumpUnless, BranchUnless}
 use Rattle.core_lines.specs.Machines.{Machine, state_of}
 use Rattle.core_lines.specs.Lines.{HasInstr, code_length, offset_to}
 use Rattle.core_lines.specs.Lies.{Maps, Shows}
 use Rattle.core_lines.proofs.memory.Relations.{Moves, World, IsInOrder, Has, Waiting, keeping}
-use Rattle.core_lines.proofs.memory.Moving.{Reach, Comes, comes_then, comes_as}
+use Rattle.core_lines.proofs.memory.Moving.{Reach, Comes, comes_then, comes_as, bare}
+use Rattle.core_lines.proofs.memory.Verdicts.{is_so, verdict, twice_not, not_so, branch_as, branch_lawful}
 use Rattle.core_lines.proofs.memory.Words.{offset_joined}
 use Rattle.core_lines.proofs.Steps.{state_at, is_in_code, goes_to, passes}
 use Rattle.core_lines.proofs.memory.Access.{written_out, length_of_both}
 use Rattle.core_lines.proofs.frames.Passing.{has_first, has_second}
 use Rattle.core_lines.proofs.frames.Jumping.{jumps_with, jumps_to}
 use Rattle.core_lines.proofs.operations.Registers.{AtWith, AtHolding, InOperand, AreThere, IsServed, elsewhere, knows, with_there, as_holding}
-use Rattle.core_lines.proofs.operations.Registers.{operand_some, brings}
-use Rattle.core_lines.specs.Held.{Holding}
-use Rattle.core_lines.specs.Operands.{operand_in, operand_code}
-use Rattle.core_lines.specs.Choosing.{jump_if_zero, choice_code}
+use Rattle.core_lines.proofs.operations.Registers.{brings, now_known, stays_there, there_found, source_not_zero}
+use Rattle.core_lines.specs.Held.{Source, Register, Number, Compared, Holding, source_of}
+use Rattle.core_lines.specs.Operands.{register_for, bring_code, is_some, test_for, test_in, ready_code, test_ready}
+use Rattle.core_lines.specs.Choosing.{jump_unless, choice_code}
 use Rattle.core_lines.proofs.frames.Bodies.{with_config}
 use Rattle.core_lines.proofs.Ways.{Tested, Fails, Holds, Neither, Jumps}
 
@@ -59,15 +63,42 @@ holds_other m (Pointer s b) n shows h = let positive = shows.positive in ne_eqb 
 holds_other m Blank n shows h = absurd (cc (h (Stops SourceEnding.Running) stuck))
 holds_other m (Birth d) n shows h = absurd (cc (h (Stops SourceEnding.Running) stuck))
 
-module _ (w : World) (order : IsInOrder w) (x : Waiting) (outer : List Waiting) (mem : Memory) where
-  -- a jump that is made where a register is 0, as a branch over a jump or as a branch
-  abbrev jump_line : Bool → ℕ → ℕ → Line
-  jump_line far register label = (if far then JumpIfZero register label else BranchIfZero register label)
+-- ---- what a comparison says of it
 
-  module _ (label place r : ℕ) (P : Maps → (ℕ → ℕ) → Type 0) where
-    at_zero : (far : Bool) → Has w place (jump_line far (suc r) label ∷ []) → ((m : Maps) (registers : ℕ → ℕ) → P m registers → registers (suc r) ≡ 0)
+-- a comparison holds exactly where a value, as a word, isn't 0
+pub record Judges (c : Comparison) (v : Content) (m : Maps) (registers : ℕ → ℕ) : Type 0 where
+  pub number : ℕ
+  pub shown : Shows m v number
+  pub same : nat_eq number 0 ≡ not (is_so c registers)
+
+not_of : (b c : Bool) → not b ≡ c → b ≡ not c
+not_of true c e = sym (ap not (sym e))
+not_of false c e = sym (ap not (sym e))
+
+pub isnt_so : (c : Comparison) (m : Maps) (v : Content) (registers : ℕ → ℕ) → Judges c v m registers
+    → ((these those : Step) → core.branch v these those ≡ those) → is_so c registers ≡ false
+isnt_so c m v registers j h =
+    not_of (is_so c registers) true (sym j.same ∙ eq-eqb j.number 0 (fails_zero m v j.number j.shown h))
+
+pub is_so_where : (c : Comparison) (m : Maps) (v : Content) (registers : ℕ → ℕ) → Judges c v m registers
+    → ((these those : Step) → core.branch v these those ≡ these) → is_so c registers ≡ true
+is_so_where c m v registers j h = not_of (is_so c registers) false (sym j.same ∙ holds_other m v j.number j.shown h)
+
+none_true : (b : Bool) → nat_eq (truth b) 0 ≡ not b
+none_true true = refl
+none_true false = refl
+
+module _ (w : World) (order : IsInOrder w) (x : Waiting) (outer : List Waiting) (mem : Memory) where
+  -- ---- the branch of a test
+
+  -- a jump that is made unless a comparison holds, as a branch over a jump or as a branch
+  abbrev jump_line : Bool → Comparison → ℕ → Line
+  jump_line far c label = (if far then JumpUnless c label else BranchUnless c label)
+
+  module _ (label place : ℕ) (c : Comparison) (P : Maps → (ℕ → ℕ) → Type 0) where
+    leaves : (far : Bool) → Has w place (jump_line far c label ∷ []) → ((m : Maps) (registers : ℕ → ℕ) → P m registers → is_so c registers ≡ false)
         → Comes w (AtWith w x outer mem place P) (AtWith w x outer mem (w.places label) P)
-    at_zero true has zero_is =
+    leaves true has isnt =
         let e : code_base + place + 4 ≡ code_base + (place + 4) = omega arith in
         comes_then w _ (AtWith w x outer mem (place + 4) P) _ (record {
           count = 1;
@@ -75,131 +106,157 @@ module _ (w : World) (order : IsInOrder w) (x : Waiting) (outer : List Waiting) 
               let now = state_at place s.registers s.bytes s.store in
               let next = state_at (place + 4) s.registers s.bytes s.store in
               let aligned = a.stands.aligned in
-              let zero_here : nat_eq (s.registers (suc r)) 0 ≡ true = eq-eqb (s.registers (suc r)) 0 (zero_is a.maps s.registers a.holds) in
               record {
                 next = next;
                 moves = subst (λ (q : Machine). Moves w.areas 1 q next) (sym (written_out w order mem place a.maps (a.frame ∷ a.others) a.sp s a.stands))
-                    (passes w.areas w.code order.code_within s.store place s.registers s.bytes a.stands.kept (Bne (suc r) 0 (pos 8)) has.0.0
-                    (λ answer. ap (λ b. branches (not b) (pos 8) (state_of now)) zero_here) tt);
+                    (passes w.areas w.code order.code_within s.store place s.registers s.bytes a.stands.kept (branch_if c (pos 8)) has.0.0
+                    (λ answer. branch_as w.areas answer c (pos 8) (state_of now) false (isnt a.maps s.registers a.holds))
+                    (branch_lawful w.areas (bare now) c (pos 8)));
                 there = elsewhere w order x outer mem place (place + 4) P P s a s.registers (omega (arith, aligned)) (λ q h. refl) a.holds;
               };
         })
         (jumps_with w order x outer mem label (place + 4) P
         (subst (λ at. HasInstr w.areas w.code at (Jal 0 (offset_to (w.places label) (place + 4)))) e has.0.1.0))
-    at_zero false has zero_is = record {
+    leaves false has isnt = record {
       count = 1;
       by = λ s a.
           let to = w.places label in
           let is_place = order.labels label in
           let within = is_place.within in
-          let branch = Beq (suc r) 0 (offset_to to place) in
+          let offset = offset_to to place in
+          let branch = branch_if (inverse c) offset in
           let near = is_in_code w.areas w.code order.code_within s.store place branch has.0.0 in
           let now = state_at place s.registers s.bytes s.store in
           let next = state_at to s.registers s.bytes s.store in
-          let zero_here : nat_eq (s.registers (suc r)) 0 ≡ true = eq-eqb (s.registers (suc r)) 0 (zero_is a.maps s.registers a.holds) in
           record {
             next = next;
             moves = subst (λ (q : Machine). Moves w.areas 1 q next) (sym (written_out w order mem place a.maps (a.frame ∷ a.others) a.sp s a.stands))
                 (goes_to w.areas w.code order.code_within s.store place s.registers s.bytes a.stands.kept branch has.0.0 0
-                (sum_of (code_base + place) (word (offset_to to place))) to (offset_joined code_base to place (omega (arith, near)) (omega (arith, within)))
-                is_place.aligned (λ answer. ap (λ b. branches b (offset_to to place) (state_of now)) zero_here) tt);
+                (sum_of (code_base + place) (word offset)) to (offset_joined code_base to place (omega (arith, near)) (omega (arith, within)))
+                is_place.aligned
+                (λ answer. branch_as w.areas answer (inverse c) offset (state_of now) true
+                (not_so c s.registers ∙ ap not (isnt a.maps s.registers a.holds)))
+                (branch_lawful w.areas (bare now) (inverse c) offset));
             there = elsewhere w order x outer mem place to P P s a s.registers is_place.aligned (λ q h. refl) a.holds;
           };
     }
 
-    past_as : (far : Bool) → Has w place (jump_line far (suc r) label ∷ []) → (s : Machine) (a : AtWith w x outer mem place P s)
-        → nat_eq (s.registers (suc r)) 0 ≡ false → Reach w.areas 1 (AtWith w x outer mem (place + code_length (jump_line far (suc r) label ∷ [])) P) s
-    past_as true has s a other =
+    past_as : (far : Bool) → Has w place (jump_line far c label ∷ []) → (s : Machine) (a : AtWith w x outer mem place P s)
+        → is_so c s.registers ≡ true → Reach w.areas 1 (AtWith w x outer mem (place + code_length (jump_line far c label ∷ [])) P) s
+    past_as true has s a is =
         let now = state_at place s.registers s.bytes s.store in
         let next = state_at (place + 8) s.registers s.bytes s.store in
         let aligned = a.stands.aligned in
-        let near = is_in_code w.areas w.code order.code_within s.store place (Bne (suc r) 0 (pos 8)) has.0.0 in
+        let near = is_in_code w.areas w.code order.code_within s.store place (branch_if c (pos 8)) has.0.0 in
         record {
           next = next;
           moves = subst (λ (q : Machine). Moves w.areas 1 q next) (sym (written_out w order mem place a.maps (a.frame ∷ a.others) a.sp s a.stands))
-              (goes_to w.areas w.code order.code_within s.store place s.registers s.bytes a.stands.kept (Bne (suc r) 0 (pos 8)) has.0.0 0
-              (sum_of (code_base + place) 8)
-              (place + 8) (omega (arith, near)) (omega (arith, aligned))
-              (λ answer. ap (λ b. branches (not b) (pos 8) (state_of now)) other) tt);
+              (goes_to w.areas w.code order.code_within s.store place s.registers s.bytes a.stands.kept (branch_if c (pos 8)) has.0.0 0
+              (sum_of (code_base + place) 8) (place + 8) (omega (arith, near)) (omega (arith, aligned))
+              (λ answer. branch_as w.areas answer c (pos 8) (state_of now) true is) (branch_lawful w.areas (bare now) c (pos 8)));
           there = elsewhere w order x outer mem place (place + 8) P P s a s.registers (omega (arith, aligned)) (λ q h. refl) a.holds;
         }
-    past_as false has s a other =
+    past_as false has s a is =
         let now = state_at place s.registers s.bytes s.store in
         let next = state_at (place + 4) s.registers s.bytes s.store in
         let aligned = a.stands.aligned in
-        let branch = Beq (suc r) 0 (offset_to (w.places label) place) in
+        let offset = offset_to (w.places label) place in
         record {
           next = next;
           moves = subst (λ (q : Machine). Moves w.areas 1 q next) (sym (written_out w order mem place a.maps (a.frame ∷ a.others) a.sp s a.stands))
-              (passes w.areas w.code order.code_within s.store place s.registers s.bytes a.stands.kept branch has.0.0
-              (λ answer. ap (λ b. branches b (offset_to (w.places label) place) (state_of now)) other) tt);
+              (passes w.areas w.code order.code_within s.store place s.registers s.bytes a.stands.kept (branch_if (inverse c) offset) has.0.0
+              (λ answer. branch_as w.areas answer (inverse c) offset (state_of now) false (not_so c s.registers ∙ ap not is))
+              (branch_lawful w.areas (bare now) (inverse c) offset));
           there = elsewhere w order x outer mem place (place + 4) P P s a s.registers (omega (arith, aligned)) (λ q h. refl) a.holds;
         }
 
-  -- a test of a temporary
+  -- ---- a test of a temporary
+
+  module _ (held : List Holding) (t place : ℕ) (named : t < x.fn.temporaries) (served : IsServed w x held t) where
+    -- what is compared tells what it holds
+    abbrev pub Tells : Comparison → Maps → (ℕ → ℕ) → Type 0
+    Tells c m registers = Judges c (x.config.temps t) m registers × AreThere held x.config.temps m registers
+
+    -- where it is in a register, its word is compared with 0
+    by_word : (r : ℕ) (m : Maps) (registers : ℕ → ℕ) → InOperand 5 (suc r) (x.config.temps t) m registers × AreThere held x.config.temps m registers
+        → Tells (is_some (suc r)) m registers
+    by_word r m registers h = (record { number = registers (suc r); shown = h.0.0.0; same = sym (twice_not (nat_eq (registers (suc r)) 0)) }, h.1)
+
+    abbrev Brought : Option Source → Type 0
+    Brought s = Has w place (bring_code x.fn.passed 5 t s) → Comes w (AtWith w x outer mem place (AreThere held x.config.temps))
+        (AtWith w x outer mem (place + code_length (bring_code x.fn.passed 5 t s))
+        (λ m registers. InOperand 5 (register_for 5 s) (x.config.temps t) m registers × AreThere held x.config.temps m registers))
+
+    brought : (s : Option Source) → source_of held t ≡ s → Brought s
+    brought s e = subst Brought e (brings w order x outer mem 4 t place held named served refl)
+
+    pub ready : Has w place (test_ready x.fn.passed held 5 t) → Comes w (AtWith w x outer mem place (AreThere held x.config.temps))
+        (AtWith w x outer mem (place + code_length (test_ready x.fn.passed held 5 t)) (Tells (test_in held 5 t)))
+    ready has = by (source_of held t) refl has
+      where
+        by : (s : Option Source) → source_of held t ≡ s → Has w place (ready_code x.fn.passed 5 t s)
+            → Comes w (AtWith w x outer mem place (AreThere held x.config.temps))
+            (AtWith w x outer mem (place + code_length (ready_code x.fn.passed 5 t s)) (Tells (test_for 5 s)))
+        by None e has = now_known w order x outer mem (place + code_length (ready_code x.fn.passed 5 t None)) _ _ _ (by_word 4) (brought None e has)
+        by (Some (Register zero)) e has = absurd (source_not_zero held t e)
+        by (Some (Register (suc r))) e has = now_known w order x outer mem (place + 0) _ _ _ (by_word r) (brought (Some (Register (suc r))) e has)
+        by (Some (Number n)) e has = now_known w order x outer mem (place + code_length (ready_code x.fn.passed 5 t (Some (Number n)))) _ _ _ (by_word 4)
+            (brought (Some (Number n)) e has)
+        by (Some (Compared c)) e has = stays_there w order x outer mem place (AreThere held x.config.temps) (Tells c) (λ m registers h.
+            let found = there_found held t (Compared c) x.config.temps m registers h e in
+            (record { number = verdict c registers; shown = found.0; same = none_true (is_so c registers) }, h))
+
   module _ (held : List Holding) (t label place : ℕ) (named : t < x.fn.temporaries) (served : IsServed w x held t)
       (has : Has w place (choice_code w.wide x.fn.passed held t label)) where
     abbrev first : List Line
-    first = operand_code x.fn.passed held 5 t
+    first = test_ready x.fn.passed held 5 t
+
+    abbrev test : Comparison
+    test = test_in held 5 t
 
     abbrev second : List Line
-    second = jump_if_zero w.wide (operand_in held 5 t) label ∷ []
+    second = jump_unless w.wide test label ∷ []
 
     abbrev middle : ℕ
     middle = place + code_length first
 
-    -- its word is in a register
-    abbrev Brought : ℕ → Maps → (ℕ → ℕ) → Type 0
-    Brought register m registers =
-        InOperand 5 register (x.config.temps t) m registers × AreThere held x.config.temps m registers
+    abbrev At_branch : Machine → Type 0
+    At_branch = AtWith w x outer mem middle (Tells held t place named served test)
 
-    abbrev brought : Comes w (AtHolding w x outer mem place held) (AtWith w x outer mem middle (Brought (operand_in held 5 t)))
-    brought = comes_then w _ _ _ (comes_as w _ _ (with_there w x outer mem place held))
-        (brings w order x outer mem 4 t place held named served refl (has_first w place first second has))
+    abbrev at_branch : Comes w (AtHolding w x outer mem place held) At_branch
+    at_branch = comes_then w _ _ _ (comes_as w _ _ (with_there w x outer mem place held))
+        (ready held t place named served (has_first w place first second has))
 
     -- what is known is known on either way
-    still : (at register : ℕ) (s : Machine) → AtWith w x outer mem at (Brought register) s → AtHolding w x outer mem at held s
-    still at register s a =
-        as_holding w x outer mem at held s (knows w order x outer mem at (Brought register) (AreThere held x.config.temps) s (λ m registers h. h.1) a)
-
-    zero_goes : ((these those : Step) → core.branch (x.config.temps t) these those ≡ those) → (q r : ℕ) → q ≡ suc r
-        → Has w middle (jump_if_zero w.wide q label ∷ []) → Comes w (AtWith w x outer mem middle (Brought q)) (AtHolding w x outer mem (w.places label) held)
-    zero_goes h q r e = subst (λ q. Has w middle (jump_if_zero w.wide q label ∷ [])
-        → Comes w (AtWith w x outer mem middle (Brought q)) (AtHolding w x outer mem (w.places label) held)) (sym e)
-        (λ has. comes_then w _ _ _
-        (at_zero label middle r (Brought (suc r)) (w.wide label) has (λ m registers i. fails_zero m (x.config.temps t) (registers (suc r)) i.0.0.0 h))
-        (comes_as w _ _ (still (w.places label) (suc r))))
+    still : (at : ℕ) (s : Machine) → AtWith w x outer mem at (Tells held t place named served test) s → AtHolding w x outer mem at held s
+    still at s a =
+        as_holding w x outer mem at held s
+        (knows w order x outer mem at (Tells held t place named served test) (AreThere held x.config.temps) s (λ m registers h. h.1) a)
 
     pub fails : ((these those : Step) → core.branch (x.config.temps t) these those ≡ those)
         → Comes w (AtHolding w x outer mem place held) (AtHolding w x outer mem (w.places label) held)
-    fails h =
-        let o = operand_some held 4 t in
-        comes_then w _ _ _ brought (zero_goes h (operand_in held 5 t) o.0 o.1 (has_second w place first second has))
+    fails h = comes_then w _ _ _ at_branch
+        (comes_then w _ _ _
+        (leaves label middle test (Tells held t place named served test) (w.wide label) (has_second w place first second has)
+        (λ m registers j. isnt_so test m (x.config.temps t) registers j.0 h))
+        (comes_as w _ _ (still (w.places label))))
 
-    pub past_goes : ((these those : Step) → core.branch (x.config.temps t) these those ≡ these) → (q r : ℕ) → q ≡ suc r
-        → Has w middle (jump_if_zero w.wide q label ∷ []) → (s : Machine) → AtWith w x outer mem middle (Brought q) s
-        → Reach w.areas 1 (AtHolding w x outer mem (middle + code_length (jump_if_zero w.wide q label ∷ [])) held) s
-    past_goes h q r e = subst (λ q. Has w middle (jump_if_zero w.wide q label ∷ []) → (s : Machine) → AtWith w x outer mem middle (Brought q) s
-        → Reach w.areas 1 (AtHolding w x outer mem (middle + code_length (jump_if_zero w.wide q label ∷ [])) held) s) (sym e)
-        (λ has s a.
-        let other = holds_other a.maps (x.config.temps t) (s.registers (suc r)) a.holds.0.0.0 h in
-        let one = past_as label middle r (Brought (suc r)) (w.wide label) has s a other in
-        let end = middle + code_length (jump_if_zero w.wide (suc r) label ∷ []) in
-        record { next = one.next; moves = one.moves; there = still end (suc r) one.next one.there })
+    pub past_goes : ((these those : Step) → core.branch (x.config.temps t) these those ≡ these) → (s : Machine) → At_branch s
+        → Reach w.areas 1 (AtHolding w x outer mem (middle + code_length second) held) s
+    past_goes h s a =
+        let one = past_as label middle test (Tells held t place named served test) (w.wide label) (has_second w place first second has) s a
+        (is_so_where test a.maps (x.config.temps t) s.registers a.holds.0 h) in
+        record { next = one.next; moves = one.moves; there = still (middle + code_length second) one.next one.there }
 
     abbrev past : ((these those : Step) → core.branch (x.config.temps t) these those ≡ these)
-        → Comes w (AtWith w x outer mem middle (Brought (operand_in held 5 t))) (AtHolding w x outer mem (middle + code_length second) held)
-    past h =
-        record {
-          count = 1;
-          by = past_goes h (operand_in held 5 t) (operand_some held 4 t).0 (operand_some held 4 t).1 (has_second w place first second has);
-        }
+        → Comes w At_branch (AtHolding w x outer mem (middle + code_length second) held)
+    past h = record { count = 1; by = past_goes h }
 
     abbrev pub holds : ((these those : Step) → core.branch (x.config.temps t) these those ≡ these)
         → Comes w (AtHolding w x outer mem place held) (AtHolding w x outer mem (place + code_length (first ++ second)) held)
     holds h =
         let e : middle + code_length second ≡ place + code_length (first ++ second) = omega (arith, length_of_both first second) in
-        comes_then w _ _ _ brought (comes_then w _ _ _ (past h) (comes_as w _ _ (λ s a. subst (λ p. AtHolding w x outer mem p held s) e a)))
+        comes_then w _ _ _ at_branch (comes_then w _ _ _ (past h) (comes_as w _ _ (λ s a. subst (λ p. AtHolding w x outer mem p held s) e a)))
 
     pub takes_some : (h : (these those : Step) → core.branch (x.config.temps t) these those ≡ these) → 1 ≤ (holds h).count
     takes_some h = omega arith

@@ -1,4 +1,5 @@
 pub mod Relaxing
+mod BareLines
 mod Bare
 pub mod NoLabels
 pub mod LabelsOnce

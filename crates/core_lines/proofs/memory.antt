@@ -3,6 +3,7 @@ pub mod Moving
 pub mod Bytes
 pub mod Words
 pub mod Slots
+pub mod Verdicts
 pub mod Whole
 pub mod Access
 pub mod Alike

@@ -1,6 +1,7 @@
 pub mod Holding
 pub mod Standing
 pub mod Registers
+pub mod Judging
 pub mod Values
 pub mod Immediates
 pub mod Raising

@@ -1,7 +1,6 @@
 -- Checks: choices that go on where a temporary isn't 0, and else do no more than raise an exception. Their code has one branch, over what raises it.
 use Rattle.std.specs.Prelude.{ℕ, pos, ◌+◌, List, [], ◌∷◌, ◌++◌, Option, Some, None}
 use Rattle.cyc_words.specs.declared.faults.Kind.{Kind}
-use Rattle.rv32_isa.specs.declared.instruction.Instr.TheVariants.{Beq, Bne}
 use Rattle.core_meaning.specs.Core.{
   Statement,
   Do,
@@ -23,7 +22,8 @@ use Rattle.core_lines.specs.declared.line.Line.TheVariants.{Plain}
 use Rattle.core_lines.specs.Lines.{code_length}
 use Rattle.core_lines.specs.Frames.{raise_code}
 use Rattle.core_lines.specs.Held.{Holding}
-use Rattle.core_lines.specs.Operands.{operand_in, operand_code}
+use Rattle.core_lines.specs.Comparisons.{inverse, branch_if}
+use Rattle.core_lines.specs.Operands.{test_in, test_ready}
 
 -- the exception that a statement raises, if it does nothing else
 abbrev pub kind_of : Statement → Option Kind
@@ -79,11 +79,11 @@ check_of (MoreStatements s ss) those = None
 abbrev pub failure_code : (passed : ℕ) → List Holding → Failure → List Line
 failure_code passed hs (Always kind) = raise_code kind
 failure_code passed hs (ByTest t first second) =
-    operand_code passed hs 5 t ++ (Plain (Beq (operand_in hs 5 t) 0 (pos 16)) ∷ []) ++ raise_code first ++ raise_code second
+    test_ready passed hs 5 t ++ (Plain (branch_if (inverse (test_in hs 5 t)) (pos 16)) ∷ []) ++ raise_code first ++ raise_code second
 
 abbrev pub check_code : (passed : ℕ) → List Holding → ℕ → Failure → List Line
 check_code passed hs t f =
-    operand_code passed hs 5 t ++ (Plain (Bne (operand_in hs 5 t) 0 (pos (4 + code_length (failure_code passed hs f)))) ∷ []) ++ failure_code passed hs f
+    test_ready passed hs 5 t ++ (Plain (branch_if (test_in hs 5 t) (pos (4 + code_length (failure_code passed hs f)))) ∷ []) ++ failure_code passed hs f
 
 -- the code of a choice, which may be a check
 abbrev pub checked_code : (passed : ℕ) → List Holding → ℕ → Option Failure → List Line → List Line

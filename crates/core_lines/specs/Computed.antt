@@ -6,9 +6,10 @@ use Rattle.core_meaning.specs.Core.{ShiftRightUnsigned, Equal, NotEqual, Less, L
 use Rattle.core_lines.specs.declared.line.Line.{Line}
 use Rattle.core_lines.specs.declared.line.Line.TheVariants.{Plain}
 use Rattle.core_lines.specs.Frames.{upper_of, lower_of, is_short, word_code, load_code, save_code, slot_of}
-use Rattle.core_lines.specs.Held.{nth, nth_block, Source, Register, Number, Holding, source_of, result_register}
+use Rattle.core_lines.specs.declared.comparison.Comparison.{Comparison}
+use Rattle.core_lines.specs.Held.{nth, nth_block, Source, Register, Number, Compared, Holding, source_of, result_register}
 use Rattle.core_lines.specs.Operands.{number_code, operand_in, operand_code, into_code, keep_code}
-use Rattle.core_lines.specs.Operands.{number_kept, move_kept}
+use Rattle.core_lines.specs.Operands.{number_kept, verdict_kept, move_kept}
 
 -- ---- operations
 
@@ -128,6 +129,7 @@ abbrev pub immediate_for : Binary → (to left : ℕ) → Option Source → Opti
 immediate_for o to left None = None
 immediate_for o to left (Some (Register r)) = None
 immediate_for o to left (Some (Number n)) = immediate_code o to left n
+immediate_for o to left (Some (Compared c)) = None
 
 -- the address so many bytes from x2 on, into a register
 abbrev pub address_code : ℕ → ℕ → List Line
@@ -159,10 +161,15 @@ apply_code u o to x y = both_code u o to x y (immediate_for o to (has_operand u 
 abbrev pub keep_result : Bool → Surroundings → ℕ → List Line
 keep_result keeps u t = keep_code keeps u.passed (result_register t) t
 
--- an operation on two words, which is a move where it gives one of them
-abbrev pub applied_kept : Bool → Surroundings → Binary → (t x y : ℕ) → Option ℕ → List Line
-applied_kept keeps u o t x y None = apply_code u o (result_register t) x y ++ keep_result keeps u t
-applied_kept keeps u o t x y (Some z) = move_kept keeps u.passed (result_register t) t z (source_of u.held z)
+-- an operation on two words, which may be a comparison of two registers
+abbrev pub computed_kept : Bool → Surroundings → Binary → (t x y : ℕ) → Option Comparison → List Line
+computed_kept keeps u o t x y None = apply_code u o (result_register t) x y ++ keep_result keeps u t
+computed_kept keeps u o t x y (Some c) = verdict_kept keeps u.passed t c
+
+-- and which is a move where it gives one of them
+abbrev pub applied_kept : Bool → Surroundings → Binary → (t x y : ℕ) → Option ℕ → Option Comparison → List Line
+applied_kept keeps u o t x y None c = computed_kept keeps u o t x y c
+applied_kept keeps u o t x y (Some z) c = move_kept keeps u.passed (result_register t) t z (source_of u.held z)
 
 -- the lowest byte of a word, which may be known to be a number
 abbrev pub narrow_kept : Bool → Surroundings → (t x : ℕ) → Option ℕ → List Line

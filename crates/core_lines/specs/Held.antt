@@ -1,9 +1,18 @@
--- Where the words of temporaries are known to be besides their slots: in registers, or as numbers that the code can make again.
-use Rattle.std.specs.Prelude.{ℕ, zero, suc, ◌+◌, ◌%◌, ◌^◌, Bool, true, false, ◌&&◌, List, [], ◌∷◌, take, Option, Some, None, nat_eq, nat_lt, if◌then◌else◌}
+-- Where the words of temporaries are known to be besides their slots: in registers, or as numbers or comparisons that the code can make again.
+use Rattle.std.specs.Prelude.{ℕ, zero, suc, ◌+◌, ◌%◌, ◌^◌, Bool, true, false, ◌&&◌, ◌||◌, List, [], ◌∷◌, take, Option, Some, None, nat_eq, nat_lt, if◌then◌else◌}
 use Rattle.rv32_machine.specs.State.{data_base}
+use Rattle.core_lines.specs.declared.comparison.Condition.{Condition}
+use Rattle.core_lines.specs.declared.comparison.Condition.TheVariants as condition
+use Rattle.core_lines.specs.declared.comparison.Comparison.{Comparison}
 use Rattle.core_meaning.specs.Core.{
   Binary,
   Add,
+  Equal,
+  NotEqual,
+  Less,
+  LessEqual,
+  LessUnsigned,
+  LessEqualUnsigned,
   Operation,
   Constant,
   NullPointer,
@@ -53,10 +62,11 @@ use Rattle.core_meaning.specs.Core.{
 
 -- ---- what is known
 
--- where a word is: a register has it, or it is a number
+-- where a word is: a register has it, it is a number, or it is 1 where a comparison holds, and else 0
 pub data Source : Type 0 where
   Register : (register : ℕ) → Source
   Number : (word : ℕ) → Source
+  Compared : (comparison : Comparison) → Source
 
 -- a temporary's word is there
 pub record Holding : Type 0 where
@@ -68,6 +78,7 @@ abbrev pub some_source : Source → Option Source
 some_source (Register zero) = None
 some_source (Register (suc r)) = Some (Register (suc r))
 some_source (Number w) = Some (Number w)
+some_source (Compared c) = Some (Compared c)
 
 -- where a temporary's word is, if that is known
 abbrev pub source_of : List Holding → ℕ → Option Source
@@ -77,6 +88,7 @@ source_of (h ∷ hs) t = (if nat_eq h.temporary t then some_source h.source else
 abbrev pub is_in : ℕ → Source → Bool
 is_in r (Register q) = nat_eq q r
 is_in r (Number w) = false
+is_in r (Compared c) = nat_eq c.left r || nat_eq c.right r
 
 -- what is still known where a register changes
 abbrev pub without_register : ℕ → List Holding → List Holding
@@ -122,6 +134,7 @@ abbrev pub number_in : Option Source → Option ℕ
 number_in None = None
 number_in (Some (Register r)) = None
 number_in (Some (Number w)) = Some w
+number_in (Some (Compared c)) = None
 
 -- a temporary gets the lowest byte of a word, which may be known to be a number
 abbrev pub with_narrowed : ℕ → Option ℕ → List Holding → List Holding
@@ -135,16 +148,46 @@ is_zero None = false
 is_zero (Some (Register r)) = false
 is_zero (Some (Number zero)) = true
 is_zero (Some (Number (suc w))) = false
+is_zero (Some (Compared c)) = false
 
 -- the temporary whose word a sum is, where the other one is known to be 0
 abbrev pub same_as : Binary → (x y : ℕ) → Option Source → Option Source → Option ℕ
 same_as Add x y of_x of_y = (if is_zero of_x then Some y else (if is_zero of_y then Some x else None))
 same_as o x y of_x of_y = None
 
+-- ---- comparisons
+
+-- the register that has a word, if one has: x0 if it is known to be 0
+abbrev pub register_in : Option Source → Option ℕ
+register_in None = None
+register_in (Some (Register r)) = Some r
+register_in (Some (Number zero)) = Some 0
+register_in (Some (Number (suc w))) = None
+register_in (Some (Compared c)) = None
+
+abbrev pub compared_by : Condition → Option ℕ → Option ℕ → Option Comparison
+compared_by c None right = None
+compared_by c (Some left) None = None
+compared_by c (Some left) (Some right) = Some (record { condition = c; left = left; right = right })
+
+-- The comparison that an operation on two words is, if registers have both. It needs no code until its result is used: a test of it is a branch on both.
+abbrev pub comparison_of : Binary → (of_x of_y : Option Source) → Option Comparison
+comparison_of Equal of_x of_y = compared_by condition.Equal (register_in of_x) (register_in of_y)
+comparison_of NotEqual of_x of_y = compared_by condition.NotEqual (register_in of_x) (register_in of_y)
+comparison_of Less of_x of_y = compared_by condition.Less (register_in of_x) (register_in of_y)
+comparison_of LessEqual of_x of_y = compared_by condition.NotLess (register_in of_y) (register_in of_x)
+comparison_of LessUnsigned of_x of_y = compared_by condition.LessUnsigned (register_in of_x) (register_in of_y)
+comparison_of LessEqualUnsigned of_x of_y = compared_by condition.NotLessUnsigned (register_in of_y) (register_in of_x)
+comparison_of o of_x of_y = None
+
+abbrev pub with_computed : ℕ → Option Comparison → List Holding → List Holding
+with_computed t None hs = with_result t hs
+with_computed t (Some c) hs = with_source t (Compared c) hs
+
 -- a temporary gets what an operation on two gives
-abbrev pub with_applied : ℕ → Option ℕ → List Holding → List Holding
-with_applied t None hs = with_result t hs
-with_applied t (Some z) hs = with_moved t (source_of hs z) hs
+abbrev pub with_applied : ℕ → Option ℕ → Option Comparison → List Holding → List Holding
+with_applied t None c hs = with_computed t c hs
+with_applied t (Some z) c hs = with_moved t (source_of hs z) hs
 
 -- the n-th of a list, or 0 behind it
 abbrev pub nth : List ℕ → ℕ → ℕ
@@ -176,7 +219,8 @@ held_behind_operation homes statics hs (Constant t w) = with_source t (Number (w
 held_behind_operation homes statics hs (NullPointer t) = with_source t (Number 0) hs
 held_behind_operation homes statics hs (Move t x) = with_moved t (source_of hs x) hs
 held_behind_operation homes statics hs (Narrow t x) = with_narrowed t (number_in (source_of hs x)) hs
-held_behind_operation homes statics hs (Apply o t x y) = with_applied t (same_as o x y (source_of hs x) (source_of hs y)) hs
+held_behind_operation homes statics hs (Apply o t x y) =
+    with_applied t (same_as o x y (source_of hs x) (source_of hs y)) (comparison_of o (source_of hs x) (source_of hs y)) hs
 held_behind_operation homes statics hs (LocalAddress t out local) = with_result t hs
 held_behind_operation homes statics hs (OwnAddress t object) = with_result t hs
 held_behind_operation homes statics hs (DataAddress t object) = with_source t (Number (data_base + nth statics object)) hs

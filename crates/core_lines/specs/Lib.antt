@@ -1,3 +1,4 @@
+pub mod Comparisons
 pub mod Lines
 pub mod Relaxed
 pub mod Frames

@@ -4,18 +4,19 @@ use Rattle.std.specs.Prelude.{false, nat_eq}
 use Rattle.std.specs.List.{All}
 use Rattle.rv32_isa.specs.Table.{decoded}
 use Rattle.rv32_isa.specs.declared.instruction.Instr.{Instr}
-use Rattle.rv32_isa.specs.declared.instruction.Instr.TheVariants.{Jal, Beq, Bne}
+use Rattle.rv32_isa.specs.declared.instruction.Instr.TheVariants.{Jal}
 use Rattle.rv32_machine.specs.State.{Areas, code_base, is_within, word_at}
 use Rattle.core_lines.specs.declared.line.Line.{Line}
-use Rattle.core_lines.specs.declared.line.Line.TheVariants.{Plain, Label, Jump, JumpIfZero, BranchIfZero, CallTo}
+use Rattle.core_lines.specs.declared.line.Line.TheVariants.{Plain, Label, Jump, JumpUnless, BranchUnless, CallTo}
+use Rattle.core_lines.specs.Comparisons.{inverse, branch_if}
 
 -- how many bytes a line takes
 abbrev pub size_of : Line → ℕ
 size_of (Plain instr) = 4
 size_of (Label label) = 0
 size_of (Jump label) = 4
-size_of (JumpIfZero register label) = 8
-size_of (BranchIfZero register label) = 4
+size_of (JumpUnless comparison label) = 8
+size_of (BranchUnless comparison label) = 4
 size_of (CallTo label) = 4
 
 abbrev pub code_length : List Line → ℕ
@@ -26,14 +27,14 @@ code_length (line ∷ lines) = size_of line + code_length lines
 abbrev pub offset_to : ℕ → ℕ → ℤ
 offset_to place at = pos place -ℤ pos at
 
--- The instructions of a line at an address, where `places` says where labels stand. A jump that is made where a register is 0 is the opposite branch over a
--- jump, since a branch doesn't go far enough. A call keeps the address behind it in x1.
+-- The instructions of a line at an address, where `places` says where labels stand. A jump that is made unless a comparison holds is a branch over a jump,
+-- made where it holds, since a branch doesn't go far enough; or a branch alone, made where it doesn't hold. A call keeps the address behind it in x1.
 abbrev pub instructions_of : (ℕ → ℕ) → ℕ → Line → List Instr
 instructions_of places at (Plain instr) = instr ∷ []
 instructions_of places at (Label label) = []
 instructions_of places at (Jump label) = Jal 0 (offset_to (places label) at) ∷ []
-instructions_of places at (JumpIfZero register label) = Bne register 0 (pos 8) ∷ Jal 0 (offset_to (places label) (at + 4)) ∷ []
-instructions_of places at (BranchIfZero register label) = Beq register 0 (offset_to (places label) at) ∷ []
+instructions_of places at (JumpUnless comparison label) = branch_if comparison (pos 8) ∷ Jal 0 (offset_to (places label) (at + 4)) ∷ []
+instructions_of places at (BranchUnless comparison label) = branch_if (inverse comparison) (offset_to (places label) at) ∷ []
 instructions_of places at (CallTo label) = Jal 1 (offset_to (places label) at) ∷ []
 
 -- the word at an address of the code is the instruction's
@@ -51,8 +52,8 @@ abbrev pub StandsAt : (ℕ → ℕ) → ℕ → Line → Type 0
 StandsAt places at (Plain instr) = Unit {0}
 StandsAt places at (Label label) = places label ≡ at
 StandsAt places at (Jump label) = Unit {0}
-StandsAt places at (JumpIfZero register label) = Unit {0}
-StandsAt places at (BranchIfZero register label) = Unit {0}
+StandsAt places at (JumpUnless comparison label) = Unit {0}
+StandsAt places at (BranchUnless comparison label) = Unit {0}
 StandsAt places at (CallTo label) = Unit {0}
 
 -- The code has the lines from a place on, in bytes behind its first address, where `places` says where labels stand.
@@ -72,8 +73,8 @@ labels_placed [] = []
 labels_placed (Plain instr ∷ lines) = labels_placed lines
 labels_placed (Label label ∷ lines) = label ∷ labels_placed lines
 labels_placed (Jump label ∷ lines) = labels_placed lines
-labels_placed (JumpIfZero register label ∷ lines) = labels_placed lines
-labels_placed (BranchIfZero register label ∷ lines) = labels_placed lines
+labels_placed (JumpUnless comparison label ∷ lines) = labels_placed lines
+labels_placed (BranchUnless comparison label ∷ lines) = labels_placed lines
 labels_placed (CallTo label ∷ lines) = labels_placed lines
 
 -- no label stands twice

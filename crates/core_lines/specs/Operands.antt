@@ -6,7 +6,10 @@ use Rattle.core_lines.specs.declared.line.Line.{Line}
 use Rattle.core_lines.specs.declared.line.Line.TheVariants.{Plain, Jump, CallTo}
 use Rattle.core_lines.specs.Frames.{upper_of, lower_of, is_short, word_code, load_code, save_code, slot_of, test_code, move_code, saves_code}
 use Rattle.core_lines.specs.Homes.{flag_at}
-use Rattle.core_lines.specs.Held.{Source, Register, Number, Holding, source_of, without_register, result_register}
+use Rattle.core_lines.specs.declared.comparison.Comparison.{Comparison}
+use Rattle.core_lines.specs.declared.comparison.Condition.TheVariants.{NotEqual}
+use Rattle.core_lines.specs.Comparisons.{verdict_code}
+use Rattle.core_lines.specs.Held.{Source, Register, Number, Compared, Holding, source_of, without_register, result_register}
 
 -- a word into a register: ADDI alone where the lower part is the word, LUI alone where there is none
 abbrev pub number_code : ℕ → ℕ → List Line
@@ -21,6 +24,7 @@ abbrev pub register_for : ℕ → Option Source → ℕ
 register_for spare None = spare
 register_for spare (Some (Register r)) = r
 register_for spare (Some (Number w)) = spare
+register_for spare (Some (Compared c)) = spare
 
 abbrev pub operand_in : List Holding → ℕ → ℕ → ℕ
 operand_in hs spare t = register_for spare (source_of hs t)
@@ -30,6 +34,7 @@ abbrev pub bring_code : (passed : ℕ) → ℕ → ℕ → Option Source → Lis
 bring_code passed spare t None = load_code spare (slot_of passed t)
 bring_code passed spare t (Some (Register r)) = []
 bring_code passed spare t (Some (Number w)) = number_code spare w
+bring_code passed spare t (Some (Compared c)) = verdict_code spare c
 
 abbrev pub operand_code : (passed : ℕ) → List Holding → ℕ → ℕ → List Line
 operand_code passed hs spare t = bring_code passed spare t (source_of hs t)
@@ -43,9 +48,36 @@ abbrev pub fetch_code : (passed : ℕ) → ℕ → ℕ → Option Source → Lis
 fetch_code passed to t None = load_code to (slot_of passed t)
 fetch_code passed to t (Some (Register r)) = copied_code to r
 fetch_code passed to t (Some (Number w)) = number_code to w
+fetch_code passed to t (Some (Compared c)) = verdict_code to c
 
 abbrev pub into_code : (passed : ℕ) → List Holding → ℕ → ℕ → List Line
 into_code passed hs to t = fetch_code passed to t (source_of hs t)
+
+-- ---- tests
+
+-- that a register's word isn't 0
+abbrev pub is_some : ℕ → Comparison
+is_some register = record { condition = NotEqual; left = register; right = 0 }
+
+-- what a branch compares that tests a temporary: what its word is a comparison of, and else that word, in a register, with 0
+abbrev pub test_for : ℕ → Option Source → Comparison
+test_for spare None = is_some spare
+test_for spare (Some (Register r)) = is_some r
+test_for spare (Some (Number w)) = is_some spare
+test_for spare (Some (Compared c)) = c
+
+abbrev pub test_in : List Holding → ℕ → ℕ → Comparison
+test_in hs spare t = test_for spare (source_of hs t)
+
+-- what stands before the branch
+abbrev pub ready_code : (passed : ℕ) → ℕ → ℕ → Option Source → List Line
+ready_code passed spare t None = load_code spare (slot_of passed t)
+ready_code passed spare t (Some (Register r)) = []
+ready_code passed spare t (Some (Number w)) = number_code spare w
+ready_code passed spare t (Some (Compared c)) = []
+
+abbrev pub test_ready : (passed : ℕ) → List Holding → ℕ → ℕ → List Line
+test_ready passed hs spare t = ready_code passed spare t (source_of hs t)
 
 -- ---- what is saved
 
@@ -57,11 +89,16 @@ keep_code keeps passed register t = (if keeps then save_code register (slot_of p
 abbrev pub number_kept : Bool → (passed : ℕ) → ℕ → ℕ → List Line
 number_kept keeps passed t w = (if keeps then number_code 5 w ++ save_code 5 (slot_of passed t) else [])
 
+-- a comparison's verdict that a temporary gets
+abbrev pub verdict_kept : Bool → (passed : ℕ) → ℕ → Comparison → List Line
+verdict_kept keeps passed t c = (if keeps then verdict_code 5 c ++ save_code 5 (slot_of passed t) else [])
+
 -- a temporary gets what another one has
 abbrev pub move_kept : Bool → (passed : ℕ) → (own t x : ℕ) → Option Source → List Line
 move_kept keeps passed own t x None = load_code own (slot_of passed x) ++ keep_code keeps passed own t
 move_kept keeps passed own t x (Some (Register r)) = keep_code keeps passed r t
 move_kept keeps passed own t x (Some (Number w)) = number_kept keeps passed t w
+move_kept keeps passed own t x (Some (Compared c)) = verdict_kept keeps passed t c
 
 -- ---- calls and returns
 

@@ -1,7 +1,7 @@
 -- Which jumps of lines are branches alone: each begins as one, those that don't reach their labels become branches over jumps, and so on until all reach.
 use Rattle.std.specs.Prelude.{◌≡◌, ℕ, zero, suc, ◌+◌, Bool, true, false, not, ◌||◌, ◌&&◌, nat_eq, nat_le, if◌then◌else◌, List, [], ◌∷◌, length}
 use Rattle.core_lines.specs.declared.line.Line.{Line}
-use Rattle.core_lines.specs.declared.line.Line.TheVariants.{Plain, Label, Jump, JumpIfZero, BranchIfZero, CallTo}
+use Rattle.core_lines.specs.declared.line.Line.TheVariants.{Plain, Label, Jump, JumpUnless, BranchUnless, CallTo}
 use Rattle.core_lines.specs.Lines.{size_of}
 
 -- where a label stands, in bytes from the first line on: at the first line that places it, or behind all lines where none does
@@ -10,17 +10,17 @@ place_of [] label = 0
 place_of (Plain instr ∷ lines) label = 4 + place_of lines label
 place_of (Label l ∷ lines) label = (if nat_eq l label then 0 else place_of lines label)
 place_of (Jump l ∷ lines) label = 4 + place_of lines label
-place_of (JumpIfZero register l ∷ lines) label = 8 + place_of lines label
-place_of (BranchIfZero register l ∷ lines) label = 4 + place_of lines label
+place_of (JumpUnless comparison l ∷ lines) label = 8 + place_of lines label
+place_of (BranchUnless comparison l ∷ lines) label = 4 + place_of lines label
 place_of (CallTo l ∷ lines) label = 4 + place_of lines label
 
--- a line as it is placed: of two words, if it is a jump on zero that is said to be one
+-- a line as it is placed: of two words, if it is a conditional jump that is said to be one
 abbrev pub shorten : Bool → Line → Line
 shorten wide (Plain instr) = Plain instr
 shorten wide (Label label) = Label label
 shorten wide (Jump label) = Jump label
-shorten wide (JumpIfZero register label) = (if wide then JumpIfZero register label else BranchIfZero register label)
-shorten wide (BranchIfZero register label) = BranchIfZero register label
+shorten wide (JumpUnless comparison label) = (if wide then JumpUnless comparison label else BranchUnless comparison label)
+shorten wide (BranchUnless comparison label) = BranchUnless comparison label
 shorten wide (CallTo label) = CallTo label
 
 abbrev pub shortened : List Bool → List Line → List Line
@@ -33,7 +33,7 @@ abbrev pub is_in_reach : ℕ → ℕ → Bool
 is_in_reach place at = nat_le at (place + 4096) && nat_le place (at + 4094)
 
 abbrev pub reaches : (ℕ → ℕ) → ℕ → Line → Bool
-reaches places at (JumpIfZero register label) = is_in_reach (places label) at
+reaches places at (JumpUnless comparison label) = is_in_reach (places label) at
 reaches places at _ = true
 
 -- one round: those that don't reach where they stand now
@@ -64,17 +64,17 @@ AllReach places at [] = Unit {0}
 AllReach places at (line ∷ lines) = Reaches line × AllReach places (at + size_of line) lines
   where
     Reaches : Line → Type 0
-    Reaches (BranchIfZero register label) = is_in_reach (places label) at ≡ true
+    Reaches (BranchUnless comparison label) = is_in_reach (places label) at ≡ true
     Reaches _ = Unit {0}
 
--- the labels that jumps on zero go to
+-- the labels that conditional jumps go to
 abbrev pub targets : List Line → List ℕ
 targets [] = []
 targets (Plain instr ∷ lines) = targets lines
 targets (Label label ∷ lines) = targets lines
 targets (Jump label ∷ lines) = targets lines
-targets (JumpIfZero register label ∷ lines) = label ∷ targets lines
-targets (BranchIfZero register label ∷ lines) = label ∷ targets lines
+targets (JumpUnless comparison label ∷ lines) = label ∷ targets lines
+targets (BranchUnless comparison label ∷ lines) = label ∷ targets lines
 targets (CallTo label ∷ lines) = targets lines
 
 -- the same as `shortened`, where it is said of labels which jumps to them are wide
@@ -82,21 +82,21 @@ abbrev pub shorten_to : (ℕ → Bool) → Line → Line
 shorten_to wide (Plain instr) = Plain instr
 shorten_to wide (Label label) = Label label
 shorten_to wide (Jump label) = Jump label
-shorten_to wide (JumpIfZero register label) = (if wide label then JumpIfZero register label else BranchIfZero register label)
-shorten_to wide (BranchIfZero register label) = BranchIfZero register label
+shorten_to wide (JumpUnless comparison label) = (if wide label then JumpUnless comparison label else BranchUnless comparison label)
+shorten_to wide (BranchUnless comparison label) = BranchUnless comparison label
 shorten_to wide (CallTo label) = CallTo label
 
 abbrev pub shortened_to : (ℕ → Bool) → List Line → List Line
 shortened_to wide [] = []
 shortened_to wide (line ∷ lines) = shorten_to wide line ∷ shortened_to wide lines
 
--- what is said of the first jump on zero to a label
+-- what is said of the first conditional jump to a label
 abbrev pub wide_to : List Bool → List Line → ℕ → Bool
 wide_to [] lines label = true
 wide_to (w ∷ ws) [] label = true
 wide_to (w ∷ ws) (Plain instr ∷ lines) label = wide_to ws lines label
 wide_to (w ∷ ws) (Label l ∷ lines) label = wide_to ws lines label
 wide_to (w ∷ ws) (Jump l ∷ lines) label = wide_to ws lines label
-wide_to (w ∷ ws) (JumpIfZero register l ∷ lines) label = (if nat_eq l label then w else wide_to ws lines label)
-wide_to (w ∷ ws) (BranchIfZero register l ∷ lines) label = wide_to ws lines label
+wide_to (w ∷ ws) (JumpUnless comparison l ∷ lines) label = (if nat_eq l label then w else wide_to ws lines label)
+wide_to (w ∷ ws) (BranchUnless comparison l ∷ lines) label = wide_to ws lines label
 wide_to (w ∷ ws) (CallTo l ∷ lines) label = wide_to ws lines label

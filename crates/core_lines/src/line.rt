@@ -1,6 +1,7 @@
 // Instructions with labels.
 
-use rv32_isa::{Instr, Register};
+use crate::comparison::Comparison;
+use rv32_isa::Instr;
 
 /// A line of code. A label is a number, which a `Label` line places.
 #[derive(Clone, Copy)]
@@ -11,10 +12,10 @@ pub enum Line {
     Label(usize),
     /// Goes on at the label.
     Jump(usize),
-    /// Goes on at the label where the register is 0, else at the next line: the opposite branch over a jump.
-    JumpIfZero(Register, usize),
-    /// The same, by one branch, which the label has to be in reach of.
-    BranchIfZero(Register, usize),
+    /// Goes on at the next line where the comparison holds, else at the label: a branch over a jump.
+    JumpUnless(Comparison, usize),
+    /// The same, by one branch, which the label has to be in reach of: it is made where the comparison doesn't hold.
+    BranchUnless(Comparison, usize),
     /// Calls what stands at the label: x1 gets the address behind the call.
     CallTo(usize),
 }

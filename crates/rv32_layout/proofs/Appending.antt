@@ -1,9 +1,10 @@
 -- Words after words.
 use Rattle.std.proofs.Common.{◌≡◌, ℕ, pos, ◌+◌, ◌*◌, List, [], ◌∷◌, ◌++◌, length, refl, ap, subst, ◌∙◌, arith, append_assoc, length-append}
 use Rattle.rv32_isa.specs.declared.instruction.Instr.{Instr}
-use Rattle.rv32_isa.specs.declared.instruction.Instr.TheVariants.{Jal, Beq, Bne}
+use Rattle.rv32_isa.specs.declared.instruction.Instr.TheVariants.{Jal}
+use Rattle.core_lines.specs.Comparisons.{inverse, branch_if}
 use Rattle.core_lines.specs.declared.line.Line.{Line}
-use Rattle.core_lines.specs.declared.line.Line.TheVariants.{Plain, Label, Jump, JumpIfZero, BranchIfZero, CallTo}
+use Rattle.core_lines.specs.declared.line.Line.TheVariants.{Plain, Label, Jump, JumpUnless, BranchUnless, CallTo}
 use Rattle.core_lines.specs.Lines.{size_of, offset_to, instructions_of}
 use Rattle.rv32_layout.specs.Placed.{AreWords, instructions_from}
 use Rattle.rv32_layout.specs.Placing.{Appends}
@@ -33,8 +34,8 @@ pub line_length : (places : ℕ → ℕ) (at : ℕ) (line : Line) → 4 * length
 line_length places at (Plain instr) = refl
 line_length places at (Label label) = refl
 line_length places at (Jump label) = refl
-line_length places at (JumpIfZero register label) = refl
-line_length places at (BranchIfZero register label) = refl
+line_length places at (JumpUnless comparison label) = refl
+line_length places at (BranchUnless comparison label) = refl
 line_length places at (CallTo label) = refl
 
 -- a branch and the jump that it goes over
@@ -50,8 +51,8 @@ instructions_of-same : (f g : ℕ → ℕ) (at : ℕ) (line : Line) → ((label 
 instructions_of-same f g at (Plain instr) same = refl
 instructions_of-same f g at (Label label) same = refl
 instructions_of-same f g at (Jump label) same = ap (λ p. Jal 0 (offset_to p at) ∷ []) (same label)
-instructions_of-same f g at (JumpIfZero register label) same = ap (λ p. Bne register 0 (pos 8) ∷ Jal 0 (offset_to p (at + 4)) ∷ []) (same label)
-instructions_of-same f g at (BranchIfZero register label) same = ap (λ p. Beq register 0 (offset_to p at) ∷ []) (same label)
+instructions_of-same f g at (JumpUnless comparison label) same = ap (λ p. branch_if comparison (pos 8) ∷ Jal 0 (offset_to p (at + 4)) ∷ []) (same label)
+instructions_of-same f g at (BranchUnless comparison label) same = ap (λ p. branch_if (inverse comparison) (offset_to p at) ∷ []) (same label)
 instructions_of-same f g at (CallTo label) same = ap (λ p. Jal 1 (offset_to p at) ∷ []) (same label)
 
 -- bytes that have the words of lines up to an address, with a line's words and those of the lines after it

@@ -13,7 +13,7 @@ use Rattle.rv32_machine.specs.State.{Areas, code_base, word_at}
 use Rattle.rv32_machine.specs.Arrays.{Arrays, bytes_in, byte_at, areas_of}
 use Rattle.rv32_machine.proofs.Bytes.{in_code}
 use Rattle.core_lines.specs.declared.line.Line.{Line}
-use Rattle.core_lines.specs.declared.line.Line.TheVariants.{Plain, Label, Jump, JumpIfZero, BranchIfZero, CallTo}
+use Rattle.core_lines.specs.declared.line.Line.TheVariants.{Plain, Label, Jump, JumpUnless, BranchUnless, CallTo}
 use Rattle.core_lines.specs.Lines.{size_of, code_length, instructions_of, labels_placed, AreOnce, HasInstr, HasInstrs, StandsAt, HasLines, IsPlace}
 use Rattle.core_lines.proofs.memory.Access.{length_of_both}
 use Rattle.cyc_image.specs.Format.{code_limit, u32_bytes}
@@ -30,8 +30,8 @@ later_label P [] lines label all = All-head P label (labels_placed lines) all
 later_label P (Plain instr ∷ front) lines label all = later_label P front lines label all
 later_label P (Label l ∷ front) lines label all = later_label P front lines label (All-tail P l (labels_placed (front ++ Label label ∷ lines)) all)
 later_label P (Jump l ∷ front) lines label all = later_label P front lines label all
-later_label P (JumpIfZero register l ∷ front) lines label all = later_label P front lines label all
-later_label P (BranchIfZero register l ∷ front) lines label all = later_label P front lines label all
+later_label P (JumpUnless comparison l ∷ front) lines label all = later_label P front lines label all
+later_label P (BranchUnless comparison l ∷ front) lines label all = later_label P front lines label all
 later_label P (CallTo l ∷ front) lines label all = later_label P front lines label all
 
 -- a label that is placed once stands behind the lines before it
@@ -43,8 +43,8 @@ place_behind (Label l ∷ front) lines label once =
     let other : nat_eq l label ≡ false = later_label (λ other. nat_eq l other ≡ false) front lines label once.0 in
     omega (arith, cond-false (nat_eq l label) 0 (place_of (front ++ Label label ∷ lines) label) other, place_behind front lines label once.1)
 place_behind (Jump l ∷ front) lines label once = omega (arith, place_behind front lines label once)
-place_behind (JumpIfZero register l ∷ front) lines label once = omega (arith, place_behind front lines label once)
-place_behind (BranchIfZero register l ∷ front) lines label once = omega (arith, place_behind front lines label once)
+place_behind (JumpUnless comparison l ∷ front) lines label once = omega (arith, place_behind front lines label once)
+place_behind (BranchUnless comparison l ∷ front) lines label once = omega (arith, place_behind front lines label once)
 place_behind (CallTo l ∷ front) lines label once = omega (arith, place_behind front lines label once)
 
 stands : (all front lines : List Line) (at : ℕ) (line : Line) → all ≡ front ++ line ∷ lines → at ≡ code_length front → AreOnce (labels_placed all)
@@ -53,8 +53,8 @@ stands all front lines at (Plain instr) whole there once = tt
 stands all front lines at (Label label) whole there once =
     subst (λ ls. place_of ls label ≡ at) (sym whole) (place_behind front lines label (subst (λ ls. AreOnce (labels_placed ls)) whole once) ∙ sym there)
 stands all front lines at (Jump label) whole there once = tt
-stands all front lines at (JumpIfZero register label) whole there once = tt
-stands all front lines at (BranchIfZero register label) whole there once = tt
+stands all front lines at (JumpUnless comparison label) whole there once = tt
+stands all front lines at (BranchUnless comparison label) whole there once = tt
 stands all front lines at (CallTo label) whole there once = tt
 
 -- a jump can go to each label

@@ -3,7 +3,7 @@ use Rattle.std.proofs.Common.{◌≡◌, ℕ, ◌+◌, ◌<◌, ◌≤◌, ◌%�
 use Rattle.std.proofs.lemmas.List.{drop_more}
 use Rattle.std.proofs.lemmas.Bool.Decides.{nat_tests}
 use Rattle.core_lines.specs.declared.line.Line.{Line}
-use Rattle.core_lines.specs.declared.line.Line.TheVariants.{Plain, Label, Jump, JumpIfZero, BranchIfZero, CallTo}
+use Rattle.core_lines.specs.declared.line.Line.TheVariants.{Plain, Label, Jump, JumpUnless, BranchUnless, CallTo}
 use Rattle.core_lines.specs.Lines.{code_length}
 use Rattle.core_lines.specs.Relaxed.{place_of}
 
@@ -17,8 +17,8 @@ place_is_of_words [] label = refl
 place_is_of_words (Plain instr ∷ lines) label = omega (arith, place_is_of_words lines label)
 place_is_of_words (Label l ∷ lines) label = let rest = place_is_of_words lines label in grind (arith, nat_tests)
 place_is_of_words (Jump l ∷ lines) label = omega (arith, place_is_of_words lines label)
-place_is_of_words (JumpIfZero register l ∷ lines) label = omega (arith, place_is_of_words lines label)
-place_is_of_words (BranchIfZero register l ∷ lines) label = omega (arith, place_is_of_words lines label)
+place_is_of_words (JumpUnless comparison l ∷ lines) label = omega (arith, place_is_of_words lines label)
+place_is_of_words (BranchUnless comparison l ∷ lines) label = omega (arith, place_is_of_words lines label)
 place_is_of_words (CallTo l ∷ lines) label = omega (arith, place_is_of_words lines label)
 
 pub place_within_length : (lines : List Line) (label : ℕ) → place_of lines label ≤ code_length lines
@@ -26,6 +26,6 @@ place_within_length [] label = omega arith
 place_within_length (Plain instr ∷ lines) label = omega (arith, place_within_length lines label)
 place_within_length (Label l ∷ lines) label = let rest = place_within_length lines label in grind (arith, nat_tests)
 place_within_length (Jump l ∷ lines) label = omega (arith, place_within_length lines label)
-place_within_length (JumpIfZero register l ∷ lines) label = omega (arith, place_within_length lines label)
-place_within_length (BranchIfZero register l ∷ lines) label = omega (arith, place_within_length lines label)
+place_within_length (JumpUnless comparison l ∷ lines) label = omega (arith, place_within_length lines label)
+place_within_length (BranchUnless comparison l ∷ lines) label = omega (arith, place_within_length lines label)
 place_within_length (CallTo l ∷ lines) label = omega (arith, place_within_length lines label)

@@ -4,7 +4,7 @@ use Rattle.std.proofs.Common.{◌≡◌, ℕ, ◌+◌, ◌<◌, ◌≤◌, true,
 use Rattle.std.proofs.lemmas.Bool.{cases_lt, false≢true}
 use Rattle.std.proofs.lemmas.Bool.Decides.{nat_tests}
 use Rattle.core_lines.specs.declared.line.Line.{Line}
-use Rattle.core_lines.specs.declared.line.Line.TheVariants.{Plain, Label, Jump, JumpIfZero, BranchIfZero, CallTo}
+use Rattle.core_lines.specs.declared.line.Line.TheVariants.{Plain, Label, Jump, JumpUnless, BranchUnless, CallTo}
 use Rattle.core_lines.specs.Lines.{code_length, size_of}
 use Rattle.core_lines.proofs.memory.Access.{of_words}
 use Rattle.cyc_image.specs.Format.{code_limit}
@@ -21,8 +21,8 @@ leads_before_end [] label leads = absurd (false≢true leads)
 leads_before_end (Plain instr ∷ lines) label leads = omega (arith, leads_before_end lines label leads)
 leads_before_end (Label l ∷ lines) label leads = let rest = leads_before_end lines label in grind (arith, nat_tests)
 leads_before_end (Jump l ∷ lines) label leads = omega (arith, leads_before_end lines label leads)
-leads_before_end (JumpIfZero register l ∷ lines) label leads = omega (arith, leads_before_end lines label leads)
-leads_before_end (BranchIfZero register l ∷ lines) label leads = omega (arith, leads_before_end lines label leads)
+leads_before_end (JumpUnless comparison l ∷ lines) label leads = omega (arith, leads_before_end lines label leads)
+leads_before_end (BranchUnless comparison l ∷ lines) label leads = omega (arith, leads_before_end lines label leads)
 leads_before_end (CallTo l ∷ lines) label leads = omega (arith, leads_before_end lines label leads)
 
 first_before_end : (lines : List Line) (label : ℕ) → begins_within lines ≡ true → first_target lines ≡ Some label → place_of lines label < code_length lines
@@ -66,9 +66,9 @@ module _ (lines rest : List Line) (within : code_length lines ≤ code_limit) (b
   line_reaches (Plain instr) at whole first reach = tt
   line_reaches (Label label) at whole first reach = tt
   line_reaches (Jump label) at whole first reach = jump_reaches label at whole (λ start. sym (first start))
-  line_reaches (JumpIfZero register label) at whole first reach =
+  line_reaches (JumpUnless comparison label) at whole first reach =
       let place_within = place_within_length lines label in in_reach label (at + 4) (omega arith) (omega arith)
-  line_reaches (BranchIfZero register label) at whole first reach = branch_reaches label at whole reach.0
+  line_reaches (BranchUnless comparison label) at whole first reach = branch_reaches label at whole reach.0
   line_reaches (CallTo label) at whole first reach = jump_reaches label at whole (λ start. sym (first start))
 
 -- a line of no bytes is a label, and the first jump is behind it
@@ -76,8 +76,8 @@ pub first_behind : (line : Line) (lines : List Line) → size_of line ≡ 0 → 
 first_behind (Plain instr) lines none = absurd (omega arith)
 first_behind (Label label) lines none = refl
 first_behind (Jump label) lines none = absurd (omega arith)
-first_behind (JumpIfZero register label) lines none = absurd (omega arith)
-first_behind (BranchIfZero register label) lines none = absurd (omega arith)
+first_behind (JumpUnless comparison label) lines none = absurd (omega arith)
+first_behind (BranchUnless comparison label) lines none = absurd (omega arith)
 first_behind (CallTo label) lines none = absurd (omega arith)
 
 -- the same, where a table says where labels stand
@@ -85,6 +85,6 @@ pub same_reaches : (f g : ℕ → ℕ) (at : ℕ) (line : Line) → ((label : �
 same_reaches f g at (Plain instr) same reach = tt
 same_reaches f g at (Label label) same reach = tt
 same_reaches f g at (Jump label) same reach = rw (sym (same label)) reach
-same_reaches f g at (JumpIfZero register label) same reach = rw (sym (same label)) reach
-same_reaches f g at (BranchIfZero register label) same reach = rw (sym (same label)) reach
+same_reaches f g at (JumpUnless comparison label) same reach = rw (sym (same label)) reach
+same_reaches f g at (BranchUnless comparison label) same reach = rw (sym (same label)) reach
 same_reaches f g at (CallTo label) same reach = rw (sym (same label)) reach

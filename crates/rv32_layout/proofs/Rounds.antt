@@ -1,9 +1,10 @@
--- A round on lines is one on what is said of each: a branch alone is a jump on zero that isn't said to be wide.
+-- A round on lines is one on what is said of each: a branch alone is a conditional jump that isn't said to be wide.
 use Rattle.std.specs.Prelude.{not, ◌||◌, ◌&&◌, length, if◌then◌else◌}
 use Rattle.std.proofs.Common.{◌≡◌, ℕ, zero, suc, ◌+◌, ◌≤◌, ◌<◌, Bool, true, false, List, [], ◌∷◌, refl, sym, ap, subst, ◌∙◌, arith}
 use Rattle.std.proofs.lemmas.Bool.{false≢true, and_parts}
+use Rattle.core_lines.specs.declared.comparison.Comparison.{Comparison}
 use Rattle.core_lines.specs.declared.line.Line.{Line}
-use Rattle.core_lines.specs.declared.line.Line.TheVariants.{Plain, Label, Jump, JumpIfZero, BranchIfZero, CallTo}
+use Rattle.core_lines.specs.declared.line.Line.TheVariants.{Plain, Label, Jump, JumpUnless, BranchUnless, CallTo}
 use Rattle.core_lines.specs.Lines.{size_of, code_length}
 use Rattle.core_lines.specs.Relaxed.{place_of, shorten, shortened, is_in_reach, reaches, widened, next_round, rounds, none_wide, wide_in}
 use Rattle.core_lines.proofs.labels.Relaxing.{as_long, none_long, still, settled, size_grows, round_longer, rounds_longer}
@@ -14,11 +15,11 @@ use Rattle.rv32_layout.specs.Placing.{all_reach, lengthen, lengthened}
 -- ---- one round
 
 -- a branch alone becomes a branch over a jump where it doesn't reach its label
-turned : (register label : ℕ) (in_reach : Bool)
-    → ◌≡◌ {A = Line} (if in_reach then BranchIfZero register label else JumpIfZero register label)
-    (if not in_reach then JumpIfZero register label else BranchIfZero register label)
-turned register label true = refl
-turned register label false = refl
+turned : (comparison : Comparison) (label : ℕ) (in_reach : Bool)
+    → ◌≡◌ {A = Line} (if in_reach then BranchUnless comparison label else JumpUnless comparison label)
+    (if not in_reach then JumpUnless comparison label else BranchUnless comparison label)
+turned comparison label true = refl
+turned comparison label false = refl
 
 round_is : (places : ℕ → ℕ) (at : ℕ) (ws : List Bool) (lines : List Line) → are_long lines ≡ true → length ws ≡ length lines
     → lengthened places at (shortened ws lines) ≡ shortened (widened places at ws lines) lines
@@ -29,13 +30,13 @@ round_is places at (w ∷ ws) (Plain instr ∷ lines) long same =
     ap (λ ls. Plain instr ∷ ls) (round_is places (at + 4) ws lines long (omega (arith, same)))
 round_is places at (w ∷ ws) (Label l ∷ lines) long same = ap (λ ls. Label l ∷ ls) (round_is places (at + 0) ws lines long (omega (arith, same)))
 round_is places at (w ∷ ws) (Jump l ∷ lines) long same = ap (λ ls. Jump l ∷ ls) (round_is places (at + 4) ws lines long (omega (arith, same)))
-round_is places at (true ∷ ws) (JumpIfZero register l ∷ lines) long same =
-    ap (λ ls. JumpIfZero register l ∷ ls) (round_is places (at + 8) ws lines long (omega (arith, same)))
-round_is places at (false ∷ ws) (JumpIfZero register l ∷ lines) long same =
-    ap (λ line. line ∷ lengthened places (at + 4) (shortened ws lines)) (turned register l (is_in_reach (places l) at)) ∙
-    ap (λ ls. (if not (is_in_reach (places l) at) then JumpIfZero register l else BranchIfZero register l) ∷ ls)
+round_is places at (true ∷ ws) (JumpUnless comparison l ∷ lines) long same =
+    ap (λ ls. JumpUnless comparison l ∷ ls) (round_is places (at + 8) ws lines long (omega (arith, same)))
+round_is places at (false ∷ ws) (JumpUnless comparison l ∷ lines) long same =
+    ap (λ line. line ∷ lengthened places (at + 4) (shortened ws lines)) (turned comparison l (is_in_reach (places l) at)) ∙
+    ap (λ ls. (if not (is_in_reach (places l) at) then JumpUnless comparison l else BranchUnless comparison l) ∷ ls)
     (round_is places (at + 4) ws lines long (omega (arith, same)))
-round_is places at (w ∷ ws) (BranchIfZero register l ∷ lines) long same = absurd (false≢true long)
+round_is places at (w ∷ ws) (BranchUnless comparison l ∷ lines) long same = absurd (false≢true long)
 round_is places at (w ∷ ws) (CallTo l ∷ lines) long same = ap (λ ls. CallTo l ∷ ls) (round_is places (at + 4) ws lines long (omega (arith, same)))
 
 -- what a table says of the labels is enough
@@ -43,9 +44,9 @@ lengthen-same : (f g : ℕ → ℕ) (at : ℕ) (line : Line) → ((label : ℕ) 
 lengthen-same f g at (Plain instr) same = refl
 lengthen-same f g at (Label l) same = refl
 lengthen-same f g at (Jump l) same = refl
-lengthen-same f g at (JumpIfZero register l) same = refl
-lengthen-same f g at (BranchIfZero register l) same =
-    ap (λ place. if is_in_reach place at then BranchIfZero register l else JumpIfZero register l) (same l)
+lengthen-same f g at (JumpUnless comparison l) same = refl
+lengthen-same f g at (BranchUnless comparison l) same =
+    ap (λ place. if is_in_reach place at then BranchUnless comparison l else JumpUnless comparison l) (same l)
 lengthen-same f g at (CallTo l) same = refl
 
 lengthened-same : (f g : ℕ → ℕ) (at : ℕ) (lines : List Line) → ((label : ℕ) → f label ≡ g label) → lengthened f at lines ≡ lengthened g at lines
@@ -59,8 +60,8 @@ line_stays : (places : ℕ → ℕ) (at : ℕ) (line : Line) → placing.reaches
 line_stays places at (Plain instr) reach = refl
 line_stays places at (Label l) reach = refl
 line_stays places at (Jump l) reach = refl
-line_stays places at (JumpIfZero register l) reach = refl
-line_stays places at (BranchIfZero register l) reach = ap (λ b. if b then BranchIfZero register l else JumpIfZero register l) reach
+line_stays places at (JumpUnless comparison l) reach = refl
+line_stays places at (BranchUnless comparison l) reach = ap (λ b. if b then BranchUnless comparison l else JumpUnless comparison l) reach
 line_stays places at (CallTo l) reach = refl
 
 pub round_stays : (places : ℕ → ℕ) (at : ℕ) (lines : List Line) → all_reach places at lines ≡ true → lengthened places at lines ≡ lines
@@ -75,10 +76,10 @@ no_shorter : (places : ℕ → ℕ) (at : ℕ) (line : Line) → size_of line �
 no_shorter places at (Plain instr) = omega arith
 no_shorter places at (Label l) = omega arith
 no_shorter places at (Jump l) = omega arith
-no_shorter places at (JumpIfZero register l) = omega arith
-no_shorter places at (BranchIfZero register l) = by (is_in_reach (places l) at)
+no_shorter places at (JumpUnless comparison l) = omega arith
+no_shorter places at (BranchUnless comparison l) = by (is_in_reach (places l) at)
   where
-    by : (b : Bool) → 4 ≤ size_of (if b then BranchIfZero register l else JumpIfZero register l)
+    by : (b : Bool) → 4 ≤ size_of (if b then BranchUnless comparison l else JumpUnless comparison l)
     by true = omega arith
     by false = omega arith
 no_shorter places at (CallTo l) = omega arith
@@ -87,9 +88,9 @@ longer : (places : ℕ → ℕ) (at : ℕ) (line : Line) → placing.reaches pla
 longer places at (Plain instr) beyond = absurd (cc beyond)
 longer places at (Label l) beyond = absurd (cc beyond)
 longer places at (Jump l) beyond = absurd (cc beyond)
-longer places at (JumpIfZero register l) beyond = absurd (cc beyond)
-longer places at (BranchIfZero register l) beyond =
-    subst (λ b. 4 < size_of (if b then BranchIfZero register l else JumpIfZero register l)) (sym beyond) (omega arith)
+longer places at (JumpUnless comparison l) beyond = absurd (cc beyond)
+longer places at (BranchUnless comparison l) beyond =
+    subst (λ b. 4 < size_of (if b then BranchUnless comparison l else JumpUnless comparison l)) (sym beyond) (omega arith)
 longer places at (CallTo l) beyond = absurd (cc beyond)
 
 none_shorter : (places : ℕ → ℕ) (at : ℕ) (lines : List Line) → code_length lines ≤ code_length (lengthened places at lines)
@@ -116,12 +117,12 @@ same_said places at true line few = refl
 same_said places at false (Plain instr) few = refl
 same_said places at false (Label l) few = refl
 same_said places at false (Jump l) few = refl
-same_said places at false (JumpIfZero register l) few = by (is_in_reach (places l) at) few
+same_said places at false (JumpUnless comparison l) few = by (is_in_reach (places l) at) few
   where
-    by : (in_reach : Bool) → size_of (shorten (not in_reach) (JumpIfZero register l)) ≤ 4 → not in_reach ≡ false
+    by : (in_reach : Bool) → size_of (shorten (not in_reach) (JumpUnless comparison l)) ≤ 4 → not in_reach ≡ false
     by true few = refl
     by false few = absurd (omega (arith, few))
-same_said places at false (BranchIfZero register l) few = refl
+same_said places at false (BranchUnless comparison l) few = refl
 same_said places at false (CallTo l) few = refl
 
 -- and all where the code isn't

@@ -1,10 +1,10 @@
--- What lines keep where jumps on zero become branches alone: their labels, their first jump, and that there is code.
+-- What lines keep where conditional jumps become branches alone: their labels, their first jump, and that there is code.
 use Rattle.std.proofs.Common.{◌≡◌, ℕ, ◌+◌, ◌<◌, ◌≤◌, Bool, true, false, nat_eq, nat_lt, List, [], ◌∷◌, Option, Some, None, refl, sym, ap, subst, ◌∙◌, arith}
 use Rattle.std.specs.Prelude.{if◌then◌else◌}
 use Rattle.std.proofs.lemmas.Bool.{false≢true}
 use Rattle.std.proofs.lemmas.Bool.Decides.{nat_tests}
 use Rattle.core_lines.specs.declared.line.Line.{Line}
-use Rattle.core_lines.specs.declared.line.Line.TheVariants.{Plain, Label, Jump, JumpIfZero, BranchIfZero, CallTo}
+use Rattle.core_lines.specs.declared.line.Line.TheVariants.{Plain, Label, Jump, JumpUnless, BranchUnless, CallTo}
 use Rattle.core_lines.specs.Lines.{code_length, labels_placed}
 use Rattle.core_lines.specs.Relaxed.{place_of, shortened, wide_in, AllReach}
 use Rattle.core_lines.proofs.labels.Relaxing.{AreLong, all_reach, no_longer}
@@ -19,9 +19,9 @@ labels_short (w ∷ ws) [] = refl
 labels_short (w ∷ ws) (Plain instr ∷ lines) = labels_short ws lines
 labels_short (w ∷ ws) (Label l ∷ lines) = ap (λ labels. l ∷ labels) (labels_short ws lines)
 labels_short (w ∷ ws) (Jump l ∷ lines) = labels_short ws lines
-labels_short (true ∷ ws) (JumpIfZero register l ∷ lines) = labels_short ws lines
-labels_short (false ∷ ws) (JumpIfZero register l ∷ lines) = labels_short ws lines
-labels_short (w ∷ ws) (BranchIfZero register l ∷ lines) = labels_short ws lines
+labels_short (true ∷ ws) (JumpUnless comparison l ∷ lines) = labels_short ws lines
+labels_short (false ∷ ws) (JumpUnless comparison l ∷ lines) = labels_short ws lines
+labels_short (w ∷ ws) (BranchUnless comparison l ∷ lines) = labels_short ws lines
 labels_short (w ∷ ws) (CallTo l ∷ lines) = labels_short ws lines
 
 -- where there is code, there still is
@@ -31,9 +31,9 @@ some_short (w ∷ ws) [] some = some
 some_short (w ∷ ws) (Plain instr ∷ lines) some = omega arith
 some_short (w ∷ ws) (Label l ∷ lines) some = let rest = some_short ws lines (omega (arith, some)) in omega (arith, rest)
 some_short (w ∷ ws) (Jump l ∷ lines) some = omega arith
-some_short (true ∷ ws) (JumpIfZero register l ∷ lines) some = omega arith
-some_short (false ∷ ws) (JumpIfZero register l ∷ lines) some = omega arith
-some_short (w ∷ ws) (BranchIfZero register l ∷ lines) some = omega arith
+some_short (true ∷ ws) (JumpUnless comparison l ∷ lines) some = omega arith
+some_short (false ∷ ws) (JumpUnless comparison l ∷ lines) some = omega arith
+some_short (w ∷ ws) (BranchUnless comparison l ∷ lines) some = omega arith
 some_short (w ∷ ws) (CallTo l ∷ lines) some = omega arith
 
 same_test : (long short : ℕ) → short ≤ long → (0 < long → 0 < short) → nat_lt 0 short ≡ nat_lt 0 long
@@ -50,9 +50,9 @@ first_short (w ∷ ws) [] = refl
 first_short (w ∷ ws) (Plain instr ∷ lines) = refl
 first_short (w ∷ ws) (Label l ∷ lines) = first_short ws lines
 first_short (w ∷ ws) (Jump l ∷ lines) = refl
-first_short (true ∷ ws) (JumpIfZero register l ∷ lines) = refl
-first_short (false ∷ ws) (JumpIfZero register l ∷ lines) = refl
-first_short (w ∷ ws) (BranchIfZero register l ∷ lines) = refl
+first_short (true ∷ ws) (JumpUnless comparison l ∷ lines) = refl
+first_short (false ∷ ws) (JumpUnless comparison l ∷ lines) = refl
+first_short (w ∷ ws) (BranchUnless comparison l ∷ lines) = refl
 first_short (w ∷ ws) (CallTo l ∷ lines) = refl
 
 leads_short : (label : ℕ) (ws : List Bool) (lines : List Line) → leads_to_code label (shortened ws lines) ≡ leads_to_code label lines
@@ -63,9 +63,9 @@ leads_short label (w ∷ ws) (Label l ∷ lines) =
     ap (λ b. if nat_eq l label then b else leads_to_code label (shortened ws lines)) (same_some ws lines) ∙
     ap (λ b. if nat_eq l label then nat_lt 0 (code_length lines) else b) (leads_short label ws lines)
 leads_short label (w ∷ ws) (Jump l ∷ lines) = leads_short label ws lines
-leads_short label (true ∷ ws) (JumpIfZero register l ∷ lines) = leads_short label ws lines
-leads_short label (false ∷ ws) (JumpIfZero register l ∷ lines) = leads_short label ws lines
-leads_short label (w ∷ ws) (BranchIfZero register l ∷ lines) = leads_short label ws lines
+leads_short label (true ∷ ws) (JumpUnless comparison l ∷ lines) = leads_short label ws lines
+leads_short label (false ∷ ws) (JumpUnless comparison l ∷ lines) = leads_short label ws lines
+leads_short label (w ∷ ws) (BranchUnless comparison l ∷ lines) = leads_short label ws lines
 leads_short label (w ∷ ws) (CallTo l ∷ lines) = leads_short label ws lines
 
 leads_if_short : (target : Option ℕ) (ws : List Bool) (lines : List Line) → leads_if_some target (shortened ws lines) ≡ leads_if_some target lines
@@ -83,8 +83,8 @@ all_long [] long = tt
 all_long (Plain instr ∷ lines) long = all_long lines long
 all_long (Label l ∷ lines) long = all_long lines long
 all_long (Jump l ∷ lines) long = all_long lines long
-all_long (JumpIfZero register l ∷ lines) long = all_long lines long
-all_long (BranchIfZero register l ∷ lines) long = absurd (false≢true long)
+all_long (JumpUnless comparison l ∷ lines) long = all_long lines long
+all_long (BranchUnless comparison l ∷ lines) long = absurd (false≢true long)
 all_long (CallTo l ∷ lines) long = all_long lines long
 
 -- they can be placed, where their code is within the limit

@@ -5,7 +5,7 @@ use Rattle.rv32_isa.specs.declared.instruction.Instr.{Instr}
 use Rattle.core_lines.specs.declared.line.Line.{Line}
 use Rattle.core_lines.specs.Lines.{size_of, code_length}
 use Rattle.core_lines.specs.Relaxed.{place_of, is_in_reach, AllReach}
-use Rattle.core_lines.specs.declared.line.Line.TheVariants.{Plain, Label, Jump, JumpIfZero, BranchIfZero, CallTo}
+use Rattle.core_lines.specs.declared.line.Line.TheVariants.{Plain, Label, Jump, JumpUnless, BranchUnless, CallTo}
 use Rattle.cyc_image.specs.Format.{code_limit}
 use Rattle.rv32_select.specs.Beginning.{begins_within}
 use Rattle.rv32_layout.specs.Placed.{AreWords}
@@ -36,8 +36,8 @@ abbrev pub Reaches : (ℕ → ℕ) → ℕ → Line → Type 0
 Reaches places at (Plain instr) = Unit {0}
 Reaches places at (Label label) = Unit {0}
 Reaches places at (Jump label) = IsInReach (places label) at
-Reaches places at (JumpIfZero register label) = IsInReach (places label) (at + 4)
-Reaches places at (BranchIfZero register label) = IsInBranch (places label) at
+Reaches places at (JumpUnless comparison label) = IsInReach (places label) (at + 4)
+Reaches places at (BranchUnless comparison label) = IsInBranch (places label) at
 Reaches places at (CallTo label) = IsInReach (places label) at
 
 -- a line at an address is no branch alone, or one that reaches its label
@@ -45,8 +45,8 @@ abbrev pub reaches : (ℕ → ℕ) → ℕ → Line → Bool
 reaches places at (Plain instr) = true
 reaches places at (Label label) = true
 reaches places at (Jump label) = true
-reaches places at (JumpIfZero register label) = true
-reaches places at (BranchIfZero register label) = is_in_reach (places label) at
+reaches places at (JumpUnless comparison label) = true
+reaches places at (BranchUnless comparison label) = is_in_reach (places label) at
 reaches places at (CallTo label) = true
 
 abbrev pub all_reach : (ℕ → ℕ) → ℕ → List Line → Bool
@@ -58,9 +58,9 @@ abbrev pub lengthen : (ℕ → ℕ) → ℕ → Line → Line
 lengthen places at (Plain instr) = Plain instr
 lengthen places at (Label label) = Label label
 lengthen places at (Jump label) = Jump label
-lengthen places at (JumpIfZero register label) = JumpIfZero register label
-lengthen places at (BranchIfZero register label) =
-    (if is_in_reach (places label) at then BranchIfZero register label else JumpIfZero register label)
+lengthen places at (JumpUnless comparison label) = JumpUnless comparison label
+lengthen places at (BranchUnless comparison label) =
+    (if is_in_reach (places label) at then BranchUnless comparison label else JumpUnless comparison label)
 lengthen places at (CallTo label) = CallTo label
 
 abbrev pub lengthened : (ℕ → ℕ) → ℕ → List Line → List Line

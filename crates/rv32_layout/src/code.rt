@@ -20,13 +20,13 @@ pub struct Code {
 }
 
 /// The code of the lines, each behind those before it, with each jump and call going to where its label stands: at the
-/// first line that places it, or behind all lines where none does. A jump on zero is a branch of one word where it reaches its label,
+/// first line that places it, or behind all lines where none does. A conditional jump is a branch of one word where it reaches its label,
 /// from 4,096 bytes before it to 4,094 behind it, and else a branch over a jump: first all are of one word, then those that don't reach
 /// become two, round for round, until all reach. An `Err` is `TooLarge` only where the code so placed would be over 1,048,576 bytes, and
 /// else `Memory`.
 pub fn place(alloc: Global, labelled: &Labelled) -> Result<Code, LayoutFault>
     ensures words { IfOk result (λ code. AreInstructions code.bytes.items) }
-    // no more bytes than those of the lines with short branches, and so than their words, where a jump on zero counts as two; none only where these are none
+    // no more bytes than those of the lines with short branches, and so than their words, where a conditional jump counts as two; none only where these are none
     ensures short { IfOk result (λ code. vec_len code.bytes ≤ code_length (shortened (wide_in labelled.now.lines) labelled.now.lines)) }
     ensures length { IfOk result (λ code. vec_len code.bytes ≤ code_length labelled.now.lines) }
     ensures some { IfOk result (λ code. 0 < code_length labelled.now.lines → 0 < vec_len code.bytes) }

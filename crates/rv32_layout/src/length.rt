@@ -15,8 +15,8 @@ pub(crate) fn size(line: Line) -> u32
         Line::Plain(_) => 4,
         Line::Label(_) => 0,
         Line::Jump(_) => 4,
-        Line::JumpIfZero(_, _) => 8,
-        Line::BranchIfZero(_, _) => 4,
+        Line::JumpUnless(_, _) => 8,
+        Line::BranchUnless(_, _) => 4,
         Line::CallTo(_) => 4,
     }
 }

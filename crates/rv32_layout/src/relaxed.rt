@@ -1,4 +1,4 @@
-// Which jumps on zero are branches alone.
+// Which conditional jumps are branches alone.
 
 ghost use Rattle.std.specs.Prelude.{◌≡◌, ◌<◌, ◌≤◌, Err, IfOk, false};
 ghost use Rattle.cyc_image.specs.Format.{code_limit};
@@ -33,21 +33,21 @@ fn is_in_reach(place: u32, at: u32) -> bool
     u64::from(at) <= u64::from(place) + BEHIND && u64::from(place) <= u64::from(at) + AHEAD
 }
 
-/// A jump on zero as a branch alone, and each other line as it is.
+/// A conditional jump as a branch alone, and each other line as it is.
 fn shorten(line: Line) -> Line
     ensures { result ≡ shorten false line }
 {
     match line {
-        Line::JumpIfZero(register, label) => Line::BranchIfZero(register, label),
+        Line::JumpUnless(comparison, label) => Line::BranchUnless(comparison, label),
         Line::Plain(_)
         | Line::Label(_)
         | Line::Jump(_)
-        | Line::BranchIfZero(_, _)
+        | Line::BranchUnless(_, _)
         | Line::CallTo(_) => line,
     }
 }
 
-/// The lines, all of whose jumps on zero are branches alone.
+/// The lines, all of whose conditional jumps are branches alone.
 fn shortest(alloc: Global, lines: &[Line]) -> Result<Vec<Line>, AllocError>
     ensures { IfOk result (λ short. short.items ≡ shortened (none_wide lines.now) lines.now) }
 {
@@ -63,11 +63,11 @@ fn reaches(line: Line, places: &Places, at: u32) -> bool
     ensures { result ≡ reaches (place_in places.now) at line }
 {
     match line {
-        Line::BranchIfZero(_, label) => is_in_reach(places.of(label), at),
+        Line::BranchUnless(_, label) => is_in_reach(places.of(label), at),
         Line::Plain(_)
         | Line::Label(_)
         | Line::Jump(_)
-        | Line::JumpIfZero(_, _)
+        | Line::JumpUnless(_, _)
         | Line::CallTo(_) => true,
     }
 }
@@ -77,17 +77,17 @@ fn lengthen(line: Line, places: &Places, at: u32) -> Line
     ensures { result ≡ lengthen (place_in places.now) at line }
 {
     match line {
-        Line::BranchIfZero(register, label) => {
+        Line::BranchUnless(comparison, label) => {
             if is_in_reach(places.of(label), at) {
                 line
             } else {
-                Line::JumpIfZero(register, label)
+                Line::JumpUnless(comparison, label)
             }
         }
         Line::Plain(_)
         | Line::Label(_)
         | Line::Jump(_)
-        | Line::JumpIfZero(_, _)
+        | Line::JumpUnless(_, _)
         | Line::CallTo(_) => line,
     }
 }
@@ -121,7 +121,7 @@ fn lengthened(alloc: Global, lines: &[Line], places: &Places) -> Result<Vec<Line
     Ok(long)
 }
 
-/// The lines as they are placed: each jump on zero is a branch alone, where it reaches its label. An `Err` is `TooLarge` only where their
+/// The lines as they are placed: each conditional jump is a branch alone, where it reaches its label. An `Err` is `TooLarge` only where their
 /// code would be over the limit.
 pub(crate) fn relax(alloc: Global, labelled: &Labelled) -> Result<Relaxed, LayoutFault>
     ensures lines { IfOk result (λ relaxed. relaxed.lines.items ≡ shortened (wide_in labelled.now.lines) labelled.now.lines) }

@@ -1,7 +1,8 @@
 // The words of lines.
 
 ghost use Rattle.std.specs.Prelude.{◌≡◌, ◌+◌, ◌∷◌, [], pos, vec_len, OnOk, IfOk};
-ghost use Rattle.rv32_isa.specs.declared.instruction.Instr.TheVariants.{Jal, Beq, Bne};
+ghost use Rattle.rv32_isa.specs.declared.instruction.Instr.TheVariants.{Jal};
+ghost use Rattle.core_lines.specs.Comparisons.{inverse, branch_if};
 ghost use Rattle.cyc_image.specs.Format.{u32_bytes};
 ghost use Rattle.core_lines.specs.Lines.{code_length, offset_to, instructions_of};
 ghost use Rattle.rv32_layout.specs.Placed.{ArePlaced};
@@ -9,7 +10,7 @@ ghost use Rattle.rv32_layout.specs.Placing.{place_in, IsInReach, IsInBranch, Rea
 
 use crate::places::Places;
 use byteorder::{ByteOrder, LittleEndian};
-use core_lines::Line;
+use core_lines::{Comparison, Line};
 use rv32_isa::{BranchOffset, Instr, JumpOffset, Register, encode};
 use std::alloc::{AllocError, Global};
 
@@ -40,25 +41,33 @@ fn put_jump(bytes: &mut Vec<u8>, link: Register, place: u32) -> Result<(), Alloc
     Ok(())
 }
 
-/// Appends a jump to a place that is made where the register is 0: the opposite branch, over a jump.
+/// Appends a jump to a place that is made unless a comparison holds: a branch over a jump.
 #[tactic(auto, using(crate::proofs::Appending::branch_and_jump))]
-fn put_jump_if_zero(bytes: &mut Vec<u8>, register: Register, place: u32) -> Result<(), AllocError>
+fn put_jump_unless(
+    bytes: &mut Vec<u8>,
+    comparison: Comparison,
+    place: u32,
+) -> Result<(), AllocError>
     requires { IsInReach place (vec_len bytes.old + 4) }
-    ensures { OnOk result (Appends (Bne register 0 (pos 8) ∷ Jal 0 (offset_to place (vec_len bytes.old + 4)) ∷ []) bytes.old.items bytes.new.items) }
+    ensures { OnOk result (Appends (branch_if comparison (pos 8) ∷ Jal 0 (offset_to place (vec_len bytes.old + 4)) ∷ []) bytes.old.items bytes.new.items) }
 {
     let over_the_jump = BranchOffset::new(8);
-    put_word(bytes, Instr::Bne(register, Register::ZERO, over_the_jump))?;
+    put_word(bytes, comparison.branch(over_the_jump))?;
     put_jump(bytes, Register::ZERO, place)?;
     Ok(())
 }
 
-/// Appends a branch to a place that is made where the register is 0.
-fn put_branch_if_zero(bytes: &mut Vec<u8>, register: Register, place: u32) -> Result<(), AllocError>
+/// Appends a branch to a place that is made unless a comparison holds.
+fn put_branch_unless(
+    bytes: &mut Vec<u8>,
+    comparison: Comparison,
+    place: u32,
+) -> Result<(), AllocError>
     requires { IsInBranch place (vec_len bytes.old) }
-    ensures { OnOk result (Appends (Beq register 0 (offset_to place (vec_len bytes.old)) ∷ []) bytes.old.items bytes.new.items) }
+    ensures { OnOk result (Appends (branch_if (inverse comparison) (offset_to place (vec_len bytes.old)) ∷ []) bytes.old.items bytes.new.items) }
 {
     let offset = BranchOffset::new(place as i32 - bytes.len() as i32);
-    put_word(bytes, Instr::Beq(register, Register::ZERO, offset))?;
+    put_word(bytes, comparison.inverse().branch(offset))?;
     Ok(())
 }
 
@@ -71,12 +80,12 @@ fn put_line(bytes: &mut Vec<u8>, line: Line, places: &Places) -> Result<(), Allo
         Line::Plain(instr) => put_word(bytes, instr)?,
         Line::Label(_) => {}
         Line::Jump(label) => put_jump(bytes, Register::ZERO, places.of(label))?,
-        Line::JumpIfZero(register, label) => put_jump_if_zero(bytes, register, places.of(label))?,
-        Line::BranchIfZero(register, label) => put_branch_if_zero(
-            bytes,
-            register,
-            places.of(label),
-        )?,
+        Line::JumpUnless(comparison, label) => {
+            put_jump_unless(bytes, comparison, places.of(label))?;
+        }
+        Line::BranchUnless(comparison, label) => {
+            put_branch_unless(bytes, comparison, places.of(label))?;
+        }
         Line::CallTo(label) => put_jump(bytes, Register::RETURN_ADDRESS, places.of(label))?,
     }
     Ok(())

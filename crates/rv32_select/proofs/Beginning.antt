@@ -5,7 +5,7 @@ use Rattle.std.proofs.lemmas.Bool.{false≢true}
 use Rattle.std.proofs.lemmas.Bool.Decides.{nat_tests}
 use Rattle.core_meaning.specs.Core.{Function, Program}
 use Rattle.core_lines.specs.declared.line.Line.{Line}
-use Rattle.core_lines.specs.declared.line.Line.TheVariants.{Plain, Label, Jump, JumpIfZero, BranchIfZero, CallTo}
+use Rattle.core_lines.specs.declared.line.Line.TheVariants.{Plain, Label, Jump, JumpUnless, BranchUnless, CallTo}
 use Rattle.core_lines.specs.Lines.{code_length}
 use Rattle.core_lines.specs.Frames.{environment_code, epilogue_code}
 use Rattle.core_lines.specs.Homes.{saved_by, saved_slot}
@@ -24,8 +24,8 @@ has_code [] label leads = absurd (false≢true leads)
 has_code (Plain instr ∷ lines) label leads = omega arith
 has_code (Label l ∷ lines) label leads = let rest = has_code lines label in grind (arith, nat_tests)
 has_code (Jump l ∷ lines) label leads = omega arith
-has_code (JumpIfZero register l ∷ lines) label leads = omega arith
-has_code (BranchIfZero register l ∷ lines) label leads = omega arith
+has_code (JumpUnless comparison l ∷ lines) label leads = omega arith
+has_code (BranchUnless comparison l ∷ lines) label leads = omega arith
 has_code (CallTo l ∷ lines) label leads = omega arith
 
 behind_others : (first second : List Line) (label : ℕ) → leads_to_code label second ≡ true → leads_to_code label (first ++ second) ≡ true
@@ -36,8 +36,8 @@ behind_others (Label l ∷ first) second label leads =
     let some = has_code (first ++ second) label rest in
     grind (arith, nat_tests)
 behind_others (Jump l ∷ first) second label leads = behind_others first second label leads
-behind_others (JumpIfZero register l ∷ first) second label leads = behind_others first second label leads
-behind_others (BranchIfZero register l ∷ first) second label leads = behind_others first second label leads
+behind_others (JumpUnless comparison l ∷ first) second label leads = behind_others first second label leads
+behind_others (BranchUnless comparison l ∷ first) second label leads = behind_others first second label leads
 behind_others (CallTo l ∷ first) second label leads = behind_others first second label leads
 
 -- ---- functions

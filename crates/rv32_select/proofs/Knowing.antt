@@ -5,7 +5,8 @@ use Rattle.std.proofs.lemmas.Bool.{ne_eqb}
 use Rattle.core_lines.specs.Held as lines
 use Rattle.core_lines.specs.Held.{source_of, some_source, is_in, without_register, without_temporary}
 use Rattle.core_lines.specs.Held.{with_moved, with_source, with_result, with_taken, with_local, without_local, is_zero, with_applied}
-use Rattle.core_lines.specs.Held.{number_in, with_narrowed}
+use Rattle.core_lines.specs.Held.{number_in, with_narrowed, register_in, with_computed}
+use Rattle.core_lines.specs.declared.comparison.Comparison.{Comparison}
 use Rattle.rv32_select.specs.declared.held.Holding.{Holding}
 use Rattle.rv32_select.specs.Known.{source_tree, holding_tree}
 
@@ -63,12 +64,13 @@ module _ (hs : List lines.Holding) where
   narrowed_some t w known after is e = e ∙ ap (λ k. with_narrowed t k hs) is
 
   -- by which of two words their sum is
-  pub applied_none : (t : ℕ) (same : Option ℕ) (after : List lines.Holding) → None ≡ same → after ≡ with_result t hs → after ≡ with_applied t same hs
-  applied_none t same after is e = e ∙ ap (λ k. with_applied t k hs) is
+  pub applied_none : (t : ℕ) (same : Option ℕ) (compared : Option Comparison) (after : List lines.Holding) → None ≡ same
+      → after ≡ with_computed t compared hs → after ≡ with_applied t same compared hs
+  applied_none t same compared after is e = e ∙ ap (λ k. with_applied t k compared hs) is
 
-  pub applied_some : (t z : ℕ) (same : Option ℕ) (after : List lines.Holding) → Some z ≡ same → after ≡ with_moved t (source_of hs z) hs
-      → after ≡ with_applied t same hs
-  applied_some t z same after is e = e ∙ ap (λ k. with_applied t k hs) is
+  pub applied_some : (t z : ℕ) (same : Option ℕ) (compared : Option Comparison) (after : List lines.Holding) → Some z ≡ same
+      → after ≡ with_moved t (source_of hs z) hs → after ≡ with_applied t same compared hs
+  applied_some t z same compared after is e = e ∙ ap (λ k. with_applied t k compared hs) is
 
   -- one parameter more
   pub taken_more : (k n : ℕ) → k < n → with_taken (k + 1) (n - (k + 1)) (with_result k hs) ≡ with_taken k (n - k) hs
@@ -88,6 +90,9 @@ number_number w s is = ap number_in is
 pub number_register : (r : ℕ) (s : Option lines.Source) → Some (lines.Register r) ≡ s → None ≡ number_in s
 number_register r s is = ap number_in is
 
+pub number_compared : (c : Comparison) (s : Option lines.Source) → Some (lines.Compared c) ≡ s → None ≡ number_in s
+number_compared c s is = ap number_in is
+
 pub number_none : (s : Option lines.Source) → None ≡ s → None ≡ number_in s
 number_none s is = ap number_in is
 
@@ -97,5 +102,17 @@ zero_number w s b is e = e ∙ zero_is w ∙ ap is_zero is
 pub zero_register : (r : ℕ) (s : Option lines.Source) → Some (lines.Register r) ≡ s → false ≡ is_zero s
 zero_register r s is = ap is_zero is
 
+pub zero_compared : (c : Comparison) (s : Option lines.Source) → Some (lines.Compared c) ≡ s → false ≡ is_zero s
+zero_compared c s is = ap is_zero is
+
 pub zero_none : (s : Option lines.Source) → None ≡ s → false ≡ is_zero s
 zero_none s is = ap is_zero is
+
+-- the register that has a number's word
+pub in_none : (w : ℕ) (s : Option lines.Source) → Some (lines.Number w) ≡ s → w ≡ 0 → Some 0 ≡ register_in s
+in_none zero s is none = ap register_in is
+in_none (suc w) s is none = absurd (omega (arith, none))
+
+pub number_else : (w : ℕ) (s : Option lines.Source) → Some (lines.Number w) ≡ s → (w ≡ 0 → ⊥) → None ≡ register_in s
+number_else zero s is some = absurd (some refl)
+number_else (suc w) s is some = ap register_in is

@@ -1,4 +1,4 @@
--- In the lines of a program in which each label may be out of a branch's reach, no jump on zero is a branch alone.
+-- In the lines of a program in which each label may be out of a branch's reach, no conditional jump is a branch alone.
 use Rattle.std.proofs.Common.{◌≡◌, ℕ, ◌+◌, Bool, true, false, List, [], ◌∷◌, ◌++◌, length, refl, sym, subst}
 use Rattle.std.specs.Prelude.{Option, Some, None, drop, if◌then◌else◌}
 use Rattle.std.proofs.lemmas.Bool.{false≢true}
@@ -21,12 +21,12 @@ use Rattle.core_meaning.specs.Core.{
   Program,
 }
 use Rattle.core_lines.specs.declared.line.Line.{Line}
-use Rattle.core_lines.specs.declared.line.Line.TheVariants.{Plain, Label, Jump, JumpIfZero, BranchIfZero, CallTo}
+use Rattle.core_lines.specs.declared.line.Line.TheVariants.{Plain, Label, Jump, JumpUnless, BranchUnless, CallTo}
 use Rattle.core_lines.specs.Relaxed.{targets}
 use Rattle.core_lines.specs.Frames.{epilogue_code}
 use Rattle.core_lines.specs.Homes.{saved_by, saved_slot, flag_at}
 use Rattle.core_lines.specs.Held.{Holding, held_behind, held_behind_all}
-use Rattle.core_lines.specs.Operands.{operand_in, operand_code, call_code, return_code, prologue_code}
+use Rattle.core_lines.specs.Operands.{test_in, test_ready, call_code, return_code, prologue_code}
 use Rattle.core_lines.specs.Checks.{Failure, check_of, check_code, checked_code}
 use Rattle.core_lines.specs.Choosing.{far, choice_code, between_code, behind_code}
 use Rattle.core_lines.specs.Completing.{can_complete, can_complete_all, ends_in_return_all}
@@ -35,7 +35,7 @@ use Rattle.core_lines.specs.Selected.{Surroundings, operation_code, labels_in, l
 use Rattle.core_lines.specs.Selected.{within_block, statement_code, statements_code, frame_bytes, around, ended_code, function_code, functions_code}
 use Rattle.core_lines.specs.Selected.{program_code}
 use Rattle.core_lines.specs.Selected.{offsets_from, datum_locals}
-use Rattle.core_lines.proofs.labels.NoTargets.{check_none, operation_none, operand_none, between_none, behind_none, call_none, return_none}
+use Rattle.core_lines.proofs.labels.NoTargets.{check_none, operation_none, test_none, between_none, behind_none, call_none, return_none}
 use Rattle.core_lines.proofs.labels.NoTargets.{prologue_none, epilogue_none}
 use Rattle.core_lines.proofs.Returning.{statements_jump_last, ended}
 use Rattle.rv32_select.specs.Beginning.{are_long}
@@ -45,8 +45,8 @@ both [] second a b = b
 both (Plain instr ∷ first) second a b = both first second a b
 both (Label label ∷ first) second a b = both first second a b
 both (Jump label ∷ first) second a b = both first second a b
-both (JumpIfZero register label ∷ first) second a b = both first second a b
-both (BranchIfZero register label ∷ first) second a b = absurd (false≢true a)
+both (JumpUnless comparison label ∷ first) second a b = both first second a b
+both (BranchUnless comparison label ∷ first) second a b = absurd (false≢true a)
 both (CallTo label ∷ first) second a b = both first second a b
 
 first_long : (first second : List Line) → are_long (first ++ second) ≡ true → are_long first ≡ true
@@ -54,8 +54,8 @@ first_long [] second is = refl
 first_long (Plain instr ∷ first) second is = first_long first second is
 first_long (Label label ∷ first) second is = first_long first second is
 first_long (Jump label ∷ first) second is = first_long first second is
-first_long (JumpIfZero register label ∷ first) second is = first_long first second is
-first_long (BranchIfZero register label ∷ first) second is = is
+first_long (JumpUnless comparison label ∷ first) second is = first_long first second is
+first_long (BranchUnless comparison label ∷ first) second is = is
 first_long (CallTo label ∷ first) second is = first_long first second is
 
 three : (a b c : List Line) → are_long a ≡ true → are_long b ≡ true → are_long c ≡ true → are_long (a ++ b ++ c) ≡ true
@@ -65,21 +65,21 @@ five : (a b c d e : List Line) → are_long a ≡ true → are_long b ≡ true �
     → are_long (a ++ b ++ c ++ d ++ e) ≡ true
 five a b c d e p q r s t = three (a ++ b ++ c) d e (three a b c p q r) s t
 
--- a branch alone is a jump on zero
+-- a branch alone is a conditional jump
 none_long : (lines : List Line) → targets lines ≡ [] → are_long lines ≡ true
 none_long [] none = refl
 none_long (Plain instr ∷ lines) none = none_long lines none
 none_long (Label label ∷ lines) none = none_long lines none
 none_long (Jump label ∷ lines) none = none_long lines none
-none_long (JumpIfZero register label ∷ lines) none = absurd cc
-none_long (BranchIfZero register label ∷ lines) none = absurd cc
+none_long (JumpUnless comparison label ∷ lines) none = absurd cc
+none_long (BranchUnless comparison label ∷ lines) none = absurd cc
 none_long (CallTo label ∷ lines) none = none_long lines none
 
 choice_long : (wide : ℕ → Bool) (passed : ℕ) (hs : List Holding) (t label : ℕ) → wide ≡ far → are_long (choice_code wide passed hs t label) ≡ true
 choice_long wide passed hs t label all =
-    let operand = operand_code passed hs 5 t in
+    let ready = test_ready passed hs 5 t in
     subst (λ w. are_long (choice_code w passed hs t label) ≡ true) (sym all)
-    (both operand (JumpIfZero (operand_in hs 5 t) label ∷ []) (none_long operand (operand_none passed hs 5 t)) refl)
+    (both ready (JumpUnless (test_in hs 5 t) label ∷ []) (none_long ready (test_none passed hs 5 t)) refl)
 
 if_long : (reached : Bool) (lines : List Line) → are_long lines ≡ true → are_long (if reached then lines else []) ≡ true
 if_long true lines is = is

@@ -6,13 +6,13 @@ ghost use Rattle.core_lines.specs.Checks.{kind_of, kind_in, either_failure, fail
 ghost use Rattle.core_lines.specs.Frames.{kind_number, raise_code};
 ghost use Rattle.core_lines.specs.Lines.{code_length};
 ghost use Rattle.cyc_core.specs.Trees.{statement_tree, body_tree};
-ghost use Rattle.rv32_isa.specs.declared.instruction.Instr.TheVariants.{Bne};
+ghost use Rattle.core_lines.specs.Comparisons.{branch_if};
 ghost use Rattle.rv32_select.specs.Failures.{failure_tree, labels_kept};
 
 use crate::emit::{FIRST, put, put_environment, put_lines};
-use crate::operands::put_operand;
+use crate::operands::put_test;
 use crate::place::Place;
-use core_lines::Line;
+use core_lines::{Comparison, Line};
 use cyc_core::{Statement, Temporary};
 use cyc_words::Kind;
 use rv32_isa::{BranchOffset, Instr, Register, Signed12};
@@ -136,9 +136,9 @@ fn put_failure(lines: &mut Vec<Line>, place: &Place, failure: Failure) -> Result
     match failure {
         Failure::Always(kind) => put_raise(lines, kind),
         Failure::ByTest(test, first, second) => {
-            let register = put_operand(lines, place, FIRST, test)?;
+            let comparison = put_test(lines, place, FIRST, test)?;
             let over = BranchOffset::new(16);
-            put(lines, Instr::Beq(register, Register::ZERO, over))?;
+            put(lines, comparison.inverse().branch(over))?;
             put_raise(lines, first)?;
             put_raise(lines, second)
         }
@@ -154,14 +154,18 @@ fn failure_lines(place: &Place, failure: Failure) -> Result<Vec<Line>, AllocErro
     Ok(lines)
 }
 
-/// Appends a branch over instructions, made where a register isn't 0, and the instructions.
-fn put_over(lines: &mut Vec<Line>, register: Register, skipped: &[Line]) -> Result<(), AllocError>
+/// Appends a branch over instructions, made where a comparison holds, and the instructions.
+fn put_over(
+    lines: &mut Vec<Line>,
+    comparison: Comparison,
+    skipped: &[Line],
+) -> Result<(), AllocError>
     requires few { length skipped.now ≤ 10 }
     requires instructions { code_length skipped.now ≡ 4 * length skipped.now }
-    ensures { OnOk result (lines.new.items ≡ lines.old.items ++ (Plain (Bne register 0 (pos (4 + code_length skipped.now))) ∷ skipped.now)) }
+    ensures { OnOk result (lines.new.items ≡ lines.old.items ++ (Plain (branch_if comparison (pos (4 + code_length skipped.now))) ∷ skipped.now)) }
 {
     let over = BranchOffset::new(4 + 4 * skipped.len() as i32);
-    put(lines, Instr::Bne(register, Register::ZERO, over))?;
+    put(lines, comparison.branch(over))?;
     put_lines(lines, skipped)
 }
 
@@ -175,8 +179,8 @@ fn put_check(
     ensures { OnOk result (lines.new.items ≡ lines.old.items ++ check_code place.now.passed place.now.held test.0 (failure_tree failure)) }
 {
     let raising = failure_lines(place, failure)?;
-    let register = put_operand(lines, place, FIRST, test)?;
-    put_over(lines, register, &raising)
+    let comparison = put_test(lines, place, FIRST, test)?;
+    put_over(lines, comparison, &raising)
 }
 
 /// Appends a check. Answers the next free label.

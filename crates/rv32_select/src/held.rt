@@ -5,10 +5,12 @@ ghost use Rattle.core_lines.specs.Held.{some_source, source_of, is_in, without_r
 ghost use Rattle.core_lines.specs.Held.{Register as in_register};
 ghost use Rattle.core_lines.specs.Held.{result_register, with_result, with_taken, with_moved, with_local, without_local, with_results};
 ghost use Rattle.core_lines.specs.Held.{number_in, with_narrowed, is_zero, same_as, with_applied};
+ghost use Rattle.core_lines.specs.Held.{register_in, compared_by, comparison_of, with_computed};
 ghost use Rattle.core_meaning.specs.Core.{Add};
 ghost use Rattle.cyc_core.specs.Trees.{binary_tree, optional_tree, temporary_tree};
-ghost use Rattle.rv32_select.specs.Known.{source_tree, holding_tree};
+ghost use Rattle.rv32_select.specs.Known.{source_tree, holding_tree, keeper_tree};
 
+use core_lines::{Comparison, Condition};
 use cyc_core::{Binary, Temporary, Words};
 use rv32_isa::Register;
 use std::alloc::{AllocError, Global};
@@ -21,6 +23,8 @@ pub enum Source {
     Register(Register),
     /// It is this number, which code can make again.
     Number(u64),
+    /// It is 1 where the comparison holds, and else 0, which code can make again.
+    Compared(Comparison),
 }
 
 impl Source {
@@ -31,6 +35,10 @@ impl Source {
         match self {
             Source::Register(other) => other.number() == register.number(),
             Source::Number(_) => false,
+            Source::Compared(comparison) => {
+                comparison.left.number() == register.number()
+                    || comparison.right.number() == register.number()
+            }
         }
     }
 
@@ -41,6 +49,7 @@ impl Source {
         match self {
             Source::Register(register) => some_register(register),
             Source::Number(word) => Some(Source::Number(word)),
+            Source::Compared(comparison) => Some(Source::Compared(comparison)),
         }
     }
 }
@@ -53,6 +62,51 @@ fn some_register(register: Register) -> Option<Source>
         None
     } else {
         Some(Source::Register(register))
+    }
+}
+
+/// Which register has a word, if one has.
+#[derive(Clone, Copy)]
+enum Keeper {
+    In(Register),
+    Nowhere,
+}
+
+/// The register that has a word, if one has: x0 if it is known to be 0.
+#[tactic(auto, using(crate::proofs::Knowing::in_none, crate::proofs::Knowing::number_else))]
+fn keeper_of(source: Option<Source>) -> Keeper
+    ensures { keeper_tree result ≡ register_in (option_map source_tree source) }
+{
+    match source {
+        Some(source) => match source {
+            Source::Register(register) => Keeper::In(register),
+            Source::Number(word) => {
+                if word == 0 {
+                    Keeper::In(Register::ZERO)
+                } else {
+                    Keeper::Nowhere
+                }
+            }
+            Source::Compared(_) => Keeper::Nowhere,
+        },
+        None => Keeper::Nowhere,
+    }
+}
+
+/// A comparison of the words of two registers, if registers have both.
+fn compared(condition: Condition, left: Keeper, right: Keeper) -> Option<Comparison>
+    ensures { result ≡ compared_by condition (keeper_tree left) (keeper_tree right) }
+{
+    match left {
+        Keeper::In(left) => match right {
+            Keeper::In(right) => Some(Comparison {
+                condition,
+                left,
+                right,
+            }),
+            Keeper::Nowhere => None,
+        },
+        Keeper::Nowhere => None,
     }
 }
 
@@ -187,13 +241,14 @@ impl Known {
     }
 
     /// The number that a temporary's word is known to be.
-    #[tactic(auto, using(crate::proofs::Knowing::number_number, crate::proofs::Knowing::number_register, crate::proofs::Knowing::number_none))]
+    #[tactic(auto, using(crate::proofs::Knowing::number_number, crate::proofs::Knowing::number_register, crate::proofs::Knowing::number_compared, crate::proofs::Knowing::number_none))]
     pub fn number(&self, temporary: Temporary) -> Option<u64>
         ensures { result ≡ number_in (source_of self.now temporary.0) }
     {
         match self.source(temporary) {
             Some(Source::Number(word)) => Some(word),
             Some(Source::Register(_)) => None,
+            Some(Source::Compared(_)) => None,
             None => None,
         }
     }
@@ -210,13 +265,14 @@ impl Known {
     }
 
     /// Whether a temporary's word is known to be 0.
-    #[tactic(auto, using(crate::proofs::Knowing::zero_number, crate::proofs::Knowing::zero_register, crate::proofs::Knowing::zero_none))]
+    #[tactic(auto, using(crate::proofs::Knowing::zero_number, crate::proofs::Knowing::zero_register, crate::proofs::Knowing::zero_compared, crate::proofs::Knowing::zero_none))]
     fn is_zero(&self, temporary: Temporary) -> bool
         ensures { result ≡ is_zero (source_of self.now temporary.0) }
     {
         match self.source(temporary) {
             Some(Source::Number(word)) => word == 0,
             Some(Source::Register(_)) => false,
+            Some(Source::Compared(_)) => false,
             None => false,
         }
     }
@@ -246,6 +302,48 @@ impl Known {
         }
     }
 
+    /// The register that has a temporary's word, if one has.
+    fn keeper(&self, temporary: Temporary) -> Keeper
+        ensures { keeper_tree result ≡ register_in (source_of self.now temporary.0) }
+    {
+        keeper_of(self.source(temporary))
+    }
+
+    /// The comparison that an operation on two temporaries is, if registers have their words.
+    pub fn comparison(
+        &self,
+        operation: Binary,
+        left: Temporary,
+        right: Temporary,
+    ) -> Option<Comparison>
+        ensures { result ≡ comparison_of (binary_tree operation) (source_of self.now left.0) (source_of self.now right.0) }
+    {
+        let (first, second) = (self.keeper(left), self.keeper(right));
+        match operation {
+            Binary::Equal => compared(Condition::Equal, first, second),
+            Binary::NotEqual => compared(Condition::NotEqual, first, second),
+            Binary::Less => compared(Condition::Less, first, second),
+            Binary::LessEqual => compared(Condition::NotLess, second, first),
+            Binary::LessUnsigned => compared(Condition::LessUnsigned, first, second),
+            Binary::LessEqualUnsigned => compared(Condition::NotLessUnsigned, second, first),
+            _ => None,
+        }
+    }
+
+    /// A temporary gets what an operation on two gives, which may be a comparison.
+    fn hold_computed(
+        &mut self,
+        temporary: Temporary,
+        comparison: Option<Comparison>,
+    ) -> Result<(), AllocError>
+        ensures { OnOk result (self.new ≡ with_computed temporary.0 comparison self.old) }
+    {
+        match comparison {
+            Some(comparison) => self.hold(temporary, Source::Compared(comparison)),
+            None => self.hold_result(temporary),
+        }
+    }
+
     /// A temporary gets what an operation on two gives.
     #[tactic(auto, using(crate::proofs::Knowing::applied_some, crate::proofs::Knowing::applied_none))]
     pub fn hold_applied(
@@ -256,11 +354,13 @@ impl Known {
         right: Temporary,
     ) -> Result<(), AllocError>
         ensures { OnOk result (self.new ≡ with_applied temporary.0
-            (same_as (binary_tree operation) left.0 right.0 (source_of self.old left.0) (source_of self.old right.0)) self.old) }
+            (same_as (binary_tree operation) left.0 right.0 (source_of self.old left.0) (source_of self.old right.0))
+            (comparison_of (binary_tree operation) (source_of self.old left.0) (source_of self.old right.0)) self.old) }
     {
+        let comparison = self.comparison(operation, left, right);
         match self.same_as(operation, left, right) {
             Some(same) => self.hold_moved(temporary, same),
-            None => self.hold_result(temporary),
+            None => self.hold_computed(temporary, comparison),
         }
     }
 

@@ -1,6 +1,6 @@
 // Operations whose second word is a number that an instruction has room for.
 
-ghost use Rattle.std.specs.Prelude.{◌≡◌, ◌<◌, ◌^◌, true, [], ◌∷◌, option_map};
+ghost use Rattle.std.specs.Prelude.{◌≡◌, ◌<◌, ◌^◌, ◌++◌, true, [], ◌∷◌, option_map, OnOk};
 ghost use Rattle.core_lines.specs.declared.line.Line.TheVariants.{Plain};
 ghost use Rattle.core_lines.specs.Selected.{short_code, turned, difference_code, immediate_code};
 ghost use Rattle.core_meaning.specs.Core.{Equal, NotEqual};
@@ -8,9 +8,11 @@ ghost use Rattle.cyc_core.specs.Trees.{binary_tree};
 ghost use Rattle.rv32_isa.specs.declared.instruction.Instr.TheVariants as instr;
 ghost use Rattle.rv32_select.specs.Immediates.{instruction_lines, is_shift};
 
-use crate::emit::{is_short, lower};
+use crate::emit::{is_short, lower, put, put_two};
+use core_lines::Line;
 use cyc_core::Binary;
 use rv32_isa::{Instr, Register, ShiftAmount, Signed12};
+use std::alloc::AllocError;
 
 /// One instruction or two.
 #[derive(Clone, Copy)]
@@ -19,6 +21,16 @@ pub enum Instructions {
     One(Instr),
     /// Two, one after the other.
     Two(Instr, Instr),
+}
+
+/// Appends one instruction or two.
+pub fn put_instructions(lines: &mut Vec<Line>, instructions: Instructions) -> Result<(), AllocError>
+    ensures { OnOk result (lines.new.items ≡ lines.old.items ++ instruction_lines instructions) }
+{
+    match instructions {
+        Instructions::One(first) => put(lines, first),
+        Instructions::Two(first, second) => put_two(lines, first, second),
+    }
 }
 
 /// Instructions, where a number is short.

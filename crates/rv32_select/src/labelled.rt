@@ -7,7 +7,7 @@ use core_lines::Line;
 use std::marker::Model;
 
 /// Code with labels: where its first instruction is a jump or a call, an instruction stands behind the label that it goes to. Which of
-/// its jumps on zero are branches alone isn't chosen yet: none is.
+/// its conditional jumps are branches alone isn't chosen yet: none is.
 /// A contract sees it as the list of its lines, and of its functions' homes.
 #[derive(Drop)]
 pub struct Labelled {
@@ -74,7 +74,7 @@ fn first_target(lines: &[Line]) -> Option<usize>
         match line {
             Line::Label(_) => {}
             Line::Jump(label) | Line::CallTo(label) => return Some(*label),
-            Line::Plain(_) | Line::JumpIfZero(_, _) | Line::BranchIfZero(_, _) => return None,
+            Line::Plain(_) | Line::JumpUnless(_, _) | Line::BranchUnless(_, _) => return None,
         }
     }
     None
@@ -108,12 +108,12 @@ fn begins_within(lines: &[Line]) -> bool
     }
 }
 
-/// Whether no jump on zero is a branch alone.
+/// Whether no conditional jump is a branch alone.
 fn are_long(lines: &[Line]) -> bool
     ensures { result ≡ are_long lines.now }
 {
     'each: for line in lines {
-        if let Line::BranchIfZero(_, _) = line {
+        if let Line::BranchUnless(_, _) = line {
             return false;
         }
     }

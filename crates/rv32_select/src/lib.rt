@@ -15,6 +15,7 @@
 mod behind;
 mod calls;
 mod checks;
+mod comparing;
 mod completing;
 mod emit;
 mod flags;

@@ -2,14 +2,15 @@
 
 ghost use Rattle.std.specs.Prelude.{◌≡◌, ◌++◌, IfOk, OnOk};
 ghost use Rattle.core_lines.specs.Held.{result_register, source_of};
-ghost use Rattle.core_lines.specs.Operands.{into_code, keep_code, number_kept, move_kept};
+ghost use Rattle.core_lines.specs.Operands.{into_code, keep_code, number_kept, verdict_kept, move_kept, test_in, test_ready};
 ghost use Rattle.core_lines.specs.Selected.{from_temp, to_temp, operand, has_operand, keep_result};
 ghost use Rattle.rv32_select.specs.Places.{surroundings};
 
+use crate::comparing::{is_some, put_verdict};
 use crate::emit::{FIRST, put_copied, put_load, put_number, put_save};
 use crate::held::{Source, result_register};
 use crate::place::Place;
-use core_lines::Line;
+use core_lines::{Comparison, Line};
 use cyc_core::Temporary;
 use rv32_isa::Register;
 use std::alloc::AllocError;
@@ -55,10 +56,40 @@ pub fn put_operand(
                 put_number(lines, spare, word)?;
                 Ok(spare)
             }
+            Source::Compared(comparison) => {
+                put_verdict(lines, spare, comparison)?;
+                Ok(spare)
+            }
         },
         None => {
             put_from(lines, place, spare, from)?;
             Ok(spare)
+        }
+    }
+}
+
+/// Appends what stands before a branch that tests whether a temporary's word isn't 0. Answers what the branch compares.
+pub fn put_test(
+    lines: &mut Vec<Line>,
+    place: &Place,
+    spare: Register,
+    from: Temporary,
+) -> Result<Comparison, AllocError>
+    ensures code { OnOk result (lines.new.items ≡ lines.old.items ++ test_ready place.now.passed place.now.held spare from.0) }
+    ensures compared { IfOk result (λ comparison. comparison ≡ test_in place.now.held spare from.0) }
+{
+    match place.held.source(from) {
+        Some(source) => match source {
+            Source::Register(register) => Ok(is_some(register)),
+            Source::Number(word) => {
+                put_number(lines, spare, word)?;
+                Ok(is_some(spare))
+            }
+            Source::Compared(comparison) => Ok(comparison),
+        },
+        None => {
+            put_from(lines, place, spare, from)?;
+            Ok(is_some(spare))
         }
     }
 }
@@ -76,6 +107,7 @@ pub fn put_into(
         Some(source) => match source {
             Source::Register(register) => put_copied(lines, to, register),
             Source::Number(word) => put_number(lines, to, word),
+            Source::Compared(comparison) => put_verdict(lines, to, comparison),
         },
         None => put_from(lines, place, to, from),
     }
@@ -128,6 +160,24 @@ pub fn put_number_kept(
     }
 }
 
+/// Appends the save of a comparison's verdict into a temporary's slot, if it is to be saved.
+pub fn put_verdict_kept(
+    lines: &mut Vec<Line>,
+    place: &Place,
+    keeps: bool,
+    to: Temporary,
+    comparison: Comparison,
+) -> Result<(), AllocError>
+    ensures { OnOk result (lines.new.items ≡ lines.old.items ++ verdict_kept keeps place.now.passed to.0 comparison) }
+{
+    if keeps {
+        put_verdict(lines, FIRST, comparison)?;
+        put_to(lines, place, FIRST, to)
+    } else {
+        Ok(())
+    }
+}
+
 /// Appends what gives a temporary the word of another one.
 pub fn put_moved(
     lines: &mut Vec<Line>,
@@ -143,6 +193,7 @@ pub fn put_moved(
         Some(source) => match source {
             Source::Register(register) => put_kept(lines, place, keeps, register, to),
             Source::Number(word) => put_number_kept(lines, place, keeps, to, word),
+            Source::Compared(comparison) => put_verdict_kept(lines, place, keeps, to, comparison),
         },
         None => {
             put_from(lines, place, result_register(to), from)?;

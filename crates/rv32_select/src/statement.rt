@@ -19,7 +19,7 @@ use crate::calls::{hold_called, put_call, put_return};
 use crate::checks::{check_of, put_checked, put_raise};
 use crate::completing::{can_complete, can_complete_all, keep_reached};
 use crate::emit::{FIRST, put_lines};
-use crate::operands::put_operand;
+use crate::operands::put_test;
 use crate::operation::put_operation;
 use crate::place::Place;
 use crate::whole::{put_clear, put_copy, put_region_alloc, put_unique_alloc};
@@ -109,8 +109,8 @@ fn put_choice(
     ensures code { OnOk result (lines.new.items ≡ lines.old.items ++ choice_code far place.now.passed place.now.held temporary.0 label) }
     ensures next { IfOk result (λ n. n ≡ label + 1) }
 {
-    let register = put_operand(lines, place, FIRST, temporary)?;
-    put_lines(lines, &[Line::JumpIfZero(register, label)])?;
+    let comparison = put_test(lines, place, FIRST, temporary)?;
+    put_lines(lines, &[Line::JumpUnless(comparison, label)])?;
     following(label)
 }
 

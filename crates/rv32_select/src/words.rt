@@ -2,16 +2,16 @@
 
 ghost use Rattle.std.specs.Prelude.{◌≡◌, ◌++◌, OnOk, Some, None, option_map};
 ghost use Rattle.core_meaning.specs.Core as core;
-ghost use Rattle.core_lines.specs.Held.{result_register, source_of};
-ghost use Rattle.core_lines.specs.Selected.{binary_code, narrow_kept, operation_code, immediate_for, apply_code};
+ghost use Rattle.core_lines.specs.Held.{result_register, source_of, comparison_of};
+ghost use Rattle.core_lines.specs.Selected.{binary_code, narrow_kept, operation_code, immediate_for, apply_code, computed_kept};
 ghost use Rattle.cyc_core.specs.Trees.{binary_tree};
 ghost use Rattle.rv32_select.specs.Immediates.{instruction_lines, with_code};
 ghost use Rattle.rv32_select.specs.Places.{surroundings};
 
-use crate::emit::{FIRST, SECOND, put, put_two};
+use crate::emit::{FIRST, SECOND, put};
 use crate::held::{Source, result_register};
-use crate::immediates::{Instructions, immediate_of};
-use crate::operands::{put_moved, put_number_kept, put_operand, put_result};
+use crate::immediates::{Instructions, immediate_of, put_instructions};
+use crate::operands::{put_moved, put_number_kept, put_operand, put_result, put_verdict_kept};
 use crate::place::Place;
 use core_lines::Line;
 use cyc_core::{Binary, Temporary};
@@ -52,16 +52,6 @@ fn binary_instructions(
     }
 }
 
-/// Appends one instruction or two.
-fn put_instructions(lines: &mut Vec<Line>, instructions: Instructions) -> Result<(), AllocError>
-    ensures { OnOk result (lines.new.items ≡ lines.old.items ++ instruction_lines instructions) }
-{
-    match instructions {
-        Instructions::One(first) => put(lines, first),
-        Instructions::Two(first, second) => put_two(lines, first, second),
-    }
-}
-
 /// Appends an operation on the words of two registers, into one.
 pub fn put_binary(
     lines: &mut Vec<Line>,
@@ -87,7 +77,7 @@ fn immediate_for(
 {
     match place.held.source(right) {
         Some(Source::Number(number)) => immediate_of(operation, to, left, number),
-        Some(Source::Register(_)) | None => None,
+        Some(Source::Register(_)) | Some(Source::Compared(_)) | None => None,
     }
 }
 
@@ -127,6 +117,30 @@ fn put_applied(
     put_with(lines, place, operation, to, first, right)
 }
 
+/// Appends what gives a temporary what an operation on two gives, which may be a comparison of two registers: that needs no code but
+/// to be saved.
+fn put_computed(
+    lines: &mut Vec<Line>,
+    place: &Place,
+    keeps: bool,
+    operation: Binary,
+    to: Temporary,
+    left: Temporary,
+    right: Temporary,
+) -> Result<(), AllocError>
+    ensures { let u = surroundings place.now in OnOk result (lines.new.items ≡ lines.old.items
+        ++ computed_kept keeps u (binary_tree operation) to.0 left.0 right.0
+        (comparison_of (binary_tree operation) (source_of u.held left.0) (source_of u.held right.0))) }
+{
+    match place.held.comparison(operation, left, right) {
+        Some(comparison) => put_verdict_kept(lines, place, keeps, to, comparison),
+        None => {
+            put_applied(lines, place, operation, result_register(to), left, right)?;
+            put_result(lines, place, keeps, to)
+        }
+    }
+}
+
 /// Appends what gives a temporary what an operation on two gives: the word of one of them where the other one is known to be 0 and added.
 pub fn put_apply(
     lines: &mut Vec<Line>,
@@ -142,10 +156,7 @@ pub fn put_apply(
 {
     match place.held.same_as(operation, left, right) {
         Some(same) => put_moved(lines, place, keeps, to, same),
-        None => {
-            put_applied(lines, place, operation, result_register(to), left, right)?;
-            put_result(lines, place, keeps, to)
-        }
+        None => put_computed(lines, place, keeps, operation, to, left, right),
     }
 }
 

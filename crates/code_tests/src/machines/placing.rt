@@ -1,6 +1,6 @@
-// How far a jump on zero reaches as one word.
+// How far a conditional jump reaches as one word.
 
-use core_lines::Line;
+use core_lines::{Comparison, Condition, Line};
 use rv32_isa::{Instr, Register, Signed12};
 use rv32_layout::place;
 use rv32_select::Labelled;
@@ -18,10 +18,15 @@ fn put(lines: &mut Vec<Line>, instruction: Instr) -> Result<(), AllocError> {
     Ok(())
 }
 
-/// Adds a jump on zero to the label 0, or that label, and an instruction behind it.
+/// Adds a jump to the label 0, made unless a register isn't 0, or that label, and an instruction behind it.
 fn put_end(lines: &mut Vec<Line>, is_jump: bool, behind: Instr) -> Result<(), AllocError> {
     if is_jump {
-        lines.push(Line::JumpIfZero(Register::TEMPORARY_0, 0))?;
+        let comparison = Comparison {
+            condition: Condition::NotEqual,
+            left: Register::TEMPORARY_0,
+            right: Register::ZERO,
+        };
+        lines.push(Line::JumpUnless(comparison, 0))?;
     } else {
         lines.push(Line::Label(0))?;
     }

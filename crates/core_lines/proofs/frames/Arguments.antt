@@ -40,7 +40,8 @@ use Rattle.core_lines.specs.declared.line.Line.{Line}
 use Rattle.core_lines.specs.declared.line.Line.TheVariants.{CallTo}
 use Rattle.core_lines.specs.Lines.{code_length, offset_to}
 use Rattle.core_lines.specs.Frames.{save_code, slot_of}
-use Rattle.core_lines.specs.Held.{Source, Register, Number, Holding, source_of}
+use Rattle.core_lines.specs.Held.{Source, Register, Number, Compared, Holding, source_of}
+use Rattle.core_lines.specs.Comparisons.{verdict_code}
 use Rattle.core_lines.specs.Loaded.{unknown_in}
 use Rattle.core_lines.specs.Operands.{number_code, register_for, bring_code, operand_in, operand_code, pass_code}
 use Rattle.core_lines.specs.Lies.{Maps, Shows, Activation}
@@ -50,6 +51,7 @@ use Rattle.core_lines.proofs.memory.Moving.{Reach, Comes, comes_then, comes_as, 
 use Rattle.core_lines.proofs.memory.Words.{offset_joined}
 use Rattle.core_lines.proofs.Steps.{state_at, goes_to, is_in_code}
 use Rattle.core_lines.proofs.memory.Slots.{puts_number}
+use Rattle.core_lines.proofs.memory.Verdicts.{is_so, truth_few, puts_verdict}
 use Rattle.core_lines.proofs.memory.Fitting.{with_slot}
 use Rattle.core_lines.proofs.homes.Homes.{kept_stays, set_stays}
 use Rattle.core_lines.proofs.memory.Access.{Saved, behind, length_of_both, written_out, loads, saves, stands_behind}
@@ -150,6 +152,25 @@ module _ (w : World) (order : IsInOrder w) (x : Waiting) (outer : List Waiting) 
             register = 4;
             is = refl;
             holds = (subst (λ k. Shows m (x.config.temps t) k) (sym p.holds) there.0, subst (λ k. k < 2 ^ 32) (sym p.holds) there.1);
+            not7 = refl;
+            known = there_kept 4 hs x.config.temps refl m p.new s.registers p.kept known;
+          }
+      by (Some (Compared c)) e has =
+          let there = there_found hs t (Compared c) x.config.temps m s.registers known e in
+          let p = puts_verdict w order place s.registers s.bytes s.store stands.kept c 4 there.1.1 there.2.1 has in
+          let lines = verdict_code 5 c in
+          record {
+            new = p.new;
+            moves = subst (λ (q : Machine). Moves w.areas (code_length lines / 4) q (state_at (place + code_length lines) p.new s.bytes s.store))
+                (sym (written_out w order mem place m (a ∷ fs) sp s stands)) p.moves;
+            stands_on = stands_behind w order mem place m (a ∷ fs) sp s stands (place + code_length lines) p.new (behind place lines stands.aligned)
+                (kept_stays 5 p.new s.registers refl p.kept);
+            register = 4;
+            is = refl;
+            holds = (
+              subst (λ k. Shows m (x.config.temps t) k) (sym p.holds) there.0,
+              subst (λ k. k < 2 ^ 32) (sym p.holds) (truth_few (is_so c s.registers)),
+            );
             not7 = refl;
             known = there_kept 4 hs x.config.temps refl m p.new s.registers p.kept known;
           }

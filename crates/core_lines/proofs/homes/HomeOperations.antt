@@ -39,11 +39,13 @@ use Rattle.rv32_machine.specs.Step.{effect, gives}
 use Rattle.rv32_machine.specs.Audit.{AccessIsLawful}
 use Rattle.core_meaning.specs.Memory.{Content, Part, Memory, with_part}
 use Rattle.core_meaning.specs.Operations.{low_byte}
+use Rattle.core_lines.specs.declared.comparison.Comparison.{Comparison}
+use Rattle.core_lines.specs.Comparisons.{verdict_code}
 use Rattle.core_lines.specs.declared.line.Line.{Line}
 use Rattle.core_lines.specs.declared.line.Line.TheVariants.{Plain}
 use Rattle.core_lines.specs.Lines.{HasInstr, code_length}
 use Rattle.core_lines.specs.Frames.{load_code, slot_of}
-use Rattle.core_lines.specs.Held.{Source, Register, Number, Holding, source_of, without_register, with_source}
+use Rattle.core_lines.specs.Held.{Source, Register, Number, Compared, Holding, source_of, without_register, with_source}
 use Rattle.core_lines.specs.Operands.{number_code, operand_in, operand_code, fetch_code, into_code, keep_code}
 use Rattle.core_lines.specs.Homes.{is_home}
 use Rattle.core_lines.specs.Machines.{Machine, Store, state_of}
@@ -52,6 +54,7 @@ use Rattle.core_lines.proofs.memory.Relations.{Moves, World, IsInOrder, Has, Wai
 use Rattle.core_lines.proofs.memory.Moving.{Reach, Comes, comes_then, comes_as, bare}
 use Rattle.core_lines.proofs.Steps.{state_at, gives_value}
 use Rattle.core_lines.proofs.memory.Slots.{Kept, set_here, puts_number}
+use Rattle.core_lines.proofs.memory.Verdicts.{is_so, truth_few, puts_verdict}
 use Rattle.core_lines.proofs.homes.Homes.{other_home}
 use Rattle.core_lines.proofs.homes.HomeLocals.{home_stored}
 use Rattle.core_lines.proofs.memory.Storing.{low_shows}
@@ -239,12 +242,27 @@ module _ (w : World) (order : IsInOrder w) (x : Waiting) (outer : List Waiting) 
           p.kept (subst (λ q. Shows a.maps v q) (sym p.holds) here.0) (subst (λ q. q < 2 ^ 32) (sym p.holds) here.1) a.holds;
     }
 
+    from_verdict : (c : Comparison) → source_of hs y ≡ Some (Compared c) → (place : ℕ) → Has w place (verdict_code (suc r) c)
+        → Stores (verdict_code (suc r) c) place
+    from_verdict c is place has = record {
+      count = code_length (verdict_code (suc r) c) / 4;
+      by = λ s a.
+          let here = there_found hs y (Compared c) x.config.temps a.maps s.registers a.holds is in
+          let p = puts_verdict w order place s.registers s.bytes s.store a.stands.kept c r here.1.1 here.2.1 has in
+          let lines = verdict_code (suc r) c in
+          stores_home v Known place (code_length lines / 4) lines s a p.new
+          (subst (λ (t : Machine). Moves w.areas (code_length lines / 4) t (state_at (place + code_length lines) p.new s.bytes s.store))
+          (sym (written_out w order mem place a.maps (a.frame ∷ a.others) a.sp s a.stands)) p.moves)
+          p.kept (subst (λ q. Shows a.maps v q) (sym p.holds) here.0) (subst (λ q. q < 2 ^ 32) (sym p.holds) (truth_few (is_so c s.registers))) a.holds;
+    }
+
     from_source : (s : Option Source) → source_of hs y ≡ s → (place : ℕ) → Has w place (fetch_code x.fn.passed (suc r) y s)
         → Stores (fetch_code x.fn.passed (suc r) y s) place
     from_source None is place has = from_slot is place has
     from_source (Some (Register zero)) is place has = absurd (source_not_zero hs y is)
     from_source (Some (Register (suc q))) is place has = from_register q is (nat_eq (suc q) (suc r)) refl place has
     from_source (Some (Number n)) is place has = from_number n is place has
+    from_source (Some (Compared c)) is place has = from_verdict c is place has
 
     -- with what is known before and behind
     stored_as : (v : Content) (place end : ℕ) → Comes w (AtWith w x outer mem place Known) (AtWith w x outer (put_in v) end Left)

@@ -1,8 +1,7 @@
--- Lines that neither place a label nor jump on zero: those of operations, calls and returns, and the first and last ones of functions.
+-- Lines that neither place a label nor are conditional jumps: those of operations, calls and returns, and the first and last ones of functions.
 use Rattle.std.proofs.Common.{◌≡◌, ℕ, zero, suc, pos, ◌+◌, ◌*◌, ◌/◌, ◌%◌, ◌^◌, Bool, true, false, nat_eq, List, [], ◌∷◌, ◌++◌, Option, Some, None, refl}
 use Rattle.std.specs.Prelude.{nat_lt, drop, if◌then◌else◌}
-use Rattle.std.proofs.lemmas.Bool.{false≢true}
-use Rattle.rv32_isa.specs.declared.instruction.Instr.{Instr}
+use Rattle.core_lines.specs.declared.comparison.Comparison.{Comparison}
 use Rattle.rv32_isa.specs.declared.instruction.Instr.TheVariants as instr
 use Rattle.core_meaning.specs.Memory.{Layout}
 use Rattle.core_meaning.specs.Core.{Binary, Add, Subtract, Multiply, Divide, DivideUnsigned, Remainder, RemainderUnsigned, And, Or, Xor, ShiftLeft}
@@ -12,75 +11,23 @@ use Rattle.core_meaning.specs.Core.{Clear, IsNull, SamePlace, Getchar, Putchar, 
 use Rattle.core_meaning.specs.Core.{KeyOpen, KeyClose, KeyFree}
 use Rattle.rv32_machine.specs.State.{data_base}
 use Rattle.core_lines.specs.declared.line.Line.{Line}
-use Rattle.core_lines.specs.declared.line.Line.TheVariants.{Plain, Label, Jump, JumpIfZero, BranchIfZero, CallTo}
-use Rattle.core_lines.specs.Lines.{code_length, labels_placed}
-use Rattle.core_lines.specs.Relaxed.{targets}
+use Rattle.core_lines.specs.declared.line.Line.TheVariants.{Plain, Jump, CallTo}
+use Rattle.core_lines.specs.Comparisons.{inverse, branch_if, verdict_code}
+use Rattle.core_lines.specs.Lines.{code_length}
 use Rattle.core_lines.specs.Frames.{is_short, word_code, load_code, save_code, slot_of, environment_code, test_code, move_code, give_code}
 use Rattle.core_lines.specs.Frames.{saves_code, restores_code, leave_code, epilogue_code, raise_code}
 use Rattle.core_lines.specs.Checks.{Failure, Always, ByTest, failure_code, check_code}
 use Rattle.core_lines.specs.Homes.{flag_at}
 use Rattle.core_lines.specs.Loops.{are_words, copy_loop, clear_loop}
-use Rattle.core_lines.specs.Held.{Source, Register, Number, Holding, source_of, without_register, result_register, same_as}
-use Rattle.core_lines.specs.Operands.{number_code, operand_in, bring_code, operand_code, fetch_code, into_code, keep_code, number_kept, move_kept}
+use Rattle.core_lines.specs.Held.{Source, Register, Number, Compared, Holding, source_of, without_register, result_register, same_as, comparison_of}
+use Rattle.core_lines.specs.Operands.{number_code, operand_in, bring_code, operand_code, fetch_code, into_code, keep_code, number_kept}
+use Rattle.core_lines.specs.Operands.{verdict_kept, move_kept, test_in, ready_code, test_ready}
 use Rattle.core_lines.specs.Operands.{pass_code, result_code, call_code, values_code, return_code, take_code, prologue_code}
 use Rattle.core_lines.specs.Selected.{Surroundings, local_offset, local_home, nth, from_temp, to_temp, far_code, read_line, read_code, write_line, write_code}
 use Rattle.core_lines.specs.Selected.{binary_code, turned, immediate_code, immediate_for, address_code, further_code}
-use Rattle.core_lines.specs.Selected.{operand, has_operand, both_code, apply_code, keep_result, applied_kept, get_code, byte_code, put_code}
+use Rattle.core_lines.specs.Selected.{operand, has_operand, both_code, apply_code, keep_result, computed_kept, applied_kept, get_code, byte_code, put_code}
 use Rattle.core_lines.specs.Selected.{number_in, narrow_kept, exponent_of, times_code, element_code, copy_code, clear_code, bytes_in, bytes_code, operation_code}
-
-abbrev pub are_bare : List Line → Bool
-are_bare [] = true
-are_bare (Plain instr ∷ lines) = are_bare lines
-are_bare (Label label ∷ lines) = false
-are_bare (Jump label ∷ lines) = are_bare lines
-are_bare (JumpIfZero register label ∷ lines) = false
-are_bare (BranchIfZero register label ∷ lines) = false
-are_bare (CallTo label ∷ lines) = are_bare lines
-
--- they place no label
-pub bare_places : (lines : List Line) → are_bare lines ≡ true → labels_placed lines ≡ []
-bare_places [] bare = refl
-bare_places (Plain instr ∷ lines) bare = bare_places lines bare
-bare_places (Label label ∷ lines) bare = absurd (false≢true bare)
-bare_places (Jump label ∷ lines) bare = bare_places lines bare
-bare_places (JumpIfZero register label ∷ lines) bare = absurd (false≢true bare)
-bare_places (BranchIfZero register label ∷ lines) bare = absurd (false≢true bare)
-bare_places (CallTo label ∷ lines) bare = bare_places lines bare
-
--- they have no jump on zero
-pub bare_targets : (lines : List Line) → are_bare lines ≡ true → targets lines ≡ []
-bare_targets [] bare = refl
-bare_targets (Plain instr ∷ lines) bare = bare_targets lines bare
-bare_targets (Label label ∷ lines) bare = absurd (false≢true bare)
-bare_targets (Jump label ∷ lines) bare = bare_targets lines bare
-bare_targets (JumpIfZero register label ∷ lines) bare = absurd (false≢true bare)
-bare_targets (BranchIfZero register label ∷ lines) bare = absurd (false≢true bare)
-bare_targets (CallTo label ∷ lines) bare = bare_targets lines bare
-
--- ---- lines one behind the other
-
-two : (a b : List Line) → are_bare a ≡ true → are_bare b ≡ true → are_bare (a ++ b) ≡ true
-two [] b p q = q
-two (Plain instr ∷ a) b p q = two a b p q
-two (Label label ∷ a) b p q = absurd (false≢true p)
-two (Jump label ∷ a) b p q = two a b p q
-two (JumpIfZero register label ∷ a) b p q = absurd (false≢true p)
-two (BranchIfZero register label ∷ a) b p q = absurd (false≢true p)
-two (CallTo label ∷ a) b p q = two a b p q
-
-three : (a b c : List Line) → are_bare a ≡ true → are_bare b ≡ true → are_bare c ≡ true → are_bare (a ++ b ++ c) ≡ true
-three a b c p q r = two (a ++ b) c (two a b p q) r
-
-four : (a b c d : List Line) → are_bare a ≡ true → are_bare b ≡ true → are_bare c ≡ true → are_bare d ≡ true → are_bare (a ++ b ++ c ++ d) ≡ true
-four a b c d p q r s = two (a ++ b ++ c) d (three a b c p q r) s
-
-either : (test : Bool) (a b : List Line) → are_bare a ≡ true → are_bare b ≡ true → are_bare (if test then a else b) ≡ true
-either true a b p q = p
-either false a b p q = q
-
-one : (test : Bool) (a b : Instr) → are_bare ((if test then Plain a else Plain b) ∷ []) ≡ true
-one true a b = refl
-one false a b = refl
+pub use Rattle.core_lines.proofs.labels.BareLines.{are_bare, bare_places, bare_targets, two, three, four, either, one, verdict_bare}
 
 -- ---- slots and words
 
@@ -114,6 +61,7 @@ module _ (passed : ℕ) where
   bring_bare spare t None = load_bare spare (slot_of passed t)
   bring_bare spare t (Some (Register r)) = refl
   bring_bare spare t (Some (Number w)) = number_bare spare w
+  bring_bare spare t (Some (Compared c)) = verdict_bare spare c
 
   pub operand_bare : (hs : List Holding) (spare t : ℕ) → are_bare (operand_code passed hs spare t) ≡ true
   operand_bare hs spare t = bring_bare spare t (source_of hs t)
@@ -122,6 +70,16 @@ module _ (passed : ℕ) where
   fetch_bare to t None = load_bare to (slot_of passed t)
   fetch_bare to t (Some (Register r)) = either (nat_eq r to) _ _ refl refl
   fetch_bare to t (Some (Number w)) = number_bare to w
+  fetch_bare to t (Some (Compared c)) = verdict_bare to c
+
+  ready_bare : (spare t : ℕ) (s : Option Source) → are_bare (ready_code passed spare t s) ≡ true
+  ready_bare spare t None = load_bare spare (slot_of passed t)
+  ready_bare spare t (Some (Register r)) = refl
+  ready_bare spare t (Some (Number w)) = number_bare spare w
+  ready_bare spare t (Some (Compared c)) = refl
+
+  pub test_bare : (hs : List Holding) (spare t : ℕ) → are_bare (test_ready passed hs spare t) ≡ true
+  test_bare hs spare t = ready_bare spare t (source_of hs t)
 
   into_bare : (hs : List Holding) (to t : ℕ) → are_bare (into_code passed hs to t) ≡ true
   into_bare hs to t = fetch_bare to t (source_of hs t)
@@ -141,13 +99,13 @@ module _ (passed : ℕ) where
   failure_bare : (hs : List Holding) (f : Failure) → are_bare (failure_code passed hs f) ≡ true
   failure_bare hs (Always kind) = refl
   failure_bare hs (ByTest t first second) =
-      let branch : List Line = Plain (instr.Beq (operand_in hs 5 t) 0 (pos 16)) ∷ [] in
-      four (operand_code passed hs 5 t) branch (raise_code first) (raise_code second) (operand_bare hs 5 t) refl refl refl
+      let branch : List Line = Plain (branch_if (inverse (test_in hs 5 t)) (pos 16)) ∷ [] in
+      four (test_ready passed hs 5 t) branch (raise_code first) (raise_code second) (test_bare hs 5 t) refl refl refl
 
   pub check_bare : (hs : List Holding) (t : ℕ) (f : Failure) → are_bare (check_code passed hs t f) ≡ true
   check_bare hs t f =
       let raising = failure_code passed hs f in
-      three (operand_code passed hs 5 t) (Plain (instr.Bne (operand_in hs 5 t) 0 (pos (4 + code_length raising))) ∷ []) raising (operand_bare hs 5 t) refl
+      three (test_ready passed hs 5 t) (Plain (branch_if (test_in hs 5 t) (pos (4 + code_length raising))) ∷ []) raising (test_bare hs 5 t) refl
       (failure_bare hs f)
 
   pub return_bare : (hs : List Holding) (ts : List ℕ) (exit : ℕ) → are_bare (return_code passed hs ts exit) ≡ true
@@ -160,11 +118,16 @@ module _ (passed : ℕ) where
   number_kept_bare keeps t w =
       either keeps _ _ (two (number_code 5 w) (save_code 5 (slot_of passed t)) (number_bare 5 w) (save_bare 5 (slot_of passed t))) refl
 
+  verdict_kept_bare : (keeps : Bool) (t : ℕ) (c : Comparison) → are_bare (verdict_kept keeps passed t c) ≡ true
+  verdict_kept_bare keeps t c =
+      either keeps _ _ (two (verdict_code 5 c) (save_code 5 (slot_of passed t)) (verdict_bare 5 c) (save_bare 5 (slot_of passed t))) refl
+
   move_bare : (keeps : Bool) (own t x : ℕ) (s : Option Source) → are_bare (move_kept keeps passed own t x s) ≡ true
   move_bare keeps own t x None =
       two (load_code own (slot_of passed x)) (keep_code keeps passed own t) (load_bare own (slot_of passed x)) (keep_bare keeps own t)
   move_bare keeps own t x (Some (Register r)) = keep_bare keeps r t
   move_bare keeps own t x (Some (Number w)) = number_kept_bare keeps t w
+  move_bare keeps own t x (Some (Compared c)) = verdict_kept_bare keeps t c
 
   result_bare : (flags : List Bool) (r : ℕ) (ts : List ℕ) → are_bare (result_code flags passed r ts) ≡ true
   result_bare flags r [] = refl
@@ -236,6 +199,7 @@ immediate_for_bare : (o : Binary) (to left : ℕ) (s : Option Source) → bare_i
 immediate_for_bare o to left None = refl
 immediate_for_bare o to left (Some (Register r)) = refl
 immediate_for_bare o to left (Some (Number n)) = immediate_bare o to left n
+immediate_for_bare o to left (Some (Compared c)) = refl
 
 -- ---- operations
 
@@ -303,9 +267,13 @@ module _ (u : Surroundings) where
     kept_bare : (t : ℕ) (lines : List Line) → are_bare lines ≡ true → are_bare (lines ++ keep_result keeps u t) ≡ true
     kept_bare t lines bare = two lines (keep_result keeps u t) bare (keep_bare u.passed keeps (result_register t) t)
 
-    applied_bare : (o : Binary) (t x y : ℕ) (same : Option ℕ) → are_bare (applied_kept keeps u o t x y same) ≡ true
-    applied_bare o t x y None = kept_bare t (apply_code u o (result_register t) x y) (apply_bare o (result_register t) x y)
-    applied_bare o t x y (Some z) = move_bare u.passed keeps (result_register t) t z (source_of u.held z)
+    computed_bare : (o : Binary) (t x y : ℕ) (compared : Option Comparison) → are_bare (computed_kept keeps u o t x y compared) ≡ true
+    computed_bare o t x y None = kept_bare t (apply_code u o (result_register t) x y) (apply_bare o (result_register t) x y)
+    computed_bare o t x y (Some c) = verdict_kept_bare u.passed keeps t c
+
+    applied_bare : (o : Binary) (t x y : ℕ) (same : Option ℕ) (compared : Option Comparison) → are_bare (applied_kept keeps u o t x y same compared) ≡ true
+    applied_bare o t x y None compared = computed_bare o t x y compared
+    applied_bare o t x y (Some z) compared = move_bare u.passed keeps (result_register t) t z (source_of u.held z)
 
     get_bare : (h t width w : ℕ) → are_bare (get_code keeps u h t width w) ≡ true
     get_bare zero t width w = kept_bare t (read_code (result_register t) width 2 w) (read_bare (result_register t) width 2 w)
@@ -322,7 +290,8 @@ module _ (u : Surroundings) where
     operation_bare (NullPointer t) = keep_bare u.passed keeps 0 t
     operation_bare (Move t x) = move_bare u.passed keeps (result_register t) t x (source_of u.held x)
     operation_bare (Narrow t x) = narrow_bare t x (number_in (source_of u.held x))
-    operation_bare (Apply o t x y) = applied_bare o t x y (same_as o x y (source_of u.held x) (source_of u.held y))
+    operation_bare (Apply o t x y) =
+        applied_bare o t x y (same_as o x y (source_of u.held x) (source_of u.held y)) (comparison_of o (source_of u.held x) (source_of u.held y))
     operation_bare (LocalAddress t out local) =
         kept_bare t (address_code (result_register t) (local_offset u out local)) (address_bare (result_register t) (local_offset u out local))
     operation_bare (OwnAddress t object) =

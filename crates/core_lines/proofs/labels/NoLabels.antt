@@ -3,23 +3,23 @@ use Rattle.std.proofs.Common.{◌≡◌, ℕ, Bool, true, false, List, [], ◌�
 use Rattle.std.specs.Prelude.{if◌then◌else◌}
 use Rattle.core_meaning.specs.Core.{Operation}
 use Rattle.core_lines.specs.declared.line.Line.{Line}
-use Rattle.core_lines.specs.declared.line.Line.TheVariants.{Plain, Label, Jump, JumpIfZero, BranchIfZero, CallTo}
+use Rattle.core_lines.specs.declared.line.Line.TheVariants.{Plain, Label, Jump, JumpUnless, BranchUnless, CallTo}
 use Rattle.core_lines.specs.Lines.{labels_placed}
 use Rattle.core_lines.specs.Frames.{epilogue_code}
 use Rattle.core_lines.specs.Held.{Holding}
-use Rattle.core_lines.specs.Operands.{operand_in, operand_code, call_code, return_code, prologue_code}
-use Rattle.core_lines.specs.Choosing.{jump_if_zero, choice_code}
+use Rattle.core_lines.specs.Operands.{test_in, test_ready, call_code, return_code, prologue_code}
+use Rattle.core_lines.specs.Choosing.{jump_unless, choice_code}
 use Rattle.core_lines.specs.Checks.{Failure, check_code}
 use Rattle.core_lines.specs.Selected.{Surroundings, operation_code}
-use Rattle.core_lines.proofs.labels.Bare.{bare_places, operand_bare, operation_bare, check_bare, call_bare, return_bare, epilogue_bare, prologue_bare}
+use Rattle.core_lines.proofs.labels.Bare.{bare_places, test_bare, operation_bare, check_bare, call_bare, return_bare, epilogue_bare, prologue_bare}
 
 pub labels_placed-append : (first second : List Line) → labels_placed (first ++ second) ≡ labels_placed first ++ labels_placed second
 labels_placed-append [] second = refl
 labels_placed-append (Plain instr ∷ first) second = labels_placed-append first second
 labels_placed-append (Label label ∷ first) second = ap (λ labels. label ∷ labels) (labels_placed-append first second)
 labels_placed-append (Jump label ∷ first) second = labels_placed-append first second
-labels_placed-append (JumpIfZero register label ∷ first) second = labels_placed-append first second
-labels_placed-append (BranchIfZero register label ∷ first) second = labels_placed-append first second
+labels_placed-append (JumpUnless comparison label ∷ first) second = labels_placed-append first second
+labels_placed-append (BranchUnless comparison label ∷ first) second = labels_placed-append first second
 labels_placed-append (CallTo label ∷ first) second = labels_placed-append first second
 
 pub operation_none : (keeps : Bool) (u : Surroundings) (o : Operation) → labels_placed (operation_code keeps u o) ≡ []
@@ -27,11 +27,11 @@ operation_none keeps u o = bare_places (operation_code keeps u o) (operation_bar
 
 pub choice_code_none : (wide : ℕ → Bool) (passed : ℕ) (hs : List Holding) (t label : ℕ) → labels_placed (choice_code wide passed hs t label) ≡ []
 choice_code_none wide passed hs t label =
-    let operand = operand_code passed hs 5 t in
-    let jump : List Line = jump_if_zero wide (operand_in hs 5 t) label ∷ [] in
-    labels_placed-append operand jump ∙ ap (λ labels. labels ++ labels_placed jump) (bare_places operand (operand_bare passed hs 5 t)) ∙ by (wide label)
+    let ready = test_ready passed hs 5 t in
+    let jump : List Line = jump_unless wide (test_in hs 5 t) label ∷ [] in
+    labels_placed-append ready jump ∙ ap (λ labels. labels ++ labels_placed jump) (bare_places ready (test_bare passed hs 5 t)) ∙ by (wide label)
   where
-    by : (b : Bool) → labels_placed ((if b then JumpIfZero (operand_in hs 5 t) label else BranchIfZero (operand_in hs 5 t) label) ∷ []) ≡ []
+    by : (b : Bool) → labels_placed ((if b then JumpUnless (test_in hs 5 t) label else BranchUnless (test_in hs 5 t) label) ∷ []) ≡ []
     by true = refl
     by false = refl
 

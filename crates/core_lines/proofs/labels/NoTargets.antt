@@ -1,39 +1,39 @@
--- Operations, calls, returns, first and last lines have no jumps on zero, and a choice has one.
+-- Operations, calls, returns, first and last lines have no conditional jumps, and a choice has one.
 use Rattle.std.proofs.Common.{◌≡◌, ℕ, Bool, true, false, List, [], ◌∷◌, ◌++◌, refl, ap, ◌∙◌}
 use Rattle.std.specs.Prelude.{if◌then◌else◌}
 use Rattle.core_meaning.specs.Core.{Operation, Statements, NoStatements, MoreStatements}
 use Rattle.core_lines.specs.declared.line.Line.{Line}
-use Rattle.core_lines.specs.declared.line.Line.TheVariants.{Plain, Label, Jump, JumpIfZero, BranchIfZero, CallTo}
+use Rattle.core_lines.specs.declared.line.Line.TheVariants.{Plain, Label, Jump, JumpUnless, BranchUnless, CallTo}
 use Rattle.core_lines.specs.Relaxed.{targets}
 use Rattle.core_lines.specs.Frames.{epilogue_code}
 use Rattle.core_lines.specs.Held.{Holding}
-use Rattle.core_lines.specs.Operands.{operand_in, operand_code, call_code, return_code, prologue_code}
-use Rattle.core_lines.specs.Choosing.{jump_if_zero, choice_code, between_code, behind_code}
+use Rattle.core_lines.specs.Operands.{test_in, test_ready, call_code, return_code, prologue_code}
+use Rattle.core_lines.specs.Choosing.{jump_unless, choice_code, between_code, behind_code}
 use Rattle.core_lines.specs.Checks.{Failure, check_code}
 use Rattle.core_lines.specs.Selected.{Surroundings, operation_code}
-use Rattle.core_lines.proofs.labels.Bare.{bare_targets, operand_bare, operation_bare, check_bare, call_bare, return_bare, epilogue_bare, prologue_bare}
+use Rattle.core_lines.proofs.labels.Bare.{bare_targets, test_bare, operation_bare, check_bare, call_bare, return_bare, epilogue_bare, prologue_bare}
 
 pub targets_append : (first second : List Line) → targets (first ++ second) ≡ targets first ++ targets second
 targets_append [] second = refl
 targets_append (Plain instr ∷ first) second = targets_append first second
 targets_append (Label label ∷ first) second = targets_append first second
 targets_append (Jump label ∷ first) second = targets_append first second
-targets_append (JumpIfZero register label ∷ first) second = ap (λ ls. label ∷ ls) (targets_append first second)
-targets_append (BranchIfZero register label ∷ first) second = ap (λ ls. label ∷ ls) (targets_append first second)
+targets_append (JumpUnless comparison label ∷ first) second = ap (λ ls. label ∷ ls) (targets_append first second)
+targets_append (BranchUnless comparison label ∷ first) second = ap (λ ls. label ∷ ls) (targets_append first second)
 targets_append (CallTo label ∷ first) second = targets_append first second
 
 pub operation_none : (keeps : Bool) (u : Surroundings) (o : Operation) → targets (operation_code keeps u o) ≡ []
 operation_none keeps u o = bare_targets (operation_code keeps u o) (operation_bare u keeps o)
 
-pub operand_none : (passed : ℕ) (hs : List Holding) (spare t : ℕ) → targets (operand_code passed hs spare t) ≡ []
-operand_none passed hs spare t = bare_targets (operand_code passed hs spare t) (operand_bare passed hs spare t)
+pub test_none : (passed : ℕ) (hs : List Holding) (spare t : ℕ) → targets (test_ready passed hs spare t) ≡ []
+test_none passed hs spare t = bare_targets (test_ready passed hs spare t) (test_bare passed hs spare t)
 
 pub choice_one : (wide : ℕ → Bool) (passed : ℕ) (hs : List Holding) (t label : ℕ) → targets (choice_code wide passed hs t label) ≡ label ∷ []
 choice_one wide passed hs t label =
-    let jump : List Line = jump_if_zero wide (operand_in hs 5 t) label ∷ [] in
-    targets_append (operand_code passed hs 5 t) jump ∙ ap (λ ls. ls ++ targets jump) (operand_none passed hs 5 t) ∙ by (wide label)
+    let jump : List Line = jump_unless wide (test_in hs 5 t) label ∷ [] in
+    targets_append (test_ready passed hs 5 t) jump ∙ ap (λ ls. ls ++ targets jump) (test_none passed hs 5 t) ∙ by (wide label)
   where
-    by : (b : Bool) → targets ((if b then JumpIfZero (operand_in hs 5 t) label else BranchIfZero (operand_in hs 5 t) label) ∷ []) ≡ label ∷ []
+    by : (b : Bool) → targets ((if b then JumpUnless (test_in hs 5 t) label else BranchUnless (test_in hs 5 t) label) ∷ []) ≡ label ∷ []
     by true = refl
     by false = refl
 

@@ -2,7 +2,7 @@
 use Rattle.std.specs.Prelude.{not, ◌||◌, length}
 use Rattle.std.proofs.Common.{◌≡◌, ℕ, zero, suc, ◌+◌, ◌*◌, ◌≤◌, ◌<◌, ◌⊎◌, inl, inr, ⊎_elim, Bool, true, false, List, [], ◌∷◌, refl, sym, ap, ◌∙◌, subst, arith}
 use Rattle.core_lines.specs.declared.line.Line.{Line}
-use Rattle.core_lines.specs.declared.line.Line.TheVariants.{Plain, Label, Jump, JumpIfZero, BranchIfZero, CallTo}
+use Rattle.core_lines.specs.declared.line.Line.TheVariants.{Plain, Label, Jump, JumpUnless, BranchUnless, CallTo}
 use Rattle.core_lines.specs.Lines.{size_of, code_length}
 use Rattle.core_lines.specs.Relaxed.{place_of, shorten, shortened, is_in_reach, reaches, widened, next_round, rounds, none_wide, wide_in, AllReach}
 
@@ -74,8 +74,8 @@ AreLong [] = Unit {0}
 AreLong (Plain instr ∷ lines) = AreLong lines
 AreLong (Label label ∷ lines) = AreLong lines
 AreLong (Jump label ∷ lines) = AreLong lines
-AreLong (JumpIfZero register label ∷ lines) = AreLong lines
-AreLong (BranchIfZero register label ∷ lines) = ⊥
+AreLong (JumpUnless comparison label ∷ lines) = AreLong lines
+AreLong (BranchUnless comparison label ∷ lines) = ⊥
 AreLong (CallTo label ∷ lines) = AreLong lines
 
 first_same : (v w : Bool) (vs ws : List Bool) → ◌≡◌ {A = List Bool} (v ∷ vs) (w ∷ ws) → v ≡ w
@@ -103,9 +103,9 @@ reach_all places at (w ∷ ws) (Label label ∷ lines) long same settled =
     (tt, reach_all places (at + 0) ws lines long (omega (arith, same)) (others_same _ w _ ws settled))
 reach_all places at (w ∷ ws) (Jump label ∷ lines) long same settled =
     (tt, reach_all places (at + 4) ws lines long (omega (arith, same)) (others_same _ w _ ws settled))
-reach_all places at (true ∷ ws) (JumpIfZero register label ∷ lines) long same settled =
+reach_all places at (true ∷ ws) (JumpUnless comparison label ∷ lines) long same settled =
     (tt, reach_all places (at + 8) ws lines long (omega (arith, same)) (others_same _ true _ ws settled))
-reach_all places at (false ∷ ws) (JumpIfZero register label ∷ lines) long same settled = (
+reach_all places at (false ∷ ws) (JumpUnless comparison label ∷ lines) long same settled = (
   by (is_in_reach (places label) at) (first_same _ false _ ws settled),
   reach_all places (at + 4) ws lines long (omega (arith, same)) (others_same _ false _ ws settled),
 )
@@ -113,7 +113,7 @@ reach_all places at (false ∷ ws) (JumpIfZero register label ∷ lines) long sa
     by : (b : Bool) → not b ≡ false → b ≡ true
     by true e = refl
     by false e = absurd (cc e)
-reach_all places at (w ∷ ws) (BranchIfZero register label ∷ lines) long same settled = absurd long
+reach_all places at (w ∷ ws) (BranchUnless comparison label ∷ lines) long same settled = absurd long
 reach_all places at (w ∷ ws) (CallTo label ∷ lines) long same settled =
     (tt, reach_all places (at + 4) ws lines long (omega (arith, same)) (others_same _ w _ ws settled))
 
@@ -138,8 +138,8 @@ size_grows false false line = omega arith
 size_grows false true (Plain instr) = omega arith
 size_grows false true (Label label) = omega arith
 size_grows false true (Jump label) = omega arith
-size_grows false true (JumpIfZero register label) = omega arith
-size_grows false true (BranchIfZero register label) = omega arith
+size_grows false true (JumpUnless comparison label) = omega arith
+size_grows false true (BranchUnless comparison label) = omega arith
 size_grows false true (CallTo label) = omega arith
 
 -- no round makes the code shorter
@@ -155,16 +155,16 @@ rounds_longer zero lines ws = omega arith
 rounds_longer (suc n) lines ws =
     omega (arith, round_longer (place_of (shortened ws lines)) 0 ws lines, rounds_longer n lines (next_round lines ws))
 
--- the code isn't longer than where all jumps on zero are two words
+-- the code isn't longer than where all conditional jumps are two words
 pub no_longer : (ws : List Bool) (lines : List Line) → code_length (shortened ws lines) ≤ code_length lines
 no_longer [] lines = omega arith
 no_longer (w ∷ ws) [] = omega arith
 no_longer (w ∷ ws) (Plain instr ∷ lines) = let h = no_longer ws lines in omega (arith, h)
 no_longer (w ∷ ws) (Label label ∷ lines) = let h = no_longer ws lines in omega (arith, h)
 no_longer (w ∷ ws) (Jump label ∷ lines) = let h = no_longer ws lines in omega (arith, h)
-no_longer (true ∷ ws) (JumpIfZero register label ∷ lines) = let h = no_longer ws lines in omega (arith, h)
-no_longer (false ∷ ws) (JumpIfZero register label ∷ lines) = let h = no_longer ws lines in omega (arith, h)
-no_longer (w ∷ ws) (BranchIfZero register label ∷ lines) = let h = no_longer ws lines in omega (arith, h)
+no_longer (true ∷ ws) (JumpUnless comparison label ∷ lines) = let h = no_longer ws lines in omega (arith, h)
+no_longer (false ∷ ws) (JumpUnless comparison label ∷ lines) = let h = no_longer ws lines in omega (arith, h)
+no_longer (w ∷ ws) (BranchUnless comparison label ∷ lines) = let h = no_longer ws lines in omega (arith, h)
 no_longer (w ∷ ws) (CallTo label ∷ lines) = let h = no_longer ws lines in omega (arith, h)
 
 -- ---- samples: so many words between a branch and its label

@@ -1,4 +1,4 @@
--- What is said of each jump on zero of a program can be said of its label: the lines that are shortened so are those that the program has where these labels
+-- What is said of each conditional jump of a program can be said of its label: the lines that are shortened so are those that the program has where these labels
 -- are out of reach. So a machine that has them does what the program does.
 use Rattle.std.specs.Prelude.{nat_eq, length, drop, if◌then◌else◌}
 use Rattle.std.specs.List.{All}
@@ -8,7 +8,7 @@ use Rattle.std.proofs.lemmas.List.Elements.{All-head, All-tail}
 use Rattle.core_meaning.specs.Core.{Operation, Statement, Do, If, While, Block, Leave, Break, Continue, Call, Return, Raise, Statements, NoStatements}
 use Rattle.core_meaning.specs.Core.{MoreStatements, Function, Program}
 use Rattle.core_lines.specs.declared.line.Line.{Line}
-use Rattle.core_lines.specs.declared.line.Line.TheVariants.{Plain, Label, Jump, JumpIfZero, BranchIfZero, CallTo}
+use Rattle.core_lines.specs.declared.line.Line.TheVariants.{Plain, Label, Jump, JumpUnless, BranchUnless, CallTo}
 use Rattle.core_meaning.specs.Core.{
   Constant,
   NullPointer,
@@ -44,10 +44,11 @@ use Rattle.core_meaning.specs.Core.{
 use Rattle.core_lines.specs.Lines.{AreOnce}
 use Rattle.core_lines.specs.Frames.{environment_code, raise_code, epilogue_code}
 use Rattle.core_lines.specs.Homes.{saved_by, saved_slot, flag_at}
-use Rattle.core_lines.specs.Held.{Holding, held_behind, held_behind_all, source_of, result_register, same_as}
-use Rattle.core_lines.specs.Operands.{operand_in, operand_code, call_code, return_code, prologue_code}
+use Rattle.core_lines.specs.Held.{Holding, held_behind, held_behind_all, source_of, result_register, same_as, comparison_of}
+use Rattle.core_lines.specs.declared.comparison.Comparison.{Comparison}
+use Rattle.core_lines.specs.Operands.{test_in, test_ready, call_code, return_code, prologue_code}
 use Rattle.core_lines.specs.Checks.{Failure, check_of, check_code, checked_code}
-use Rattle.core_lines.specs.Choosing.{far, jump_if_zero, choice_code, between_code, behind_code}
+use Rattle.core_lines.specs.Choosing.{far, jump_unless, choice_code, between_code, behind_code}
 use Rattle.core_lines.specs.Completing.{can_complete, can_complete_all, ends_in_return_all}
 use Rattle.core_lines.specs.Saved.{results_in, results_all, live_at_start, saves_at}
 use Rattle.core_lines.specs.Selected.{Surroundings, frame_bytes, offsets_from, datum_locals, local_home, local_offset, immediate_for, has_operand, both_code}
@@ -56,7 +57,7 @@ use Rattle.core_lines.specs.Selected.{labels_within, holding, naming, names_afte
 use Rattle.core_lines.specs.Selected.{ended_code, function_code, functions_code, program_code}
 use Rattle.core_meaning.specs.Selectable.{IsSelectable}
 use Rattle.core_lines.specs.Running.{DoesAsCore}
-use Rattle.core_lines.proofs.labels.NoTargets.{operand_none, operation_none, check_none, between_none, behind_none, call_none, return_none}
+use Rattle.core_lines.proofs.labels.NoTargets.{test_none, operation_none, check_none, between_none, behind_none, call_none, return_none}
 use Rattle.core_lines.proofs.labels.NoTargets.{epilogue_none, prologue_none}
 use Rattle.core_lines.proofs.labels.TargetsOnce.{program_targets_once}
 use Rattle.core_lines.proofs.Returning.{ended_short}
@@ -69,13 +70,13 @@ same_where f g [] same = refl
 same_where f g (Plain instr ∷ lines) same = ap (λ ls. Plain instr ∷ ls) (same_where f g lines same)
 same_where f g (Label l ∷ lines) same = ap (λ ls. Label l ∷ ls) (same_where f g lines same)
 same_where f g (Jump l ∷ lines) same = ap (λ ls. Jump l ∷ ls) (same_where f g lines same)
-same_where f g (JumpIfZero register l ∷ lines) same =
-    ap (λ b. (if b then JumpIfZero register l else BranchIfZero register l) ∷ shortened_to f lines)
+same_where f g (JumpUnless comparison l ∷ lines) same =
+    ap (λ b. (if b then JumpUnless comparison l else BranchUnless comparison l) ∷ shortened_to f lines)
     (All-head (λ label. f label ≡ g label) l (targets lines) same)
-    ∙ ap (λ ls. (if g l then JumpIfZero register l else BranchIfZero register l) ∷ ls)
+    ∙ ap (λ ls. (if g l then JumpUnless comparison l else BranchUnless comparison l) ∷ ls)
     (same_where f g lines (All-tail (λ label. f label ≡ g label) l (targets lines) same))
-same_where f g (BranchIfZero register l ∷ lines) same =
-    ap (λ ls. BranchIfZero register l ∷ ls) (same_where f g lines (All-tail (λ label. f label ≡ g label) l (targets lines) same))
+same_where f g (BranchUnless comparison l ∷ lines) same =
+    ap (λ ls. BranchUnless comparison l ∷ ls) (same_where f g lines (All-tail (λ label. f label ≡ g label) l (targets lines) same))
 same_where f g (CallTo l ∷ lines) same = ap (λ ls. CallTo l ∷ ls) (same_where f g lines same)
 
 pub by_labels : (ws : List Bool) (lines : List Line) → length ws ≡ length lines → AreOnce (targets lines)
@@ -86,15 +87,15 @@ by_labels (w ∷ ws) [] same once = refl
 by_labels (w ∷ ws) (Plain instr ∷ lines) same once = ap (λ ls. Plain instr ∷ ls) (by_labels ws lines (omega (arith, same)) once)
 by_labels (w ∷ ws) (Label l ∷ lines) same once = ap (λ ls. Label l ∷ ls) (by_labels ws lines (omega (arith, same)) once)
 by_labels (w ∷ ws) (Jump l ∷ lines) same once = ap (λ ls. Jump l ∷ ls) (by_labels ws lines (omega (arith, same)) once)
-by_labels (w ∷ ws) (JumpIfZero register l ∷ lines) same once =
+by_labels (w ∷ ws) (JumpUnless comparison l ∷ lines) same once =
     let wide : ℕ → Bool = λ label. if nat_eq l label then w else wide_to ws lines label in
     let here : w ≡ wide l = sym (ap (λ b. if b then w else wide_to ws lines l) (eq-eqb l l refl)) in
-    ap (λ b. (if b then JumpIfZero register l else BranchIfZero register l) ∷ shortened ws lines) here
-    ∙ ap (λ ls. (if wide l then JumpIfZero register l else BranchIfZero register l) ∷ ls)
+    ap (λ b. (if b then JumpUnless comparison l else BranchUnless comparison l) ∷ shortened ws lines) here
+    ∙ ap (λ ls. (if wide l then JumpUnless comparison l else BranchUnless comparison l) ∷ ls)
     (by_labels ws lines (omega (arith, same)) once.1 ∙ same_where (wide_to ws lines) wide lines
     (Rattle.std.proofs.lemmas.List.Elements.All-weaker (λ other. nat_eq l other ≡ false) (λ label. wide_to ws lines label ≡ wide label)
     (λ label other. sym (ap (λ b. if b then w else wide_to ws lines label) other)) (targets lines) once.0))
-by_labels (w ∷ ws) (BranchIfZero register l ∷ lines) same once = ap (λ ls. BranchIfZero register l ∷ ls) (by_labels ws lines (omega (arith, same)) once.1)
+by_labels (w ∷ ws) (BranchUnless comparison l ∷ lines) same once = ap (λ ls. BranchUnless comparison l ∷ ls) (by_labels ws lines (omega (arith, same)) once.1)
 by_labels (w ∷ ws) (CallTo l ∷ lines) same once = ap (λ ls. CallTo l ∷ ls) (by_labels ws lines (omega (arith, same)) once)
 
 -- ---- lines without such jumps stay
@@ -108,8 +109,8 @@ no_targets_stay wide [] none = refl
 no_targets_stay wide (Plain instr ∷ lines) none = ap (λ ls. Plain instr ∷ ls) (no_targets_stay wide lines none)
 no_targets_stay wide (Label l ∷ lines) none = ap (λ ls. Label l ∷ ls) (no_targets_stay wide lines none)
 no_targets_stay wide (Jump l ∷ lines) none = ap (λ ls. Jump l ∷ ls) (no_targets_stay wide lines none)
-no_targets_stay wide (JumpIfZero register l ∷ lines) none = absurd (cc none)
-no_targets_stay wide (BranchIfZero register l ∷ lines) none = absurd (cc none)
+no_targets_stay wide (JumpUnless comparison l ∷ lines) none = absurd (cc none)
+no_targets_stay wide (BranchUnless comparison l ∷ lines) none = absurd (cc none)
 no_targets_stay wide (CallTo l ∷ lines) none = ap (λ ls. CallTo l ∷ ls) (no_targets_stay wide lines none)
 
 -- ---- the code of a program
@@ -128,16 +129,19 @@ operation_same f g keeps u (Narrow t x) = by (number_in (source_of u.held x))
     by : (known : Option ℕ) → narrow_kept keeps (with_wide f u) t x known ≡ narrow_kept keeps (with_wide g u) t x known
     by None = refl
     by (Some w) = refl
-operation_same f g keeps u (Apply o t x y) = by (same_as o x y (source_of u.held x) (source_of u.held y))
+operation_same f g keeps u (Apply o t x y) =
+    by (same_as o x y (source_of u.held x) (source_of u.held y)) (comparison_of o (source_of u.held x) (source_of u.held y))
   where
     in_both : (lines : Option (List Line))
         → both_code (with_wide f u) o (result_register t) x y lines ≡ both_code (with_wide g u) o (result_register t) x y lines
     in_both None = refl
     in_both (Some lines) = refl
 
-    by : (same : Option ℕ) → applied_kept keeps (with_wide f u) o t x y same ≡ applied_kept keeps (with_wide g u) o t x y same
-    by None = ap (λ ls. ls ++ keep_result keeps u t) (in_both (immediate_for o (result_register t) (has_operand u 5 x) (source_of u.held y)))
-    by (Some z) = refl
+    by : (same : Option ℕ) (compared : Option Comparison)
+        → applied_kept keeps (with_wide f u) o t x y same compared ≡ applied_kept keeps (with_wide g u) o t x y same compared
+    by None (Some c) = refl
+    by None None = ap (λ ls. ls ++ keep_result keeps u t) (in_both (immediate_for o (result_register t) (has_operand u 5 x) (source_of u.held y)))
+    by (Some z) compared = refl
 operation_same f g keeps u (LocalAddress t out local) = refl
 operation_same f g keeps u (OwnAddress t object) = refl
 operation_same f g keeps u (DataAddress t object) = refl
@@ -183,10 +187,9 @@ module _ (wide : ℕ → Bool) where
 
   choice_short : (passed : ℕ) (hs : List Holding) (t label : ℕ) → shortened_to wide (choice_code far passed hs t label) ≡ choice_code wide passed hs t label
   choice_short passed hs t label =
-      let operand = operand_code passed hs 5 t in
-      let register = operand_in hs 5 t in
-      both operand (jump_if_zero far register label ∷ []) operand (jump_if_zero wide register label ∷ [])
-      (no_targets_stay wide operand (operand_none passed hs 5 t)) refl
+      let ready = test_ready passed hs 5 t in
+      let test = test_in hs 5 t in
+      both ready (jump_unless far test label ∷ []) ready (jump_unless wide test label ∷ []) (no_targets_stay wide ready (test_none passed hs 5 t)) refl
 
   checked_short : (passed : ℕ) (hs : List Holding) (t : ℕ) (check : Option Failure) (lines short : List Line) → shortened_to wide lines ≡ short
       → shortened_to wide (checked_code passed hs t check lines) ≡ checked_code passed hs t check short
@@ -296,7 +299,7 @@ module _ (wide : ℕ → Bool) where
       both stub (functions_code far statics 0 (length p.functions) p.functions) stub (functions_code wide statics 0 (length p.functions) p.functions) refl
       (functions_short statics 0 (length p.functions) p.functions)
 
--- However the jumps on zero of a program's lines are placed, a machine that begins with the lines so placed does what the program does.
+-- However the conditional jumps of a program's lines are placed, a machine that begins with the lines so placed does what the program does.
 pub shortened_do_as_core : (p : Program) → IsSelectable p → (ws : List Bool) → length ws ≡ length (program_code far p) → DoesAsCore p
     (shortened ws (program_code far p))
 shortened_do_as_core p selectable ws same =

@@ -1,4 +1,4 @@
--- No two jumps on zero of a program go to one label.
+-- No two conditional jumps of a program go to one label.
 use Rattle.std.proofs.Common.{Bool, ◌≡◌, ℕ, ◌+◌, ◌≤◌, ◌<◌, ◌⊎◌, inl, true, false, nat_eq, List, [], ◌∷◌, ◌++◌, refl}
 use Rattle.std.proofs.Common.{sym, subst, arith}
 use Rattle.std.specs.Prelude.{Option, Some, None, length, drop, if◌then◌else◌}
@@ -197,6 +197,6 @@ functions_targets wide statics number next (f ∷ fs) =
     (functions_targets wide statics (number + 1) (next + labels_within f) fs)
     (omega arith) (omega arith) (omega arith) (omega arith) (inl (omega arith))
 
--- no two jumps on zero of a program go to one label
+-- no two conditional jumps of a program go to one label
 pub program_targets_once : (wide : ℕ → Bool) (p : Program) → AreOnce (targets (program_code wide p))
 program_targets_once wide p = (functions_targets wide (data_offsets p.data_objects) 0 (length p.functions) p.functions).once

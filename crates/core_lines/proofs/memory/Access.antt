@@ -5,7 +5,7 @@ use Rattle.core_meaning.specs.Memory.{Content, Memory}
 use Rattle.core_lines.specs.Machines.{Machine}
 use Rattle.rv32_machine.specs.State.{Areas, set_word}
 use Rattle.core_lines.specs.declared.line.Line.{Line}
-use Rattle.core_lines.specs.declared.line.Line.TheVariants.{Plain, Label, Jump, JumpIfZero, BranchIfZero, CallTo}
+use Rattle.core_lines.specs.declared.line.Line.TheVariants.{Plain, Label, Jump, JumpUnless, BranchUnless, CallTo}
 use Rattle.core_lines.specs.Lines.{size_of, HasLines, code_length}
 use Rattle.core_lines.specs.Frames.{load_code, save_code}
 use Rattle.core_lines.specs.Lies.{Maps, Shows, Activation, Slot, SlotsLie}
@@ -23,8 +23,8 @@ of_words [] = refl
 of_words (Plain instr ∷ lines) = omega (arith, of_words lines)
 of_words (Label l ∷ lines) = omega (arith, of_words lines)
 of_words (Jump l ∷ lines) = omega (arith, of_words lines)
-of_words (JumpIfZero r l ∷ lines) = omega (arith, of_words lines)
-of_words (BranchIfZero r l ∷ lines) = omega (arith, of_words lines)
+of_words (JumpUnless comparison l ∷ lines) = omega (arith, of_words lines)
+of_words (BranchUnless comparison l ∷ lines) = omega (arith, of_words lines)
 of_words (CallTo l ∷ lines) = omega (arith, of_words lines)
 
 pub behind : (place : ℕ) (lines : List Line) → place % 4 ≡ 0 → (place + code_length lines) % 4 ≡ 0

@@ -13,7 +13,9 @@ use Rattle.std.proofs.Common.{
   Bool,
   true,
   false,
+  not,
   nat_eq,
+  nat_lt,
   List,
   [],
   ◌∷◌,
@@ -34,7 +36,13 @@ use Rattle.std.proofs.lemmas.Option.{same_Some}
 use Rattle.core_meaning.specs.Memory.{Word, Memory}
 use Rattle.core_meaning.specs.Core.{Binary}
 use Rattle.core_meaning.specs.Core as core
-use Rattle.core_meaning.specs.Words.{two}
+use Rattle.core_meaning.specs.Words.{two, is_less}
+use Rattle.core_meaning.specs.Words as meaning
+use Rattle.rv32_machine.specs.Step.{truth}
+use Rattle.core_lines.specs.declared.comparison.Condition.{Condition}
+use Rattle.core_lines.specs.declared.comparison.Condition.TheVariants as condition
+use Rattle.core_lines.specs.declared.comparison.Comparison.{Comparison}
+use Rattle.core_lines.specs.Comparisons.{holds}
 use Rattle.core_lines.specs.declared.line.Line.{Line}
 use Rattle.core_lines.specs.Lines.{code_length}
 use Rattle.core_lines.specs.Machines.{Machine}
@@ -43,6 +51,7 @@ use Rattle.core_lines.specs.Held.{
   Source,
   Register,
   Number,
+  Compared,
   Holding,
   source_of,
   without_register,
@@ -52,13 +61,20 @@ use Rattle.core_lines.specs.Held.{
   result_register,
   is_zero,
   same_as,
+  register_in,
+  compared_by,
+  comparison_of,
 }
 use Rattle.core_lines.specs.Operands.{operand_in}
 use Rattle.core_lines.specs.Selected.{Surroundings, binary_code, immediate_code, immediate_for, both_code, apply_code, applied_kept, keep_result}
 use Rattle.core_lines.proofs.memory.Relations.{World, IsInOrder, Has, Waiting, Follows, keeping}
 use Rattle.core_lines.proofs.memory.Moving.{Comes}
 use Rattle.core_lines.proofs.frames.Passing.{has_first, has_second}
+use Rattle.core_lines.proofs.operations.Judging.{verdict_into}
 use Rattle.core_lines.proofs.operations.Registers.{
+  reads,
+  IsSteady,
+  source_not_zero,
   having,
   AtWith,
   AtHolding,
@@ -79,7 +95,7 @@ use Rattle.core_lines.proofs.operations.Registers.{
   result_into,
 }
 use Rattle.core_lines.proofs.operations.Operations.{operand, never, word_few, move}
-use Rattle.core_lines.proofs.operations.Values.{computes}
+use Rattle.core_lines.proofs.operations.Values.{computes, same_truth, not_less}
 use Rattle.core_lines.proofs.operations.Immediates.{immediate_computes}
 
 -- ---- sums with 0
@@ -89,6 +105,7 @@ zero_source None e = absurd (cc (e))
 zero_source (Some (Register r)) e = absurd (cc (e))
 zero_source (Some (Number zero)) e = refl
 zero_source (Some (Number (suc n))) e = absurd (cc (e))
+zero_source (Some (Compared c)) e = absurd (cc (e))
 
 -- where the result is the word of a temporary, it is a sum of which the other word is 0
 same_found : (o : Binary) (y z r : ℕ) (of_y of_z : Option Source) → same_as o y z of_y of_z ≡ Some r
@@ -118,6 +135,17 @@ same_found core.Less y z r of_y of_z e = absurd (cc (e))
 same_found core.LessEqual y z r of_y of_z e = absurd (cc (e))
 same_found core.LessUnsigned y z r of_y of_z e = absurd (cc (e))
 same_found core.LessEqualUnsigned y z r of_y of_z e = absurd (cc (e))
+
+-- ---- comparisons
+
+-- a comparison is one of two registers
+compared_found : (k : Condition) (l r : Option ℕ) (c : Comparison) → compared_by k l r ≡ Some c
+    → (l ≡ Some c.left) × (r ≡ Some c.right) × (k ≡ c.condition)
+compared_found k None r c e = absurd (cc (e))
+compared_found k (Some l) None c e = absurd (cc (e))
+compared_found k (Some l) (Some r) c e =
+    let same = same_Some (record { condition = k; left = l; right = r }) c e in
+    (ap (λ (d : Comparison). Some d.left) same, ap (λ (d : Comparison). Some d.right) same, ap (λ (d : Comparison). d.condition) same)
 
 -- ---- the code
 
@@ -186,6 +214,7 @@ module _ (w : World) (order : IsInOrder w) (x : Waiting) (outer : List Waiting) 
       → Resulting (Some lines)
   by_source lines None at some has = absurd (cc)
   by_source lines (Some (Register r)) at some has = absurd (cc)
+  by_source lines (Some (Compared c)) at some has = absurd (cc)
   by_source lines (Some (Number n)) at some has =
       let first = operand w order x outer mem hs 5 y in
       let left = operand_some hs 4 y in
@@ -205,23 +234,27 @@ module _ (w : World) (order : IsInOrder w) (x : Waiting) (outer : List Waiting) 
 
   -- ---- sums with 0
 
-  abbrev Applied : Option ℕ → Type 0
-  Applied found = Has w place (applied_kept keeps here o t y z found) → Comes w (AtHolding w x outer mem place hs)
-      (AtHolding w (with_value (two o a b)) outer mem (place + code_length (applied_kept keeps here o t y z found)) (with_applied t found hs))
+  abbrev Applied : Option ℕ → Option Comparison → Type 0
+  Applied found compared = Has w place (applied_kept keeps here o t y z found compared) → Comes w (AtHolding w x outer mem place hs)
+      (AtHolding w (with_value (two o a b)) outer mem (place + code_length (applied_kept keeps here o t y z found compared))
+      (with_applied t found compared hs))
+
+  abbrev compared : Option Comparison
+  compared = comparison_of o (source_of hs y) (source_of hs z)
 
   abbrev Stood : Machine → Type 0
   Stood s = AtWith w x outer mem place (AreThere hs x.config.temps) s
 
   -- the result is the word that a temporary has
   moves : (r n : ℕ) → r < x.fn.temporaries → IsServed w x hs r → x.config.temps r ≡ Word n → ((s : Machine) → Stood s → n < 2 ^ 32 → two o a b ≡ n)
-      → Applied (Some r)
+      → Applied (Some r) compared
   moves r n is_named is_served holds same has = by (nat_eq (two o a b) n) refl
     where
       by : (c : Bool) → nat_eq (two o a b) n ≡ c → Comes w (AtHolding w x outer mem place hs)
-          (AtHolding w (with_value (two o a b)) outer mem (place + code_length (applied_kept keeps here o t y z (Some r))) (with_applied t (Some r) hs))
+          (AtHolding w (with_value (two o a b)) outer mem (place + code_length (applied_kept keeps here o t y z (Some r) compared)) (with_applied t (Some r) compared hs))
       by true e =
           subst (λ v. Comes w (AtHolding w x outer mem place hs) (AtHolding w (keeping after (having t v x)) outer mem
-          (place + code_length (applied_kept keeps here o t y z (Some r))) (with_applied t (Some r) hs)))
+          (place + code_length (applied_kept keeps here o t y z (Some r) compared)) (with_applied t (Some r) compared hs)))
           (holds ∙ ap (λ k. Word k) (sym (eqb-true (two o a b) n e)))
           (move w order x outer mem keeps after t named follows r place hs is_named is_served has)
       by false e = never w order x outer mem _ _ (λ s m.
@@ -233,15 +266,79 @@ module _ (w : World) (order : IsInOrder w) (x : Waiting) (outer : List Waiting) 
   none_is r n s stood zero_there holds =
       let found = there_found hs r (Number 0) x.config.temps stood.maps s.registers stood.holds zero_there in subst (λ v. Shows stood.maps v 0) holds found.0
 
-  found_as : (found : Option ℕ) → same_as o y z (source_of hs y) (source_of hs z) ≡ found → Applied found
-  found_as None e = apply
+  -- ---- comparisons
+
+  -- a register has a word
+  in_register : (p n r : ℕ) (s : Machine) (stood : Stood s) → x.config.temps p ≡ Word n → register_in (source_of hs p) ≡ Some r
+      → (reads s.registers r ≡ n) × IsSteady r s.registers
+  in_register p n r s stood holds e = by (source_of hs p) refl e
+    where
+      Has_word : ℕ → Type 0
+      Has_word k = (reads s.registers k ≡ n) × IsSteady k s.registers
+
+      found : (t : Source) → source_of hs p ≡ Some t → IsThere t (Word n) stood.maps s.registers
+      found t at = subst (λ v. IsThere t v stood.maps s.registers) holds (there_found hs p t x.config.temps stood.maps s.registers stood.holds at)
+
+      by : (t : Option Source) → source_of hs p ≡ t → register_in t ≡ Some r → Has_word r
+      by None at e = absurd (cc (e))
+      by (Some (Register zero)) at e = absurd (source_not_zero hs p at)
+      by (Some (Register (suc q))) at e =
+          let found_there = found (Register (suc q)) at in
+          subst Has_word (same_Some (suc q) r e) (found_there.0.0, (found_there.1, found_there.0.1))
+      by (Some (Number zero)) at e = let found_there = found (Number zero) at in subst Has_word (same_Some zero r e) (found_there.0, (refl, omega arith))
+      by (Some (Number (suc k))) at e = absurd (cc (e))
+      by (Some (Compared c)) at e = absurd (cc (e))
+
+  abbrev Judged : Comparison → Type 0
+  Judged c = (s : Machine) (stood : Stood s) → IsThere (Compared c) (Word (two o a b)) stood.maps s.registers
+
+  judged : (k : Condition) (p q n j : ℕ) (c : Comparison) → x.config.temps p ≡ Word n → x.config.temps q ≡ Word j
+      → compared_by k (register_in (source_of hs p)) (register_in (source_of hs q)) ≡ Some c → truth (holds k n j) ≡ two o a b → Judged c
+  judged k p q n j c at at' e same s stood =
+      let parts = compared_found k (register_in (source_of hs p)) (register_in (source_of hs q)) c e in
+      let left = in_register p n c.left s stood at parts.0 in
+      let right = in_register q j c.right s stood at' parts.1 in (
+        ap (λ (u : Condition). truth (holds u (reads s.registers c.left) (reads s.registers c.right))) (sym parts.2)
+            ∙ ap (λ u. truth (holds k u (reads s.registers c.right))) left.0 ∙ ap (λ u. truth (holds k n u)) right.0 ∙ same,
+        left.1,
+        right.1,
+      )
+
+  judges : (p : Binary) → p ≡ o → (c : Comparison) → comparison_of p (source_of hs y) (source_of hs z) ≡ Some c → Judged c
+  judges core.Equal same c e = judged condition.Equal y z a b c is is' e (same_truth (nat_eq a b) ∙ ap (λ (p : Binary). two p a b) same)
+  judges core.NotEqual same c e = judged condition.NotEqual y z a b c is is' e (same_truth (not (nat_eq a b)) ∙ ap (λ (p : Binary). two p a b) same)
+  judges core.Less same c e = judged condition.Less y z a b c is is' e (same_truth (is_less a b) ∙ ap (λ (p : Binary). two p a b) same)
+  judges core.LessEqual same c e = judged condition.NotLess z y b a c is' is e (same_truth (not (is_less b a)) ∙ ap (λ (p : Binary). two p a b) same)
+  judges core.LessUnsigned same c e = judged condition.LessUnsigned y z a b c is is' e (same_truth (nat_lt a b) ∙ ap (λ (p : Binary). two p a b) same)
+  judges core.LessEqualUnsigned same c e = judged condition.NotLessUnsigned z y b a c is' is e
+      (same_truth (not (nat_lt b a)) ∙ ap meaning.truth (not_less a b) ∙ ap (λ (p : Binary). two p a b) same)
+  judges core.Add same c e = absurd (cc (e))
+  judges core.Subtract same c e = absurd (cc (e))
+  judges core.Multiply same c e = absurd (cc (e))
+  judges core.Divide same c e = absurd (cc (e))
+  judges core.DivideUnsigned same c e = absurd (cc (e))
+  judges core.Remainder same c e = absurd (cc (e))
+  judges core.RemainderUnsigned same c e = absurd (cc (e))
+  judges core.And same c e = absurd (cc (e))
+  judges core.Or same c e = absurd (cc (e))
+  judges core.Xor same c e = absurd (cc (e))
+  judges core.ShiftLeft same c e = absurd (cc (e))
+  judges core.ShiftRight same c e = absurd (cc (e))
+  judges core.ShiftRightUnsigned same c e = absurd (cc (e))
+
+  computed_as : (found : Option Comparison) → compared ≡ found → Applied None found
+  computed_as None e = apply
+  computed_as (Some c) e = verdict_into w order x outer mem after t c place (Word (two o a b)) hs named keeps follows (judges o refl c e)
+
+  found_as : (found : Option ℕ) → same_as o y z (source_of hs y) (source_of hs z) ≡ found → Applied found compared
+  found_as None e = computed_as compared refl
   found_as (Some r) e = by (same_found o y z r (source_of hs y) (source_of hs z) e)
     where
-      by : (o ≡ core.Add) × (((z ≡ r) × (source_of hs y ≡ Some (Number 0))) ⊎ ((y ≡ r) × (source_of hs z ≡ Some (Number 0)))) → Applied (Some r)
-      by (sum, inl h) = subst (λ r. Applied (Some r)) h.0 (moves z b named'' served' is' (λ s stood few.
+      by : (o ≡ core.Add) × (((z ≡ r) × (source_of hs y ≡ Some (Number 0))) ⊎ ((y ≡ r) × (source_of hs z ≡ Some (Number 0)))) → Applied (Some r) compared
+      by (sum, inl h) = subst (λ r. Applied (Some r) compared) h.0 (moves z b named'' served' is' (λ s stood few.
           let none = none_is y a s stood h.1 is in ap (λ (p : Binary). two p a b) sum ∙ omega (arith, none, few)))
-      by (sum, inr h) = subst (λ r. Applied (Some r)) h.0 (moves y a named' served is (λ s stood few.
+      by (sum, inr h) = subst (λ r. Applied (Some r) compared) h.0 (moves y a named' served is (λ s stood few.
           let none = none_is z b s stood h.1 is' in ap (λ (p : Binary). two p a b) sum ∙ omega (arith, none, few)))
 
-  pub applied : Applied (same_as o y z (source_of hs y) (source_of hs z))
+  pub applied : Applied (same_as o y z (source_of hs y) (source_of hs z)) compared
   applied = found_as (same_as o y z (source_of hs y) (source_of hs z)) refl

@@ -1,5 +1,6 @@
 -- What is known of the words of temporaries besides their slots, at a machine.
 use Rattle.std.specs.Prelude.{nat_eq, nat_lt, ◌||◌, if◌then◌else◌}
+use Rattle.rv32_machine.specs.Step.{truth}
 use Rattle.std.proofs.Common.{
   ◌≡◌,
   ℕ,
@@ -31,11 +32,14 @@ use Rattle.std.proofs.Common.{
 use Rattle.std.proofs.lemmas.Bool.{eq-eqb, ne_eqb, eqb-true}
 use Rattle.std.proofs.lemmas.Bool.Decides.{nat_tests}
 use Rattle.core_meaning.specs.Memory.{Content}
+use Rattle.core_lines.specs.declared.comparison.Comparison.{Comparison}
+use Rattle.core_lines.specs.Comparisons.{holds}
 use Rattle.core_meaning.specs.Steps.{set_temp, with_temp}
 use Rattle.core_lines.specs.Held.{
   Source,
   Register,
   Number,
+  Compared,
   Holding,
   some_source,
   source_of,
@@ -51,6 +55,7 @@ use Rattle.core_lines.specs.Loaded.{if_unknown, unknown_in}
 use Rattle.core_lines.specs.Operands.{register_for, operand_in}
 use Rattle.core_lines.proofs.memory.Relations.{World, Waiting, Covers, Follows, IsKept, AreKept}
 use Rattle.core_lines.proofs.memory.Slots.{Kept}
+pub use Rattle.core_lines.proofs.memory.Verdicts.{reads, is_so, verdict, truth_few}
 use Rattle.core_lines.proofs.memory.Alike.{shows_on}
 
 -- an activation with a temporary set
@@ -122,11 +127,16 @@ result_free t = (result_facts (t % 8) (omega arith)).1
 
 -- ---- what is known
 
+-- no code changes a register but for what is known of temporaries, and it has a word
+abbrev pub IsSteady : ℕ → (ℕ → ℕ) → Type 0
+IsSteady r registers = (is_spare r ≡ false) × (reads registers r < 2 ^ 32)
+
 -- a source shows a value
 abbrev pub IsThere : Source → Content → Maps → (ℕ → ℕ) → Type 0
 IsThere (Register zero) v m registers = Unit {0}
 IsThere (Register (suc r)) v m registers = InRegister (suc r) v m registers × (is_spare (suc r) ≡ false)
 IsThere (Number n) v m registers = Shows m v n × (n < 2 ^ 32)
+IsThere (Compared c) v m registers = Shows m v (verdict c registers) × IsSteady c.left registers × IsSteady c.right registers
 
 -- each temporary's word is where it is said to be
 abbrev pub AreThere : List Holding → (ℕ → Content) → Maps → (ℕ → ℕ) → Type 0
@@ -138,6 +148,7 @@ source_extends : (s : Source) (v : Content) (m n : Maps) (registers : ℕ → �
 source_extends (Register zero) v m n registers e a = tt
 source_extends (Register (suc r)) v m n registers e a = ((shows_on m n v (registers (suc r)) e a.0.0, a.0.1), a.1)
 source_extends (Number k) v m n registers e a = (shows_on m n v k e a.0, a.1)
+source_extends (Compared c) v m n registers e a = (shows_on m n v (verdict c registers) e a.0, a.1, a.2)
 
 pub there_extends : (hs : List Holding) (temps : ℕ → Content) (m n : Maps) (registers : ℕ → ℕ) → Extends m n → AreThere hs temps m registers
     → AreThere hs temps n registers
@@ -151,6 +162,7 @@ some_not_zero : (s : Source) → some_source s ≡ Some (Register zero) → ⊥
 some_not_zero (Register zero) e = cc
 some_not_zero (Register (suc r)) e = let same : suc r ≡ zero = cc in omega (arith, same)
 some_not_zero (Number n) e = cc
+some_not_zero (Compared c) e = cc
 
 pub source_not_zero : (hs : List Holding) (t : ℕ) → source_of hs t ≡ Some (Register zero) → ⊥
 source_not_zero [] t e = cc
@@ -164,6 +176,7 @@ some_there : (is s : Source) (v : Content) (m : Maps) (registers : ℕ → ℕ) 
 some_there (Register zero) s v m registers e a = absurd (cc)
 some_there (Register (suc r)) s v m registers e a = let same : Register (suc r) ≡ s = cc in subst (λ q. IsThere q v m registers) same a
 some_there (Number n) s v m registers e a = let same : Number n ≡ s = cc in subst (λ q. IsThere q v m registers) same a
+some_there (Compared c) s v m registers e a = let same : Compared c ≡ s = cc in subst (λ q. IsThere q v m registers) same a
 
 pub there_found : (hs : List Holding) (t : ℕ) (s : Source) (temps : ℕ → Content) (m : Maps) (registers : ℕ → ℕ) → AreThere hs temps m registers
     → source_of hs t ≡ Some s → IsThere s (temps t) m registers
@@ -185,19 +198,43 @@ operand_some hs spare t = by (source_of hs t) refl
     by (Some (Register zero)) e = absurd (source_not_zero hs t e)
     by (Some (Register (suc r))) e = (r, refl)
     by (Some (Number n)) e = (spare, refl)
+    by (Some (Compared c)) e = (spare, refl)
 
 -- what stays where a register changes
+
+reads_kept : (r q : ℕ) (new old : ℕ → ℕ) → Kept r new old → is_spare q ≡ false → nat_eq q r ≡ false → reads old q ≡ reads new q
+reads_kept r zero new old kept free other = refl
+reads_kept r (suc q) new old kept free other = sym (kept (suc q) (spare_apart (suc q) 7 free refl) other)
+
+compared_kept : (r : ℕ) (c : Comparison) (v : Content) → nat_eq c.left r ≡ false → nat_eq c.right r ≡ false → Stable r (IsThere (Compared c) v)
+compared_kept r c v left right m new old kept a =
+    let same = reads_kept r c.left new old kept a.1.0 left in
+    let same' = reads_kept r c.right new old kept a.2.0 right in
+    let is : verdict c old ≡ verdict c new =
+    ap (λ k. truth (holds c.condition k (reads old c.right))) same ∙ ap (λ k. truth (holds c.condition (reads new c.left) k)) same' in (
+      subst (λ k. Shows m v k) is a.0,
+      (a.1.0, subst (λ k. k < 2 ^ 32) same a.1.1),
+      (a.2.0, subst (λ k. k < 2 ^ 32) same' a.2.1),
+    )
+
+or_none : (a b : Bool) → (a || b) ≡ false → (a ≡ false) × (b ≡ false)
+or_none true b e = absurd (cc e)
+or_none false b e = (refl, e)
 
 source_kept : (r : ℕ) (s : Source) (v : Content) → is_in r s ≡ false → Stable r (IsThere s v)
 source_kept r (Register zero) v other m new old kept a = tt
 source_kept r (Register (suc q)) v other m new old kept a = (register_stays (suc q) r v m new old kept (spare_apart (suc q) 7 a.1 refl) other a.0, a.1)
 source_kept r (Number n) v other m new old kept a = a
+source_kept r (Compared c) v other m new old kept a =
+    let apart = or_none (nat_eq c.left r) (nat_eq c.right r) other in compared_kept r c v apart.0 apart.1 m new old kept a
 
-not_in_spare : (r : ℕ) (s : Source) (v : Content) → is_spare r ≡ true → Stable r (IsThere s v)
+pub not_in_spare : (r : ℕ) (s : Source) (v : Content) → is_spare r ≡ true → Stable r (IsThere s v)
 not_in_spare r (Register zero) v spare m new old kept a = tt
 not_in_spare r (Register (suc q)) v spare m new old kept a =
     (register_stays (suc q) r v m new old kept (spare_apart (suc q) 7 a.1 refl) (spare_apart (suc q) r a.1 spare) a.0, a.1)
 not_in_spare r (Number n) v spare m new old kept a = a
+not_in_spare r (Compared c) v spare m new old kept a =
+    compared_kept r c v (spare_apart c.left r a.1.0 spare) (spare_apart c.right r a.2.0 spare) m new old kept a
 
 pub there_kept : (r : ℕ) (hs : List Holding) (temps : ℕ → Content) → is_spare (suc r) ≡ true → Stable (suc r) (AreThere hs temps)
 there_kept r [] temps spare m new old kept a = tt

@@ -56,6 +56,7 @@ use Rattle.core_lines.specs.Held.{
   Source,
   Register,
   Number,
+  Compared,
   Holding,
   source_of,
   number_in,
@@ -74,7 +75,11 @@ use Rattle.core_lines.proofs.memory.Moving.{Comes, comes_then, comes_as}
 use Rattle.core_lines.proofs.Steps.{state_at}
 use Rattle.core_lines.proofs.frames.Passing.{has_first, has_second, temp_lies}
 pub use Rattle.core_lines.proofs.operations.Registers.{having}
+use Rattle.core_lines.proofs.operations.Judging.{verdict_into}
 use Rattle.core_lines.proofs.operations.Registers.{
+  is_so,
+  verdict,
+  truth_few,
   AtWith,
   AtHolding,
   with_there,
@@ -148,6 +153,9 @@ module _ (w : World) (order : IsInOrder w) (x : Waiting) (outer : List Waiting) 
       by (Some (Register (suc q))) e =
           let found = there_found hs y (Register (suc q)) x.config.temps a.maps s.registers a.holds e in below (s.registers (suc q)) found.0.0 found.0.1
       by (Some (Number k)) e = let found = there_found hs y (Number k) x.config.temps a.maps s.registers a.holds e in below k found.0 found.1
+      by (Some (Compared c)) e =
+          let found = there_found hs y (Compared c) x.config.temps a.maps s.registers a.holds e in
+          below (verdict c s.registers) found.0 (truth_few (is_so c s.registers))
 
   -- a temporary into a register
   pub loads_into : (r t place : ℕ) → t < x.fn.temporaries → IsKept w x t → stays (suc r) ≡ false → Has w place (loading (suc r) t)
@@ -256,6 +264,8 @@ module _ (w : World) (order : IsInOrder w) (x : Waiting) (outer : List Waiting) 
         by (Some (Register zero)) e has = absurd (source_not_zero hs y e)
         by (Some (Register (suc q))) e has = comes_then w _ _ _ (comes_as w _ _ (with_there w x outer mem place hs)) (moved q e (nat_eq (suc q) 7) refl has)
         by (Some (Number n)) e has = comes_then w _ _ _ (comes_as w _ _ (with_there w x outer mem place hs)) (as_number n e (cases_lt n (2 ^ 32)) has)
+        by (Some (Compared c)) e has = verdict_into w order x outer mem after t c place v hs named keeps follows
+            (λ s a. there_found hs y (Compared c) x.config.temps a.maps s.registers a.holds e) has
 
     -- ---- operations on one word
 
@@ -303,6 +313,7 @@ module _ (w : World) (order : IsInOrder w) (x : Waiting) (outer : List Waiting) 
             (place + code_length (lowest_lines hs y (number_in s))) (with_narrowed t (number_in s) hs))
         by None e has = narrow y n place hs named' served is has
         by (Some (Register q)) e has = narrow y n place hs named' served is has
+        by (Some (Compared c)) e has = narrow y n place hs named' served is has
         by (Some (Number k)) e has =
             number_into w order x outer mem keeps after t (k % 256) place (Word (n % 256)) hs named follows (omega arith)
             (λ s a.

@@ -1,32 +1,7 @@
 -- How operands come into registers, and results into temporaries.
 use Rattle.std.specs.Prelude.{nat_eq, if◌then◌else◌}
-use Rattle.std.proofs.Common.{
-  ◌≡◌,
-  ℕ,
-  zero,
-  suc,
-  pos,
-  ◌+◌,
-  ◌^◌,
-  ◌<◌,
-  inl,
-  inr,
-  Bool,
-  true,
-  false,
-  List,
-  [],
-  ◌∷◌,
-  ◌++◌,
-  Option,
-  Some,
-  None,
-  refl,
-  sym,
-  subst,
-  ◌∙◌,
-  arith,
-}
+use Rattle.std.proofs.Common.{◌≡◌, ℕ, zero, suc, pos, ◌+◌, ◌^◌, ◌<◌, inl, inr, Bool, true, false, List, [], ◌∷◌, ◌++◌, Option, Some, None}
+use Rattle.std.proofs.Common.{refl, sym, subst, ◌∙◌, arith}
 use Rattle.std.proofs.lemmas.Bool.{eq-eqb, eqb-true}
 use Rattle.cyc_words.specs.Words.{word, sum_of}
 use Rattle.rv32_isa.specs.declared.instruction.Instr.TheVariants.{Addi}
@@ -44,7 +19,8 @@ use Rattle.core_lines.specs.declared.line.Line.{Line}
 use Rattle.core_lines.specs.declared.line.Line.TheVariants.{Plain}
 use Rattle.core_lines.specs.Lines.{code_length}
 use Rattle.core_lines.specs.Frames.{save_code, slot_of}
-use Rattle.core_lines.specs.Held.{Source, Register, Number, Holding, source_of, without_register, with_source, with_result, result_index, result_register}
+use Rattle.core_lines.specs.Held.{Source, Register, Number, Compared, Holding, source_of, without_register, with_source, with_result, result_index}
+use Rattle.core_lines.specs.Held.{result_register}
 use Rattle.core_lines.specs.Homes.{stays}
 use Rattle.core_lines.specs.Lies.{Maps, Shows}
 use Rattle.core_lines.specs.Operands.{number_code, register_for, operand_in, bring_code, operand_code, fetch_code, into_code, keep_code, number_kept}
@@ -53,6 +29,12 @@ use Rattle.core_lines.proofs.memory.Moving.{Comes, comes_then, comes_as}
 use Rattle.core_lines.proofs.memory.Slots.{Kept, set_here}
 use Rattle.core_lines.proofs.frames.Passing.{has_first, has_second, frame_unkept}
 pub use Rattle.core_lines.proofs.operations.Holding.{
+  reads,
+  is_so,
+  verdict,
+  truth_few,
+  IsSteady,
+  not_in_spare,
   having,
   is_spare,
   spare_leaves,
@@ -105,6 +87,7 @@ pub use Rattle.core_lines.proofs.operations.Standing.{
   puts_value,
   puts_twice,
   puts_number,
+  puts_verdict,
   puts_into,
 }
 
@@ -164,6 +147,15 @@ module _ (w : World) (order : IsInOrder w) (x : Waiting) (outer : List Waiting) 
           (λ m new old is kept h.
           let found = there_found hs t (Number n) x.config.temps m old h.0 e in (
             (subst (λ k. Shows m (x.config.temps t) k × (k < 2 ^ 32)) (sym is) found, own),
+            there_kept r hs x.config.temps spare m new old kept h.0,
+            stable m new old kept h.1,
+          ))
+      by (Some (Compared c)) e has = puts_verdict w order x outer mem r c place (Known hs H) (WithOperand (suc r) (suc r) t hs H)
+          (λ m registers h. let found = there_found hs t (Compared c) x.config.temps m registers h.0 e in (found.1.1, found.2.1)) (spare_leaves (suc r) spare)
+          has
+          (λ m new old is kept h.
+          let found = there_found hs t (Compared c) x.config.temps m old h.0 e in (
+            (subst (λ k. Shows m (x.config.temps t) k × (k < 2 ^ 32)) (sym is) (found.0, truth_few (is_so c old)), own),
             there_kept r hs x.config.temps spare m new old kept h.0,
             stable m new old kept h.1,
           ))
@@ -277,6 +269,11 @@ module _ (w : World) (order : IsInOrder w) (x : Waiting) (outer : List Waiting) 
           (λ m registers h. (there_found hs t (Number n) x.config.temps m registers h.0 e).1) other has
           (λ m new old is kept h. changed m new old
           (subst (λ k. Shows m (x.config.temps t) k × (k < 2 ^ 32)) (sym is) (there_found hs t (Number n) x.config.temps m old h.0 e)) kept h)
+      by (Some (Compared c)) e has = puts_verdict w order x outer mem r c place (Known hs H) (Fetched (suc r) t hs H)
+          (λ m registers h. let found = there_found hs t (Compared c) x.config.temps m registers h.0 e in (found.1.1, found.2.1)) other has
+          (λ m new old is kept h.
+          let found = there_found hs t (Compared c) x.config.temps m old h.0 e in
+          changed m new old (subst (λ k. Shows m (x.config.temps t) k × (k < 2 ^ 32)) (sym is) (found.0, truth_few (is_so c old))) kept h)
 
   -- ---- results: they are saved or not, and behind that these slots show their temporaries' words
 

@@ -10,6 +10,8 @@ use Rattle.core_lines.specs.Machines.{Machine, Store}
 use Rattle.rv32_machine.specs.State.{code_base, set_register}
 use Rattle.rv32_machine.specs.Step.{effect, gives}
 use Rattle.rv32_machine.specs.Audit.{AccessIsLawful}
+use Rattle.core_lines.specs.declared.comparison.Comparison.{Comparison}
+use Rattle.core_lines.specs.Comparisons.{verdict_code}
 use Rattle.core_lines.specs.declared.line.Line.{Line}
 use Rattle.core_lines.specs.Lines.{HasInstr, code_length}
 use Rattle.core_lines.specs.Frames.{word_code, load_code, save_code, slot_of}
@@ -39,6 +41,8 @@ use Rattle.core_lines.proofs.homes.Homes.{Stays, kept_stays, set_stays}
 use Rattle.core_lines.proofs.Steps.{state_at, IsKeptBelow, gives_value}
 use Rattle.core_lines.proofs.memory.Slots.{Kept, Puts, set_here, set_there}
 use Rattle.core_lines.proofs.memory.Slots as slots
+use Rattle.core_lines.proofs.memory.Verdicts.{reads, verdict}
+use Rattle.core_lines.proofs.memory.Verdicts as verdicts
 use Rattle.core_lines.proofs.memory.Access.{length_of_both, behind, written_out, loads, saves, stands_behind}
 use Rattle.core_lines.proofs.frames.Passing.{frame_set, frame_fewer, fewer_kept, temp_lies}
 
@@ -310,13 +314,13 @@ module _ (w : World) (order : IsInOrder w) (x : Waiting) (outer : List Waiting) 
       Between m registers = (old : ℕ → ℕ) × ((registers (suc r) ≡ value old) × Kept (suc r) registers old × P m old)
 
   -- a word into a register, by code that does no more, where something stays
-  puts_by : (lines : List Line) (r v place : ℕ) (P Q : Maps → (ℕ → ℕ) → Type 0) → ((m : Maps) (registers : ℕ → ℕ) → P m registers → v < 2 ^ 32)
-      → stays (suc r) ≡ false
-      → ((registers bytes : ℕ → ℕ) (st : Store) → IsKeptBelow w.code bytes → v < 2 ^ 32
-      → Puts w place (place + code_length lines) (code_length lines / 4) (suc r) v registers bytes st)
-      → ((m : Maps) (new old : ℕ → ℕ) → new (suc r) ≡ v → Kept (suc r) new old → P m old → Q m new)
+  puts_by : (lines : List Line) (r : ℕ) (v : (ℕ → ℕ) → ℕ) (place : ℕ) (P Q : Maps → (ℕ → ℕ) → Type 0) (Small : (ℕ → ℕ) → Type 0)
+      → ((m : Maps) (registers : ℕ → ℕ) → P m registers → Small registers) → stays (suc r) ≡ false
+      → ((registers bytes : ℕ → ℕ) (st : Store) → IsKeptBelow w.code bytes → Small registers
+      → Puts w place (place + code_length lines) (code_length lines / 4) (suc r) (v registers) registers bytes st)
+      → ((m : Maps) (new old : ℕ → ℕ) → new (suc r) ≡ v old → Kept (suc r) new old → P m old → Q m new)
       → Comes w (AtWith w x outer mem place P) (AtWith w x outer mem (place + code_length lines) Q)
-  puts_by lines r v place P Q small other does gets = record {
+  puts_by lines r v place P Q Small small other does gets = record {
     count = code_length lines / 4;
     by = λ s a.
         let p = does s.registers s.bytes s.store a.stands.kept (small a.maps s.registers a.holds) in
@@ -334,11 +338,21 @@ module _ (w : World) (order : IsInOrder w) (x : Waiting) (outer : List Waiting) 
       → stays (suc r) ≡ false → Has w place (number_code (suc r) v)
       → ((m : Maps) (new old : ℕ → ℕ) → new (suc r) ≡ v → Kept (suc r) new old → P m old → Q m new)
       → Comes w (AtWith w x outer mem place P) (AtWith w x outer mem (place + code_length (number_code (suc r) v)) Q)
-  puts_number r v place P Q small other has gets = puts_by (number_code (suc r) v) r v place P Q small other
+  puts_number r v place P Q small other has gets = puts_by (number_code (suc r) v) r (λ _. v) place P Q (λ _. v < 2 ^ 32) small other
       (λ registers bytes st below few. slots.puts_number w order place registers bytes st below r v few has) gets
 
   pub puts_into : (r v place : ℕ) (P Q : Maps → (ℕ → ℕ) → Type 0) → v < 2 ^ 32 → stays (suc r) ≡ false → Has w place (word_code (suc r) v)
       → ((m : Maps) (new old : ℕ → ℕ) → new (suc r) ≡ v → Kept (suc r) new old → P m old → Q m new)
       → Comes w (AtWith w x outer mem place P) (AtWith w x outer mem (place + 8) Q)
-  puts_into r v place P Q small other has gets = puts_by (word_code (suc r) v) r v place P Q (λ m registers h. small) other
+  puts_into r v place P Q small other has gets = puts_by (word_code (suc r) v) r (λ _. v) place P Q (λ _. v < 2 ^ 32) (λ m registers h. small) other
       (λ registers bytes st below few. slots.puts_word w order place registers bytes st below r v few has) gets
+
+  -- a comparison's verdict, where no code changes its registers
+  pub puts_verdict : (r : ℕ) (c : Comparison) (place : ℕ) (P Q : Maps → (ℕ → ℕ) → Type 0)
+      → ((m : Maps) (registers : ℕ → ℕ) → P m registers → (reads registers c.left < 2 ^ 32) × (reads registers c.right < 2 ^ 32))
+      → stays (suc r) ≡ false → Has w place (verdict_code (suc r) c)
+      → ((m : Maps) (new old : ℕ → ℕ) → new (suc r) ≡ verdict c old → Kept (suc r) new old → P m old → Q m new)
+      → Comes w (AtWith w x outer mem place P) (AtWith w x outer mem (place + code_length (verdict_code (suc r) c)) Q)
+  puts_verdict r c place P Q small other has gets = puts_by (verdict_code (suc r) c) r (verdict c) place P Q
+      (λ registers. (reads registers c.left < 2 ^ 32) × (reads registers c.right < 2 ^ 32)) small other
+      (λ registers bytes st below few. verdicts.puts_verdict w order place registers bytes st below c r few.0 few.1 has) gets

@@ -47,6 +47,7 @@ use Rattle.core_lines.specs.Selected.{binary_code}
 use Rattle.core_lines.proofs.memory.Relations.{World, IsInOrder, Has, Waiting}
 use Rattle.core_lines.proofs.memory.Moving.{Comes}
 use Rattle.core_lines.proofs.memory.Slots.{Kept}
+pub use Rattle.core_lines.proofs.memory.Verdicts.{is_zero, is_some}
 use Rattle.core_lines.specs.Homes.{stays}
 use Rattle.core_lines.proofs.Steps.{state_at}
 use Rattle.core_lines.proofs.operations.Registers.{AtWith, InRegister, puts_value, puts_twice}
@@ -64,14 +65,7 @@ opposite : (b : Bool) → bit_xor (truth b) 1 ≡ meaning.truth (not b)
 opposite true = refl
 opposite false = refl
 
--- a difference is 0 where both words are equal
-pub is_zero : (a b : ℕ) → a < 2 ^ 32 → b < 2 ^ 32 → nat_lt (difference_of a b) 1 ≡ nat_eq a b
-is_zero a b l m = grind (arith, nat_tests)
-
-pub is_some : (a b : ℕ) → a < 2 ^ 32 → b < 2 ^ 32 → nat_lt 0 (difference_of a b) ≡ not (nat_eq a b)
-is_some a b l m = grind (arith, nat_tests)
-
-not_less : (a b : ℕ) → not (nat_lt b a) ≡ nat_le a b
+pub not_less : (a b : ℕ) → not (nat_lt b a) ≡ nat_le a b
 not_less a b = grind (arith, nat_tests)
 
 pub two_below : (o : Binary) (a b : ℕ) → a < 2 ^ 32 → b < 2 ^ 32 → two o a b < 2 ^ 32

@@ -21,6 +21,7 @@ use crate::request::{allocate, allocate_unique};
 use crate::take::leave_function;
 use crate::value::Value;
 use crate::whole::{clear, copy};
+use crate::words::operate_on_words;
 use cyc_core::{Local, Statement, Temporary, Words};
 use std::alloc::{AllocError, Global};
 
@@ -245,6 +246,11 @@ pub fn follow_statements<'p>(
             wait_for_others(stack, others)?;
             return enter_statement(alloc, statement, stack, frame, memory);
         };
+        let is_done = operate_on_words(operation, frame, memory)?;
+        if is_done {
+            rest = others;
+            continue 'each;
+        }
         let due = operate(alloc, *operation, frame, memory)?;
         if !is_over(&due) {
             wait_for_others(stack, others)?;

@@ -26,6 +26,7 @@ mod running;
 mod take;
 mod value;
 mod whole;
+mod words;
 
 pub use ending::EvalEnding;
 pub use running::evaluate_core;

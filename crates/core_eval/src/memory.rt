@@ -1,7 +1,7 @@
 // What is stored: the globals and the blocks of regions, the locals of all blocks that aren't left yet, and the unnamed values of all
 // functions that are active.
 
-ghost use Rattle.std.specs.Prelude.{◌≡◌, ◌∷◌, ◌+◌, [], Some, None, false, if◌then◌else◌, drop, map, IfOk, OnOk};
+ghost use Rattle.std.specs.Prelude.{◌≡◌, ◌∷◌, ◌+◌, [], Some, None, false, if◌then◌else◌, drop, map, IfOk, IfSome, OnOk};
 ghost use Rattle.core_eval.specs.Values.{cells_of, value_of};
 ghost use Rattle.core_eval.specs.declared.frame.Frame.{Frame as TheFrame};
 ghost use Rattle.core_eval.specs.Standing.{first_known, known_of};
@@ -20,7 +20,7 @@ ghost use Rattle.core_eval.specs.Blocks.{
   stored_of,
 };
 
-use crate::blocks::{Block, fill_by, position_of, set_at, set_by, slot_by, value_at};
+use crate::blocks::{Block, fill_by, position_of, set_at, set_by, slot_by, value_at, word_at};
 use crate::held::Held;
 use crate::long_block::LongBlock;
 use crate::object::{blank_objects, first_objects};
@@ -157,6 +157,17 @@ impl Memory {
         match self.own_position(base, variable.out) {
             Some(position) => value_at(&self.blocks, position, variable.index, 0, 0, 0, width),
             None => None,
+        }
+    }
+
+    /// The word that a local holds, for a function outside of which there are so many blocks, if it is so wide and of one cell of one word.
+    pub fn word(&self, base: usize, variable: Variable, width: Width) -> Option<u32>
+        ensures { IfSome result (λ word. value_of 0 0 width (local_slot base (map activation_of self.now.blocks.items) variable.out variable.index)
+            ≡ Some (Value.Word word)) }
+    {
+        match (width, self.own_position(base, variable.out)) {
+            (Width::Word, Some(position)) => word_at(&self.blocks, position, variable.index),
+            _ => None,
         }
     }
 

@@ -23,6 +23,7 @@ mod pointer;
 mod region;
 mod request;
 mod running;
+mod spare;
 mod take;
 mod value;
 mod whole;

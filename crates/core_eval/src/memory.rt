@@ -25,6 +25,7 @@ use crate::held::Held;
 use crate::long_block::LongBlock;
 use crate::object::{blank_objects, first_objects};
 use crate::region::{self, Region};
+use crate::spare::Spare;
 use crate::value::{Area, Object, Place, Slot, Value, fill_in, put_in, slot_in};
 use cyc_core::{Datum, Local, Variable, Width};
 use std::alloc::{AllocError, Global};
@@ -47,6 +48,8 @@ pub struct Memory {
     pub regions: Vec<Region>,
     /// Where the cells of long blocks of regions lie, also of those that are closed or freed.
     pub long_blocks: Vec<LongBlock>,
+    /// Vectors that are done with. What is known rests on none of them.
+    pub spare: Spare,
 }
 
 impl Memory {
@@ -67,6 +70,7 @@ impl Memory {
             globals,
             regions: Vec::new(alloc),
             long_blocks: Vec::new(alloc),
+            spare: Spare::new(alloc),
         })
     }
 
@@ -102,7 +106,10 @@ impl Memory {
         ensures regions { self.new.regions ≡ self.old.regions }
         ensures long_blocks { self.new.long_blocks ≡ self.old.long_blocks }
     {
-        self.blocks.pop_front();
+        match self.blocks.pop_front() {
+            Some(block) => self.spare.keep_objects(block.objects),
+            None => {}
+        }
     }
 
     /// A function with these unnamed values is called. Fails only where no host memory is left, or 2^64 - 1 functions were called.

@@ -21,7 +21,7 @@ use Rattle.core_eval.specs.LongBlocks.{long_block_of}
 use Rattle.core_eval.specs.Blocks.{Activation, Stored, Descends, AreOrdered, activation_of, slot_in, local_slot, put_local, stored_of, put_to}
 use Rattle.core_eval.specs.Pendings.{Task, Execute, Leave, Wait, Next, Go, Wrong, next_of}
 use Rattle.core_eval.specs.Standing.{Known, Gives, known_of}
-use Rattle.core_eval.specs.Costs.{IsMove}
+use Rattle.core_eval.specs.Costs.{IsDone, IsMove}
 use Rattle.core_eval.proofs.Known.{known_same}
 use Rattle.core_eval.proofs.OperationMoves.{given}
 use Rattle.core_eval.proofs.Changes.{with_stored}
@@ -86,6 +86,9 @@ pub for_operation_ok : (due : Due) (o o' : Operation) (known known' : Known) →
     → (ws : List Wait) → IsMove (Execute (core.Do (operation_tree o))) ws known (next_of due) ws known'
 for_operation_ok due o o' known known' is h =
     subst (λ (p : Operation). (ws : List Wait) → IsMove (Execute (core.Do (operation_tree p))) ws known (next_of due) ws known') (sym is) h
+
+pub done_as : (o o' : Operation) (known known' : Known) → o ≡ o' → IsDone o' known known' → IsDone o known known'
+done_as o o' known known' is h = subst (λ (p : Operation). IsDone p known known') (sym is) h
 
 -- a write of what is there already
 pub set_same : {A : Type 0} (xs : List A) (k : ℕ) (x : A) → k < length xs → x ≡ slice_index_or xs k x → slice_set xs k x ≡ xs

@@ -109,6 +109,11 @@ pub some_wait : (l : List code.Statement) (ws : List Wait) → 0 < length l → 
 some_wait [] ws h = absurd (omega (arith, h))
 some_wait (s ∷ l) ws h = refl
 
+-- a move from what is the same state
+pub from_same : (task : Task) (known1 known : Known) (next : Next) (known2 : Known) → known1 ≡ known → ((b : List Wait) → IsMove task b known1 next b known2)
+    → (b : List Wait) → IsMove task b known next b known2
+from_same task known1 known next known2 same moves = λ b. subst (λ (k : Known). IsMove task b k next b known2) same (moves b)
+
 -- none is left
 pub ends : {task : Task} {ws : List Wait} {known : Known} {ws' : List Wait} {known' : Known} (l : List code.Statement) → length l ≡ 0
     → Reaches task ws known (Follow (body_tree l)) ws' known' → IsMove task ws known (Go (Leave steps.Falls)) ws' known'

@@ -1,12 +1,15 @@
 -- How many moves there are at most before a unit is due or the run is over: each move has fewer after it.
 use Rattle.std.specs.Prelude.{◌≡◌, ℕ, ◌+◌, ◌≤◌, List, [], ◌∷◌}
-use Rattle.core_meaning.specs.Core.{Statement, If, While, Block, Leave as LeaveOf, Statements, NoStatements, MoreStatements}
-use Rattle.core_meaning.specs.Memory.{Content}
-use Rattle.core_meaning.specs.Steps.{Returns}
+use Rattle.core_meaning.specs.Core.{Statement, Do, If, While, Block, Leave as LeaveOf, Statements, NoStatements, MoreStatements}
+use Rattle.core_meaning.specs.Memory.{Content, Word}
+use Rattle.core_meaning.specs.Steps.{Falls, Returns}
+use Rattle.cyc_core.specs.declared.operation.Operation.{Operation}
+use Rattle.cyc_core.specs.Trees.{operation_tree}
+use Rattle.core_eval.specs.declared.value.Value.{Value}
 use Rattle.core_eval.specs.declared.frame.Frame.{Frame}
 use Rattle.core_eval.specs.declared.memory.Memory as code
 use Rattle.core_eval.specs.Pendings.{Task, Follow, Execute, Leave, Wait, Then, Body, Caller, Saved, Next, Go}
-use Rattle.core_eval.specs.Standing.{Known, StandsStill, known_of}
+use Rattle.core_eval.specs.Standing.{Known, Gives, StandsStill, known_of}
 
 abbrev mutual
   pub statement_cost : Statement → ℕ
@@ -54,3 +57,12 @@ abbrev pub EndsWithin : Wait → code.Memory → code.Memory → Type 0
 EndsWithin w m m' =
     (vs : List Content) (ws : List Wait) (frame : Frame)
     → IsMove (Leave (Returns vs)) (w ∷ ws) (known_of frame m) (Go (Leave (Returns vs))) ws (known_of frame m')
+
+-- an operation is done, and nothing else
+abbrev pub IsDone : Operation → Known → Known → Type 0
+IsDone o known known' = (ws : List Wait) → IsMove (Execute (Do (operation_tree o))) ws known (Go (Leave Falls)) ws known'
+
+-- an operation gives a temporary a word, and nothing else changes
+abbrev pub GivesWord : Operation → Frame → code.Memory → (t word : ℕ) → Type 0
+GivesWord o frame m t word =
+    (temps : List Value) → Gives t (Word word) frame.temps.items temps → IsDone o (known_of frame m) (record (known_of frame m) { temps = temps })

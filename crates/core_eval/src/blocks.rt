@@ -1,12 +1,12 @@
 // Blocks and functions that are active, each with its objects, the innermost first.
 
-ghost use Rattle.std.specs.Prelude.{◌≡◌, ℕ, Some, None, false, if◌then◌else◌, map, OnOk};
+ghost use Rattle.std.specs.Prelude.{◌≡◌, ℕ, Some, None, false, if◌then◌else◌, map, IfSome, OnOk};
 ghost use Rattle.core_eval.specs.Blocks.{Descends, activation_of, position_of, put_through, slot_through};
 ghost use Rattle.core_eval.specs.Values.{value_of};
 ghost use Rattle.core_eval.specs.Whole.{fill_through};
 
 use crate::held::Held;
-use crate::value::{Object, Slot, Value, fill_in, put_in, slot_in, value_in};
+use crate::value::{Object, Slot, Value, fill_in, put_in, slot_in, value_in, word_in};
 use cyc_core::Width;
 use std::alloc::{AllocError, Global};
 use std::collections::VecDeque;
@@ -55,6 +55,16 @@ pub fn value_at(
 {
     match blocks.get(position) {
         Some(block) => value_in(&block.objects, index, cell, byte, part, width),
+        None => None,
+    }
+}
+
+/// The word that an object of the one that stands there holds, if it is of one cell of one word.
+pub fn word_at(blocks: &VecDeque<Block>, position: usize, index: usize) -> Option<u32>
+    ensures { IfSome result (λ word. value_of 0 0 Width.Word (slot_through (map activation_of blocks.now.items) (Some position) index 0) ≡ Some (Value.Word word)) }
+{
+    match blocks.get(position) {
+        Some(block) => word_in(&block.objects, index),
         None => None,
     }
 }

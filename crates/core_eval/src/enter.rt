@@ -14,13 +14,15 @@ ghost use Rattle.core_eval.specs.Costs.{IsMove};
 use crate::frame::Frame;
 use crate::held::Bound;
 use crate::memory::Memory;
-use crate::object::blank_objects;
+use crate::object::push_blanks;
 use crate::operation::operate;
 use crate::pending::{Due, Flow, Now, Pending, Returned};
 use crate::request::{allocate, allocate_unique};
+use crate::spare::Spare;
 use crate::take::leave_function;
 use crate::value::Value;
 use crate::whole::{clear, copy};
+use crate::words::operate_on_words;
 use cyc_core::{Local, Statement, Temporary, Words};
 use std::alloc::{AllocError, Global};
 
@@ -86,11 +88,12 @@ pub fn truth(value: Value) -> Option<bool>
 fn arguments_of(
     alloc: Global,
     frame: &Frame,
+    spare: &mut Spare,
     arguments: &[Temporary],
 ) -> Result<Vec<Value>, AllocError>
     ensures { IfOk result (λ values. AreRead frame.now.temps.items (map temporary_tree arguments.now) values.items) }
 {
-    let mut values = Vec::new(alloc);
+    let mut values = spare.take_temps(alloc);
     'each: for argument in arguments {
         values.push(frame.temp(*argument))?;
     }
@@ -154,7 +157,8 @@ fn enter_block<'p>(
     ensures regions { OnOk result (memory.new.regions ≡ memory.old.regions) }
     ensures long_blocks { OnOk result (memory.new.long_blocks ≡ memory.old.long_blocks) }
 {
-    let objects = blank_objects(alloc, locals)?;
+    let mut objects = memory.spare.take_objects(alloc);
+    push_blanks(alloc, &mut objects, locals)?;
     memory.enter_block(objects)?;
     follow(stack, Pending::Block, body)
 }
@@ -213,7 +217,7 @@ pub fn enter_statement<'p>(
         Statement::Break => Ok(Due::Go(Now::Leave(Flow::Breaks))),
         Statement::Continue => Ok(Due::Go(Now::Leave(Flow::Continues))),
         Statement::Call(result, function, arguments, _) => {
-            let values = arguments_of(alloc, frame, arguments)?;
+            let values = arguments_of(alloc, frame, &mut memory.spare, arguments)?;
             Ok(Due::Call(*result, *function, values))
         }
         Statement::Return(words) => {
@@ -245,6 +249,11 @@ pub fn follow_statements<'p>(
             wait_for_others(stack, others)?;
             return enter_statement(alloc, statement, stack, frame, memory);
         };
+        let is_done = operate_on_words(operation, frame, memory)?;
+        if is_done {
+            rest = others;
+            continue 'each;
+        }
         let due = operate(alloc, *operation, frame, memory)?;
         if !is_over(&due) {
             wait_for_others(stack, others)?;

@@ -1,6 +1,7 @@
 // A function's activation: its temporaries, and where its blocks begin.
 
-ghost use Rattle.std.specs.Prelude.{◌≡◌, ℕ, [], OnOk};
+ghost use Rattle.std.specs.Prelude.{◌≡◌, ℕ, [], OnOk, IfSome};
+ghost use Rattle.core_meaning.specs.Memory.{Word};
 ghost use Rattle.core_meaning.specs.Steps.{set_temp};
 ghost use Rattle.core_eval.specs.Values.{content_of, temp_of};
 
@@ -37,6 +38,16 @@ impl Frame {
         match self.temps.get(temporary.0 as usize) {
             Some(value) => *value,
             None => Value::Blank,
+        }
+    }
+
+    /// The word that a temporary holds, if it is one.
+    pub fn word(&self, temporary: Temporary) -> Option<u32>
+        ensures { IfSome result (λ word. Word word ≡ temp_of self.now.temps.items temporary.0) }
+    {
+        match self.temp(temporary) {
+            Value::Word(word) => Some(word),
+            _ => None,
         }
     }
 

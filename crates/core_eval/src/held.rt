@@ -191,6 +191,13 @@ impl Held {
         ensures put { put_part self.old part value ≡ (if result then Some self.new else None) }
         ensures kept { result ≡ false → self.new ≡ self.old }
     {
+        match (&mut *self, part) {
+            (Held::Word(held), 0) => {
+                *held = value;
+                return true;
+            }
+            _ => {}
+        }
         match self.with_part(part, value) {
             Some(held) => {
                 *self = held;

@@ -23,9 +23,11 @@ mod pointer;
 mod region;
 mod request;
 mod running;
+mod spare;
 mod take;
 mod value;
 mod whole;
+mod words;
 
 pub use ending::EvalEnding;
 pub use running::evaluate_core;

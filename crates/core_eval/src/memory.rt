@@ -1,7 +1,7 @@
 // What is stored: the globals and the blocks of regions, the locals of all blocks that aren't left yet, and the unnamed values of all
 // functions that are active.
 
-ghost use Rattle.std.specs.Prelude.{◌≡◌, ◌∷◌, ◌+◌, [], Some, None, false, if◌then◌else◌, drop, map, IfOk, OnOk};
+ghost use Rattle.std.specs.Prelude.{◌≡◌, ◌∷◌, ◌+◌, [], Some, None, false, if◌then◌else◌, drop, map, IfOk, IfSome, OnOk};
 ghost use Rattle.core_eval.specs.Values.{cells_of, value_of};
 ghost use Rattle.core_eval.specs.declared.frame.Frame.{Frame as TheFrame};
 ghost use Rattle.core_eval.specs.Standing.{first_known, known_of};
@@ -20,11 +20,12 @@ ghost use Rattle.core_eval.specs.Blocks.{
   stored_of,
 };
 
-use crate::blocks::{Block, fill_by, position_of, set_at, set_by, slot_by, value_at};
+use crate::blocks::{Block, fill_by, position_of, set_at, set_by, slot_by, value_at, word_at};
 use crate::held::Held;
 use crate::long_block::LongBlock;
 use crate::object::{blank_objects, first_objects};
 use crate::region::{self, Region};
+use crate::spare::Spare;
 use crate::value::{Area, Object, Place, Slot, Value, fill_in, put_in, slot_in};
 use cyc_core::{Datum, Local, Variable, Width};
 use std::alloc::{AllocError, Global};
@@ -47,6 +48,8 @@ pub struct Memory {
     pub regions: Vec<Region>,
     /// Where the cells of long blocks of regions lie, also of those that are closed or freed.
     pub long_blocks: Vec<LongBlock>,
+    /// Vectors that are done with. What is known rests on none of them.
+    pub spare: Spare,
 }
 
 impl Memory {
@@ -67,6 +70,7 @@ impl Memory {
             globals,
             regions: Vec::new(alloc),
             long_blocks: Vec::new(alloc),
+            spare: Spare::new(alloc),
         })
     }
 
@@ -102,7 +106,10 @@ impl Memory {
         ensures regions { self.new.regions ≡ self.old.regions }
         ensures long_blocks { self.new.long_blocks ≡ self.old.long_blocks }
     {
-        self.blocks.pop_front();
+        match self.blocks.pop_front() {
+            Some(block) => self.spare.keep_objects(block.objects),
+            None => {}
+        }
     }
 
     /// A function with these unnamed values is called. Fails only where no host memory is left, or 2^64 - 1 functions were called.
@@ -157,6 +164,17 @@ impl Memory {
         match self.own_position(base, variable.out) {
             Some(position) => value_at(&self.blocks, position, variable.index, 0, 0, 0, width),
             None => None,
+        }
+    }
+
+    /// The word that a local holds, for a function outside of which there are so many blocks, if it is so wide and of one cell of one word.
+    pub fn word(&self, base: usize, variable: Variable, width: Width) -> Option<u32>
+        ensures { IfSome result (λ word. value_of 0 0 width (local_slot base (map activation_of self.now.blocks.items) variable.out variable.index)
+            ≡ Some (Value.Word word)) }
+    {
+        match (width, self.own_position(base, variable.out)) {
+            (Width::Word, Some(position)) => word_at(&self.blocks, position, variable.index),
+            _ => None,
         }
     }
 

@@ -94,14 +94,26 @@ fn blank_object(alloc: Global, local: &Local) -> Result<Object, AllocError>
     }
 }
 
+/// These locals more, which hold nothing as yet.
+pub fn push_blanks(
+    alloc: Global,
+    objects: &mut Vec<Object>,
+    locals: &[Local],
+) -> Result<(), AllocError>
+    ensures { OnOk result (map cells_of objects.new.items ≡ map cells_of objects.old.items ++ map blank_object locals.now) }
+{
+    'each: for local in locals {
+        objects.push(blank_object(alloc, local)?)?;
+    }
+    Ok(())
+}
+
 /// These locals, which hold nothing as yet.
 pub fn blank_objects(alloc: Global, locals: &[Local]) -> Result<Vec<Object>, AllocError>
     ensures { IfOk result (λ objects. map cells_of objects.items ≡ map blank_object locals.now) }
 {
     let mut objects = Vec::new(alloc);
-    'each: for local in locals {
-        objects.push(blank_object(alloc, local)?)?;
-    }
+    push_blanks(alloc, &mut objects, locals)?;
     Ok(objects)
 }
 

@@ -28,9 +28,11 @@ use crate::enter::{enter_loop, truth};
 use crate::frame::Frame;
 use crate::memory::Memory;
 use crate::pending::{Due, Flow, Now, Pending, Returned};
+use crate::spare::Spare;
 use crate::value::Value;
 use cyc_core::{Statement, Temporary, Words};
 use std::alloc::AllocError;
+use std::mem;
 
 /// What is on top of the stack, which is taken off.
 fn next<'p>(stack: &mut Vec<Pending<'p>>) -> Option<Pending<'p>>
@@ -134,12 +136,14 @@ fn take_caller<'p>(
     to: Option<Words>,
     saved: Frame,
     frame: &mut Frame,
+    spare: &mut Spare,
 ) -> Result<Due<'p>, AllocError>
     ensures { IfOk result (λ due. (f : ℕ) (ws : List Wait) (memory after : TheMemory) → LeavesCall memory after
         → IsMove (Leave (Returns (optional_value returned))) (Caller (optional_tree to) f (saved_of saved) ∷ ws) (known_of frame.old memory)
         (next_of due) ws (known_of frame.new after)) }
 {
-    *frame = saved;
+    let left = mem::replace(frame, saved);
+    spare.keep_temps(left.temps);
     let fits = take_result(frame, to, returned)?;
     if fits {
         Ok(Due::Go(Now::Leave(Flow::Falls)))
@@ -210,7 +214,7 @@ pub fn leave_function<'p>(
         };
         if let Some(caller) = end_within(pending, memory) {
             memory.leave_call();
-            return take_caller(returned, caller.to, caller.saved, frame);
+            return take_caller(returned, caller.to, caller.saved, frame, &mut memory.spare);
         }
     }
 }

@@ -1,6 +1,6 @@
 // What temporaries and objects hold.
 
-ghost use Rattle.std.specs.Prelude.{◌≡◌, ◌+◌, IfOk, OnOk, Some, None, false, if◌then◌else◌, map, slice_get, slice_set};
+ghost use Rattle.std.specs.Prelude.{◌≡◌, ◌+◌, IfOk, IfSome, OnOk, Some, None, false, if◌then◌else◌, map, slice_get, slice_set};
 ghost use Rattle.cyc_core.specs.Trees.{bytes_of};
 ghost use Rattle.core_eval.specs.Values.{cells_of, fitted, is_fit, is_kept, put_cell, put_in, put_within, same_width, slot_at, value_of};
 ghost use Rattle.core_eval.specs.Whole.{fill_cells, fill_in, fill_slot};
@@ -73,6 +73,16 @@ impl Slot {
         }
     }
 
+    /// The word that it holds, if it is the first cell of its object and of one word.
+    pub fn word(&self) -> Option<u32>
+        ensures { IfSome result (λ word. value_of 0 0 Width.Word (Some self.now) ≡ Some (Value.Word word)) }
+    {
+        match &self.held {
+            Held::Word(Value::Word(word)) => { if self.offset == 0 { Some(*word) } else { None } }
+            _ => None,
+        }
+    }
+
     /// Stores a value to the part with this number, if there is one that lies so many bytes on and is so wide, and answers whether there is.
     fn put(&mut self, byte: u64, part: u32, width: Width, value: Value) -> bool
         ensures put { put_within self.old byte part width value ≡ (if result then Some self.new else None) }
@@ -125,6 +135,16 @@ impl Object {
                 Some(slot) => slot.value(byte, part, width),
                 None => None,
             },
+        }
+    }
+
+    /// The word that it holds, if it is of one cell of one word.
+    fn word(&self) -> Option<u32>
+        ensures { IfSome result (λ word. value_of 0 0 Width.Word (slice_get (cells_of self.now) 0) ≡ Some (Value.Word word)) }
+    {
+        match self {
+            Object::Scalar(slot) => slot.word(),
+            Object::Whole(_) => None,
         }
     }
 
@@ -240,6 +260,16 @@ pub fn value_in(
 {
     match objects.get(index) {
         Some(object) => object.value(cell, byte, part, width),
+        None => None,
+    }
+}
+
+/// The word that the object with this number holds, if it is of one cell of one word.
+pub fn word_in(objects: &[Object], index: usize) -> Option<u32>
+    ensures { IfSome result (λ word. value_of 0 0 Width.Word (slot_at (map cells_of objects.now) index 0) ≡ Some (Value.Word word)) }
+{
+    match objects.get(index) {
+        Some(object) => object.word(),
         None => None,
     }
 }

@@ -1,7 +1,10 @@
-use Rattle.std.proofs.Common.{◌≡◌, ◌∷◌, true, length, rules}
+use Rattle.std.proofs.Common.{◌≡◌, ◌∷◌, true, length, refl, rules}
+use Rattle.core_eval.specs.declared.pending.Flow.TheVariants as flow
+use Rattle.core_eval.specs.declared.pending.Now.TheVariants as now
+use Rattle.core_eval.specs.declared.pending.Due.TheVariants as due
 use Rattle.core_eval.specs.Pendings.{waits_of}
 use Rattle.core_eval.specs.Standing.{known_of}
-use Rattle.core_eval.proofs.Follows.{reached, ends, entered_answer, operation_done, operation_due}
+use Rattle.core_eval.proofs.Follows.{reached, from_same, ends, entered_answer, operation_done, operation_due}
 use Rattle.core_eval.proofs.enter.follow_statements.Goals as goal
 
 pub each-init : goal.each-init
@@ -23,11 +26,18 @@ returns-then-not-is_over c =
     let is : c.each.rest.now ≡ c.in-Some.statement.now ∷ c.in-Some.others.now = search rules in
     operation_due c.each.rest.now c.in-Some.statement.now c.in-Some.others.now is c.each.invariant c.in-Do.operation c.in-Do.is c.in_ok-due.due
     (waits_of c.wait_for_others-then-not-is_over.new.stack.items) (known_of c.operate.new.frame c.operate.new.memory)
-    c.in_ok-wait_for_others-2.ensures c.in_ok-due.ensures
+    c.in_ok-wait_for_others-2.ensures (from_same _ _ _ _ _ (c.in_ok-is_done.ensures.kept c.if-is_done.false) c.in_ok-due.ensures)
 
 pub each-preserved : goal.each-preserved
 each-preserved c =
     let over : c.is_over.result ≡ true = search rules in
     let is : c.each.rest.now ≡ c.in-Some.statement.now ∷ c.in-Some.others.now = search rules in
     operation_done c.each.rest.now c.in-Some.statement.now c.in-Some.others.now is c.each.invariant c.in-Do.operation c.in-Do.is c.in_ok-due.due
-    (known_of c.operate.new.frame c.operate.new.memory) (c.is_over.ensures over) c.in_ok-due.ensures
+    (known_of c.operate.new.frame c.operate.new.memory) (c.is_over.ensures over)
+    (from_same _ _ _ _ _ (c.in_ok-is_done.ensures.kept c.if-is_done.false) c.in_ok-due.ensures)
+
+pub each-preserved-then-is_done : goal.each-preserved-then-is_done
+each-preserved-then-is_done c =
+    let is : c.each.rest.now ≡ c.in-Some.statement.now ∷ c.in-Some.others.now = search rules in
+    operation_done c.each.rest.now c.in-Some.statement.now c.in-Some.others.now is c.each.invariant c.in-Do.operation c.in-Do.is (due.Go (now.Leave flow.Falls))
+    (known_of c.operate_on_words.new.frame c.operate_on_words.new.memory) refl (c.in_ok-is_done.ensures.done c.if-is_done.true)

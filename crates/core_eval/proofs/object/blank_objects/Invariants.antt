@@ -1,7 +1,0 @@
-use Rattle.std.proofs.Common.{◌≡◌, ◌++◌, drop, map}
-use Rattle.core_eval.specs.Values.{cells_of}
-use Rattle.core_eval.specs.Elements.{blank_object}
-use Rattle.core_eval.proofs.object.blank_objects.Given as goal
-
-abbrev pub invariant-each : goal.invariant-each
-invariant-each l = record { whole : map cells_of l.objects.items ++ map blank_object (drop l.local-index l.locals) ≡ map blank_object l.locals }

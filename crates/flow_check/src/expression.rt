@@ -154,6 +154,11 @@ fn looked<'p>(
         IfOk result (IsSeen usage.Look (shortened (judge g e)) (uses_of g e)) }
 {
     match expression {
+        Expression::Variable(name) => {
+            let judged = judge_inside(scope, alloc, around, expression)?;
+            let used = uses_of_name(scope, alloc, around, Usage::Look, name)?;
+            Ok(Seen { judged, used })
+        }
         Expression::Prefixed(at, operator, operand) => prefixed(
             scope,
             alloc,

@@ -296,6 +296,9 @@ seen-returns-in_ok-handle-in-NewIn t c = λ g h.
 
 -- ---- what is looked at
 
+pub looked-returns-in_ok-used-in-Variable : goal.looked-returns-in_ok-used-in-Variable
+looked-returns-in_ok-used-in-Variable = Looked.looked-returns-in_ok-used-in-Variable
+
 pub looked-returns-in_ok-first-in-Suffixed : goal.looked-returns-in_ok-first-in-Suffixed
 looked-returns-in_ok-first-in-Suffixed = Looked.looked-returns-in_ok-first-in-Suffixed
 

@@ -1,6 +1,6 @@
 -- What is looked at.
 use Rattle.std.proofs.Common.{IfOk, List, ap, length, map, subst, sym, ◌≤◌, ◌∙◌}
-use Rattle.cyc_tree.proofs.Forms.{call_tree, chain_tree, suffixed_tree}
+use Rattle.cyc_tree.proofs.Forms.{call_tree, chain_tree, suffixed_tree, variable_tree}
 use Rattle.cyc_tree.specs.Tree.{Expression}
 use Rattle.cyc_tree.specs.View.{expression_tree, expressions_of, link_tree, links_of, name_tree, suffix_tree, suffixes_of}
 use Rattle.cyc_tree.specs.declared.expression.Expression as code
@@ -14,6 +14,7 @@ use Rattle.check_operators.specs.Values.{value_of}
 use Rattle.check_expressions.specs.Joined.{short_links}
 use Rattle.check_expressions.specs.Suffixes.{short_suffixes}
 use Rattle.flow_effects.specs.Passed.{passage_of}
+use Rattle.flow_effects.specs.Used.{IsUsed}
 use Rattle.flow_effects.specs.declared.used.Usage.TheVariants as usage
 use Rattle.flow_check.proofs.Forms.{some_suffixes, tested_length}
 use Rattle.flow_check.proofs.Seeing.{SeenAs, linked_same, seen_told, suffixed_same}
@@ -62,3 +63,10 @@ looked-returns-in-Call t c = λ g h.
     (ap (λ e. expression_tree e) c.in-Call.is ∙ call_tree c.in-Call.name c.in-Call.arguments)
     (subst (λ (xs : List code.Expression). IfOk c.called.result (SeenAs g usage.Look (Expression.Call x (expressions_of (map expression_tree xs)))))
     c.deref-in-Call.ensures.value (c.called.ensures g usage.Look h))
+
+pub looked-returns-in_ok-used-in-Variable : goal.looked-returns-in_ok-used-in-Variable
+looked-returns-in_ok-used-in-Variable t c = λ g h. record {
+  judged = c.in_ok-judged-in-Variable.ensures g h.scope;
+  used = subst (λ e. IsUsed usage.Look (uses_of g e) c.in_ok-used-in-Variable.used)
+      (sym (ap (λ e. expression_tree e) c.in-Variable.is ∙ variable_tree c.in-Variable.name)) (c.in_ok-used-in-Variable.ensures g h);
+}

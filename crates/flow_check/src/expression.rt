@@ -82,28 +82,28 @@ pub(crate) fn seen<'p>(
             if suffixes.is_empty() {
                 return seen(scope, alloc, around, how, primary);
             }
-            let first = seen(scope, alloc, around, Usage::Look, primary)?;
+            let first = looked(scope, alloc, around, primary)?;
             suffixed(scope, alloc, around, how, first, suffixes)
         }
         Expression::Chain(first, links) => {
             if links.is_empty() {
                 return seen(scope, alloc, around, how, first);
             }
-            let first = seen(scope, alloc, around, Usage::Look, first)?;
+            let first = looked(scope, alloc, around, first)?;
             linked(scope, alloc, around, first, links)
         }
         Expression::AllOf(first, others) => {
             if others.is_empty() {
                 return seen(scope, alloc, around, how, first);
             }
-            let first = seen(scope, alloc, around, Usage::Look, first)?;
+            let first = looked(scope, alloc, around, first)?;
             all_tested(scope, alloc, around, first, others)
         }
         Expression::AnyOf(first, others) => {
             if others.is_empty() {
                 return seen(scope, alloc, around, how, first);
             }
-            let first = seen(scope, alloc, around, Usage::Look, first)?;
+            let first = looked(scope, alloc, around, first)?;
             all_tested(scope, alloc, around, first, others)
         }
         Expression::Assign(to, from) => {
@@ -113,7 +113,7 @@ pub(crate) fn seen<'p>(
         }
         Expression::Call(name, arguments) => called(scope, alloc, around, name, arguments),
         Expression::NumElts(at, operand) => {
-            let operand = seen(scope, alloc, around, Usage::Look, operand)?;
+            let operand = looked(scope, alloc, around, operand)?;
             Ok(counted(alloc, *at, operand))
         }
         Expression::MakeUnion(tag, field, value) => {
@@ -126,7 +126,7 @@ pub(crate) fn seen<'p>(
         }
         Expression::NewIn(at, handle, new) => {
             let is_unique = is_unique_region(handle);
-            let handle = seen(scope, alloc, around, Usage::Look, handle)?;
+            let handle = looked(scope, alloc, around, handle)?;
             let goal = goal_part(scope, is_unique, handle.judged);
             made(
                 scope,
@@ -138,6 +138,52 @@ pub(crate) fn seen<'p>(
                 new,
             )
         }
+    }
+}
+
+/// What an expression is that is looked at, and what it does. The forms that nest most are taken apart here, since `seen` needs much of the
+/// stack. Fails only where no host memory is left.
+#[cycle(seen)]
+fn looked<'p>(
+    scope: &Scope<'_, 'p>,
+    alloc: Global,
+    around: Around<'_>,
+    expression: &Expression,
+) -> Result<Seen<'p>, AllocError>
+    ensures { (g : Env) → IsWithin scope.now around.entry g → let e = expression_tree expression.now in
+        IfOk result (IsSeen usage.Look (shortened (judge g e)) (uses_of g e)) }
+{
+    match expression {
+        Expression::Variable(name) => {
+            let judged = judge_inside(scope, alloc, around, expression)?;
+            let used = uses_of_name(scope, alloc, around, Usage::Look, name)?;
+            Ok(Seen { judged, used })
+        }
+        Expression::Prefixed(at, operator, operand) => prefixed(
+            scope,
+            alloc,
+            around,
+            Usage::Look,
+            *at,
+            *operator,
+            operand,
+        ),
+        Expression::Suffixed(primary, suffixes) => {
+            if suffixes.is_empty() {
+                return looked(scope, alloc, around, primary);
+            }
+            let first = looked(scope, alloc, around, primary)?;
+            suffixed(scope, alloc, around, Usage::Look, first, suffixes)
+        }
+        Expression::Chain(first, links) => {
+            if links.is_empty() {
+                return looked(scope, alloc, around, first);
+            }
+            let first = looked(scope, alloc, around, first)?;
+            linked(scope, alloc, around, first, links)
+        }
+        Expression::Call(name, arguments) => called(scope, alloc, around, name, arguments),
+        _ => seen(scope, alloc, around, Usage::Look, expression),
     }
 }
 
@@ -156,7 +202,7 @@ fn linked<'p>(
 {
     let mut found = first;
     'each: for link in links {
-        let operand = seen(scope, alloc, around, Usage::Look, &link.operand)?;
+        let operand = looked(scope, alloc, around, &link.operand)?;
         found = applied(scope, alloc, link.operator, found, operand)?;
     }
     Ok(found.as_value())
@@ -177,7 +223,7 @@ fn all_tested<'p>(
 {
     let mut found = first;
     'each: for expression in others {
-        let operand = seen(scope, alloc, around, Usage::Look, expression)?;
+        let operand = looked(scope, alloc, around, expression)?;
         found = tested(alloc, found, operand);
     }
     Ok(found.as_value())
@@ -220,11 +266,11 @@ fn prefixed<'p>(
 {
     match operator {
         Prefix::Negate | Prefix::Not | Prefix::Complement => {
-            let operand = seen(scope, alloc, around, Usage::Look, operand)?;
+            let operand = looked(scope, alloc, around, operand)?;
             looked_at(scope, alloc, at, operator, operand)
         }
         Prefix::Dereference => {
-            let operand = seen(scope, alloc, around, Usage::Look, operand)?;
+            let operand = looked(scope, alloc, around, operand)?;
             dereferenced(scope, alloc, how, at, operand)
         }
         Prefix::AddressOf => {
@@ -251,7 +297,7 @@ fn suffix_after<'p>(
     let at = place_of(&judged);
     match suffix {
         Suffix::Index(index) => {
-            let index = seen(scope, alloc, around, Usage::Look, index)?;
+            let index = looked(scope, alloc, around, index)?;
             let own = is_part(&judged, &used);
             let passed = index.used.passed.in_turn(pointed(at, &judged, used));
             let judged = indexed_parts(scope, judged, index.judged);
@@ -314,7 +360,7 @@ fn made<'p>(
             made_one(at, goal, handle, value)
         }
         Made::Array(index, count, element) => {
-            let count = seen(scope, alloc, around, Usage::Look, count)?;
+            let count = looked(scope, alloc, around, count)?;
             let counters = with_counter(alloc, around.counters, &index.text)?;
             let locals = locals_around(scope, around)?;
             let inside = Around {

@@ -1,4 +1,5 @@
 mod Folded
+mod Looked
 mod Suffixes
 use Rattle.std.proofs.Common.{IfOk, List, [], ap, ap₂, inl, inr, length, map, refl, subst, sym, ◌≤◌, ◌∙◌, ◌≡◌}
 use Rattle.cyc_tree.proofs.Forms.{all_of_tree, any_of_tree, assign_tree, call_tree, chain_tree, character_tree, grouped_tree, heap_region_tree}
@@ -40,6 +41,7 @@ use Rattle.flow_check.proofs.Within.{inside_goal}
 use Rattle.flow_check.specs.Folded.{all_short_uses, passed_links, passed_tests}
 use Rattle.flow_check.specs.Seen.{IsSeen}
 use Rattle.flow_check.proofs.expression.+seen.Answers.Folded as Folded
+use Rattle.flow_check.proofs.expression.+seen.Answers.Looked as Looked
 use Rattle.flow_check.proofs.expression.+seen.Answers.Suffixes as Suffixes
 use Rattle.flow_check.proofs.expression.+seen.Goals as goal
 
@@ -291,6 +293,20 @@ seen-returns-in_ok-handle-in-NewIn t c = λ g h.
     (short_made (inside to g) at (short_of goal_in c.goal_part-goal.result) m) (uses_made (inside to g) m p)))
     looked.used.passed
     (c.made-in-NewIn.ensures (inside to g) c.args.how (inside_goal c.inside.result to h c.inside.ensures.counters inside_known))))
+
+-- ---- what is looked at
+
+pub looked-returns-in_ok-used-in-Variable : goal.looked-returns-in_ok-used-in-Variable
+looked-returns-in_ok-used-in-Variable = Looked.looked-returns-in_ok-used-in-Variable
+
+pub looked-returns-in_ok-first-in-Suffixed : goal.looked-returns-in_ok-first-in-Suffixed
+looked-returns-in_ok-first-in-Suffixed = Looked.looked-returns-in_ok-first-in-Suffixed
+
+pub looked-returns-in_ok-first-in-Chain : goal.looked-returns-in_ok-first-in-Chain
+looked-returns-in_ok-first-in-Chain = Looked.looked-returns-in_ok-first-in-Chain
+
+pub looked-returns-in-Call : goal.looked-returns-in-Call
+looked-returns-in-Call = Looked.looked-returns-in-Call
 
 -- ---- parts one after another
 

@@ -8,5 +8,6 @@ pub mod Locals
 pub mod Nests
 pub mod HomeLocals
 pub mod HomeOperations
+pub mod HomeResults
 pub mod Fine
 pub mod FineHomes

@@ -38,6 +38,7 @@ mod raising;
 mod results;
 mod settling;
 mod statement;
+mod straight;
 mod whole;
 mod words;
 

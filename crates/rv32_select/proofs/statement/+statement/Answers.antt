@@ -86,7 +86,7 @@ put_statements-each-preserved n c =
     let labels = ap (λ ss. labels_of (body_tree ss)) e in
     let more = c.each.invariant.free in
     let appended = c.put_statement.new.lines.items in
-    let kept = c.keep_reached.ensures ∙ ap (λ n. if c.each.reached then appended else take n appended) (c.len-kept.ensures ∙ c.each.lines.ok.0) in
+    let kept = c.keep_reached.ensures ∙ ap (λ n. if c.each.reached && not c.each.placed then appended else take n appended) (c.len-kept.ensures ∙ c.each.lines.ok.0) in
     let completes = can_complete (statement_tree x) in
     let goes_on : c.if-reached.reached ≡ (c.each.reached && completes) =
     elim c.if-reached.branch [

@@ -1,7 +1,8 @@
 -- One statement more: its lines and labels, what it loads, and the place behind it.
 use Rattle.std.specs.Prelude.{◌&&◌, not, nat_eq, if◌then◌else◌, take, length}
-use Rattle.std.proofs.Common.{◌≡◌, ℕ, zero, suc, ◌+◌, Bool, true, false, List, [], ◌∷◌, ◌++◌, drop, refl, sym, ap, ◌∙◌}
+use Rattle.std.proofs.Common.{◌≡◌, ℕ, zero, suc, ◌+◌, Bool, true, false, List, [], ◌∷◌, ◌++◌, drop, refl, sym, ap, ◌∙◌, arith}
 use Rattle.std.proofs.Math.Seq.{take-append_seam}
+use Rattle.std.proofs.lemmas.Bool.{ne_eqb}
 use Rattle.std.proofs.lemmas.List.{append_assoc, append-nil, drop-drop}
 use Rattle.core_meaning.specs.Core.{Statement, Statements, If, While, MoreStatements}
 use Rattle.core_lines.specs.declared.line.Line.{Line}
@@ -20,18 +21,22 @@ abbrev pub code_left : Bool → (flags : List Bool) → Surroundings → (next o
 code_left placed flags u next out again ss =
     (if placed then statements_behind flags u next out again ss else statements_code flags u next out again ss)
 
+is_some : (h : ℕ) → nat_eq (suc h) 0 ≡ false
+is_some h = ne_eqb (suc h) 0 (λ e. absurd (omega (arith, e)))
+
 left_is : (home : ℕ) (flags : List Bool) (u : Surroundings) (next out again : ℕ) (ss : Statements)
     → code_left (not (nat_eq home 0)) flags u next out again ss
     ≡ later_code home (statements_code flags u next out again ss) (statements_behind flags u next out again ss)
 left_is zero flags u next out again ss = refl
-left_is (suc h) flags u next out again ss = refl
+left_is (suc h) flags u next out again ss = ap (λ none. code_left (not none) flags u next out again ss) (is_some h)
 
 -- what goes straight into a home, and else what the statement itself appends
 pub straight_first : (home : ℕ) (keeps : Bool) (u : Surroundings) (s : Statement) (old straight put new code : List Line)
     → straight ≡ old ++ first_code home keeps u s [] → put ≡ straight ++ code → new ≡ (if nat_eq home 0 then put else take (length straight) put)
     → new ≡ old ++ first_code home keeps u s code
 straight_first zero keeps u s old straight put new code e p n = n ∙ p ∙ ap (λ ls. ls ++ code) (e ∙ append-nil old)
-straight_first (suc h) keeps u s old straight put new code e p n = n ∙ ap (take (length straight)) p ∙ take-append_seam straight code ∙ e
+straight_first (suc h) keeps u s old straight put new code e p n =
+    n ∙ ap (λ none. if none then put else take (length straight) put) (is_some h) ∙ ap (take (length straight)) p ∙ take-append_seam straight code ∙ e
 
 -- the place at the start of statements, before one of them, and behind it
 module _ (start before behind : Surroundings) (s : Statement) (ss all : Statements)

@@ -72,109 +72,109 @@ module _ (w : World) (order : IsInOrder w) (x : Waiting) (outer : List Waiting) 
 
     -- from two registers
     module _ (l q : ℕ) (here : (m : Maps) (registers : ℕ → ℕ) → P m registers → InRegister (suc l) (Word a) m registers × InRegister (suc q) (Word b) m registers)
-        where
-      from_both : (op : Binary) (m : Maps) (registers : ℕ → ℕ) → P m registers
-          → (two op (registers (suc l)) (registers (suc q)) ≡ two op a b) × (two op (registers (suc l)) (registers (suc q)) < 2 ^ 32)
-      from_both op m registers h =
-          let left = (here m registers h).0 in
-          let right = (here m registers h).1 in
-          let few : a < 2 ^ 32 = subst (λ n. n < 2 ^ 32) left.0 left.1 in
-          let few' : b < 2 ^ 32 = subst (λ n. n < 2 ^ 32) right.0 right.1 in
-          let same : two op (registers (suc l)) (registers (suc q)) ≡ two op a b =
-          ap (λ n. two op n (registers (suc q))) left.0 ∙ ap (λ n. two op a n) right.0 in
-          (same, subst (λ n. n < 2 ^ 32) (sym same) (two_below op a b few few'))
+      where
+        from_both : (op : Binary) (m : Maps) (registers : ℕ → ℕ) → P m registers
+            → (two op (registers (suc l)) (registers (suc q)) ≡ two op a b) × (two op (registers (suc l)) (registers (suc q)) < 2 ^ 32)
+        from_both op m registers h =
+            let left = (here m registers h).0 in
+            let right = (here m registers h).1 in
+            let few : a < 2 ^ 32 = subst (λ n. n < 2 ^ 32) left.0 left.1 in
+            let few' : b < 2 ^ 32 = subst (λ n. n < 2 ^ 32) right.0 right.1 in
+            let same : two op (registers (suc l)) (registers (suc q)) ≡ two op a b =
+            ap (λ n. two op n (registers (suc q))) left.0 ∙ ap (λ n. two op a n) right.0 in
+            (same, subst (λ n. n < 2 ^ 32) (sym same) (two_below op a b few few'))
 
-      one : (op : Binary) (i : Instr) → Gets (two op a b) → HasInstr w.areas w.code (code_base + place) i
-          → ((registers bytes : ℕ → ℕ) (st : Store) (answer : Answer)
-          → effect w.areas answer i (state_of (state_at place registers bytes st)) ≡ gives (suc r) (two op (registers (suc l)) (registers (suc q)))
-          (state_of (state_at place registers bytes st)))
-          → ((s : Run) → AccessIsLawful w.areas s i) → Computed (two op a b) (Plain i ∷ [])
-      one op i gets has e access = one_more w order x outer mem hs k o r yes part has_part found (Word (two op a b)) P Q place i
-          (λ registers. two op (registers (suc l)) (registers (suc q))) has e access (from_both op) gets
+        one : (op : Binary) (i : Instr) → Gets (two op a b) → HasInstr w.areas w.code (code_base + place) i
+            → ((registers bytes : ℕ → ℕ) (st : Store) (answer : Answer)
+            → effect w.areas answer i (state_of (state_at place registers bytes st)) ≡ gives (suc r) (two op (registers (suc l)) (registers (suc q)))
+            (state_of (state_at place registers bytes st)))
+            → ((s : Run) → AccessIsLawful w.areas s i) → Computed (two op a b) (Plain i ∷ [])
+        one op i gets has e access = one_more w order x outer mem hs k o r yes part has_part found (Word (two op a b)) P Q place i
+            (λ registers. two op (registers (suc l)) (registers (suc q))) has e access (from_both op) gets
 
-      pub computes : (op : Binary) → is_arithmetic op ≡ true → Gets (two op a b) → Has w place (binary_code op (suc r) (suc l) (suc q))
-          → Computed (two op a b) (binary_code op (suc r) (suc l) (suc q))
-      computes core.Add is gets has = one core.Add _ gets has.0.0 (λ r b st n. refl) (λ _. tt)
-      computes core.Subtract is gets has = one core.Subtract _ gets has.0.0 (λ r b st n. refl) (λ _. tt)
-      computes core.Multiply is gets has = one core.Multiply _ gets has.0.0 (λ r b st n. refl) (λ _. tt)
-      computes core.Divide is gets has = one core.Divide _ gets has.0.0 (λ r b st n. refl) (λ _. tt)
-      computes core.DivideUnsigned is gets has = one core.DivideUnsigned _ gets has.0.0 (λ r b st n. refl) (λ _. tt)
-      computes core.Remainder is gets has = one core.Remainder _ gets has.0.0 (λ r b st n. refl) (λ _. tt)
-      computes core.RemainderUnsigned is gets has = one core.RemainderUnsigned _ gets has.0.0 (λ r b st n. refl) (λ _. tt)
-      computes core.And is gets has = one core.And _ gets has.0.0 (λ r b st n. refl) (λ _. tt)
-      computes core.Or is gets has = one core.Or _ gets has.0.0 (λ r b st n. refl) (λ _. tt)
-      computes core.Xor is gets has = one core.Xor _ gets has.0.0 (λ r b st n. refl) (λ _. tt)
-      computes core.ShiftLeft is gets has = one core.ShiftLeft _ gets has.0.0 (λ r b st n. refl) (λ _. tt)
-      computes core.ShiftRight is gets has = one core.ShiftRight _ gets has.0.0 (λ r b st n. refl) (λ _. tt)
-      computes core.ShiftRightUnsigned is gets has = one core.ShiftRightUnsigned _ gets has.0.0 (λ r b st n. refl) (λ _. tt)
-      computes core.Equal is gets has = absurd (cc is)
-      computes core.NotEqual is gets has = absurd (cc is)
-      computes core.Less is gets has = absurd (cc is)
-      computes core.LessEqual is gets has = absurd (cc is)
-      computes core.LessUnsigned is gets has = absurd (cc is)
-      computes core.LessEqualUnsigned is gets has = absurd (cc is)
+        pub computes : (op : Binary) → is_arithmetic op ≡ true → Gets (two op a b) → Has w place (binary_code op (suc r) (suc l) (suc q))
+            → Computed (two op a b) (binary_code op (suc r) (suc l) (suc q))
+        computes core.Add is gets has = one core.Add _ gets has.0.0 (λ r b st n. refl) (λ _. tt)
+        computes core.Subtract is gets has = one core.Subtract _ gets has.0.0 (λ r b st n. refl) (λ _. tt)
+        computes core.Multiply is gets has = one core.Multiply _ gets has.0.0 (λ r b st n. refl) (λ _. tt)
+        computes core.Divide is gets has = one core.Divide _ gets has.0.0 (λ r b st n. refl) (λ _. tt)
+        computes core.DivideUnsigned is gets has = one core.DivideUnsigned _ gets has.0.0 (λ r b st n. refl) (λ _. tt)
+        computes core.Remainder is gets has = one core.Remainder _ gets has.0.0 (λ r b st n. refl) (λ _. tt)
+        computes core.RemainderUnsigned is gets has = one core.RemainderUnsigned _ gets has.0.0 (λ r b st n. refl) (λ _. tt)
+        computes core.And is gets has = one core.And _ gets has.0.0 (λ r b st n. refl) (λ _. tt)
+        computes core.Or is gets has = one core.Or _ gets has.0.0 (λ r b st n. refl) (λ _. tt)
+        computes core.Xor is gets has = one core.Xor _ gets has.0.0 (λ r b st n. refl) (λ _. tt)
+        computes core.ShiftLeft is gets has = one core.ShiftLeft _ gets has.0.0 (λ r b st n. refl) (λ _. tt)
+        computes core.ShiftRight is gets has = one core.ShiftRight _ gets has.0.0 (λ r b st n. refl) (λ _. tt)
+        computes core.ShiftRightUnsigned is gets has = one core.ShiftRightUnsigned _ gets has.0.0 (λ r b st n. refl) (λ _. tt)
+        computes core.Equal is gets has = absurd (cc is)
+        computes core.NotEqual is gets has = absurd (cc is)
+        computes core.Less is gets has = absurd (cc is)
+        computes core.LessEqual is gets has = absurd (cc is)
+        computes core.LessUnsigned is gets has = absurd (cc is)
+        computes core.LessEqualUnsigned is gets has = absurd (cc is)
 
     -- from a register and a number
     module _ (l n : ℕ) (here : (m : Maps) (registers : ℕ → ℕ) → P m registers → InRegister (suc l) (Word a) m registers × IsThere (Number n) (Word b) m registers)
-        where
-      abbrev Gives : Binary → (ℕ → ℕ) → Type 0
-      Gives op f = a < 2 ^ 32 → n < 2 ^ 32 → f a ≡ two op a n
+      where
+        abbrev Gives : Binary → (ℕ → ℕ) → Type 0
+        Gives op f = a < 2 ^ 32 → n < 2 ^ 32 → f a ≡ two op a n
 
-      from_one : (op : Binary) (f : ℕ → ℕ) → Gives op f → (m : Maps) (registers : ℕ → ℕ) → P m registers
-          → (f (registers (suc l)) ≡ two op a b) × (f (registers (suc l)) < 2 ^ 32)
-      from_one op f is m registers h =
-          let left = (here m registers h).0 in
-          let number = (here m registers h).1 in
-          let few : a < 2 ^ 32 = subst (λ n. n < 2 ^ 32) left.0 left.1 in
-          let few' : b < 2 ^ 32 = subst (λ n. n < 2 ^ 32) number.0 number.1 in
-          let same : f (registers (suc l)) ≡ two op a b = ap f left.0 ∙ is few number.1 ∙ ap (λ n. two op a n) number.0 in
-          (same, subst (λ n. n < 2 ^ 32) (sym same) (two_below op a b few few'))
+        from_one : (op : Binary) (f : ℕ → ℕ) → Gives op f → (m : Maps) (registers : ℕ → ℕ) → P m registers
+            → (f (registers (suc l)) ≡ two op a b) × (f (registers (suc l)) < 2 ^ 32)
+        from_one op f is m registers h =
+            let left = (here m registers h).0 in
+            let number = (here m registers h).1 in
+            let few : a < 2 ^ 32 = subst (λ n. n < 2 ^ 32) left.0 left.1 in
+            let few' : b < 2 ^ 32 = subst (λ n. n < 2 ^ 32) number.0 number.1 in
+            let same : f (registers (suc l)) ≡ two op a b = ap f left.0 ∙ is few number.1 ∙ ap (λ n. two op a n) number.0 in
+            (same, subst (λ n. n < 2 ^ 32) (sym same) (two_below op a b few few'))
 
-      single : (op : Binary) (i : Instr) (f : ℕ → ℕ) (lines : List Line) → Plain i ∷ [] ≡ lines → Gives op f → Gets (two op a b)
-          → ((registers bytes : ℕ → ℕ) (st : Store) (answer : Answer)
-          → effect w.areas answer i (state_of (state_at place registers bytes st)) ≡ gives (suc r) (f (registers (suc l)))
-          (state_of (state_at place registers bytes st)))
-          → ((s : Run) → AccessIsLawful w.areas s i) → Has w place lines → Computed (two op a b) lines
-      single op i f lines same is gets e access =
-          subst (λ ls. Has w place ls → Computed (two op a b) ls) same
-          (λ has. one_more w order x outer mem hs k o r yes part has_part found (Word (two op a b)) P Q place i (λ registers. f (registers (suc l))) has.0.0 e
-          access (from_one op f is) gets)
+        single : (op : Binary) (i : Instr) (f : ℕ → ℕ) (lines : List Line) → Plain i ∷ [] ≡ lines → Gives op f → Gets (two op a b)
+            → ((registers bytes : ℕ → ℕ) (st : Store) (answer : Answer)
+            → effect w.areas answer i (state_of (state_at place registers bytes st)) ≡ gives (suc r) (f (registers (suc l)))
+            (state_of (state_at place registers bytes st)))
+            → ((s : Run) → AccessIsLawful w.areas s i) → Has w place lines → Computed (two op a b) lines
+        single op i f lines same is gets e access =
+            subst (λ ls. Has w place ls → Computed (two op a b) ls) same
+            (λ has. one_more w order x outer mem hs k o r yes part has_part found (Word (two op a b)) P Q place i (λ registers. f (registers (suc l))) has.0.0 e
+            access (from_one op f is) gets)
 
-      pub immediate_computes : (op : Binary) → is_arithmetic op ≡ true → (lines : List Line) → immediate_code op (suc r) (suc l) n ≡ Some lines
-          → Gets (two op a b) → Has w place lines → Computed (two op a b) lines
-      immediate_computes core.Add is lines e gets = let t = let_through (is_short n) _ lines e in
-          single core.Add (instr.Addi (suc r) (suc l) (lower_of n)) (λ u. sum_of u (word (lower_of n))) lines t.1
-          (λ few small. ap (λ k. sum_of a k) (short_is n t.0 small)) gets (λ r b st n. refl) (λ _. tt)
-      immediate_computes core.Subtract is lines e gets = let t = let_through (is_short (turned n)) _ lines e in
-          single core.Subtract (instr.Addi (suc r) (suc l) (lower_of (turned n))) (λ u. sum_of u (word (lower_of (turned n)))) lines t.1
-          (λ few small. turned_is a n t.0 small) gets (λ r b st n. refl) (λ _. tt)
-      immediate_computes core.And is lines e gets = let t = let_through (is_short n) _ lines e in
-          single core.And (instr.Andi (suc r) (suc l) (lower_of n)) (λ u. bit_and u (word (lower_of n))) lines t.1
-          (λ few small. ap (λ k. bit_and a k) (short_is n t.0 small)) gets (λ r b st n. refl) (λ _. tt)
-      immediate_computes core.Or is lines e gets = let t = let_through (is_short n) _ lines e in
-          single core.Or (instr.Ori (suc r) (suc l) (lower_of n)) (λ u. bit_or u (word (lower_of n))) lines t.1
-          (λ few small. ap (λ k. bit_or a k) (short_is n t.0 small)) gets (λ r b st n. refl) (λ _. tt)
-      immediate_computes core.Xor is lines e gets = let t = let_through (is_short n) _ lines e in
-          single core.Xor (instr.Xori (suc r) (suc l) (lower_of n)) (λ u. bit_xor u (word (lower_of n))) lines t.1
-          (λ few small. ap (λ k. bit_xor a k) (short_is n t.0 small)) gets (λ r b st n. refl) (λ _. tt)
-      immediate_computes core.ShiftLeft is lines e gets = let t = let_through (nat_lt n 32) _ lines e in
-          single core.ShiftLeft (instr.Slli (suc r) (suc l) n) (λ u. two core.ShiftLeft u n) lines t.1 (λ few small. refl) gets (λ r b st n. refl) (λ _. tt)
-      immediate_computes core.ShiftRight is lines e gets = let t = let_through (nat_lt n 32) _ lines e in
-          single core.ShiftRight (instr.Srai (suc r) (suc l) n) (λ u. two core.ShiftRight u n) lines t.1 (λ few small. refl) gets (λ r b st n. refl) (λ _. tt)
-      immediate_computes core.ShiftRightUnsigned is lines e gets = let t = let_through (nat_lt n 32) _ lines e in
-          single core.ShiftRightUnsigned (instr.Srli (suc r) (suc l) n) (λ u. two core.ShiftRightUnsigned u n) lines t.1 (λ few small. refl) gets
-          (λ r b st n. refl) (λ _. tt)
-      immediate_computes core.Multiply is lines e gets = absurd (cc)
-      immediate_computes core.Divide is lines e gets = absurd (cc)
-      immediate_computes core.DivideUnsigned is lines e gets = absurd (cc)
-      immediate_computes core.Remainder is lines e gets = absurd (cc)
-      immediate_computes core.RemainderUnsigned is lines e gets = absurd (cc)
-      immediate_computes core.Equal is lines e gets = absurd (cc is)
-      immediate_computes core.NotEqual is lines e gets = absurd (cc is)
-      immediate_computes core.Less is lines e gets = absurd (cc is)
-      immediate_computes core.LessEqual is lines e gets = absurd (cc is)
-      immediate_computes core.LessUnsigned is lines e gets = absurd (cc is)
-      immediate_computes core.LessEqualUnsigned is lines e gets = absurd (cc is)
+        pub immediate_computes : (op : Binary) → is_arithmetic op ≡ true → (lines : List Line) → immediate_code op (suc r) (suc l) n ≡ Some lines
+            → Gets (two op a b) → Has w place lines → Computed (two op a b) lines
+        immediate_computes core.Add is lines e gets = let t = let_through (is_short n) _ lines e in
+            single core.Add (instr.Addi (suc r) (suc l) (lower_of n)) (λ u. sum_of u (word (lower_of n))) lines t.1
+            (λ few small. ap (λ k. sum_of a k) (short_is n t.0 small)) gets (λ r b st n. refl) (λ _. tt)
+        immediate_computes core.Subtract is lines e gets = let t = let_through (is_short (turned n)) _ lines e in
+            single core.Subtract (instr.Addi (suc r) (suc l) (lower_of (turned n))) (λ u. sum_of u (word (lower_of (turned n)))) lines t.1
+            (λ few small. turned_is a n t.0 small) gets (λ r b st n. refl) (λ _. tt)
+        immediate_computes core.And is lines e gets = let t = let_through (is_short n) _ lines e in
+            single core.And (instr.Andi (suc r) (suc l) (lower_of n)) (λ u. bit_and u (word (lower_of n))) lines t.1
+            (λ few small. ap (λ k. bit_and a k) (short_is n t.0 small)) gets (λ r b st n. refl) (λ _. tt)
+        immediate_computes core.Or is lines e gets = let t = let_through (is_short n) _ lines e in
+            single core.Or (instr.Ori (suc r) (suc l) (lower_of n)) (λ u. bit_or u (word (lower_of n))) lines t.1
+            (λ few small. ap (λ k. bit_or a k) (short_is n t.0 small)) gets (λ r b st n. refl) (λ _. tt)
+        immediate_computes core.Xor is lines e gets = let t = let_through (is_short n) _ lines e in
+            single core.Xor (instr.Xori (suc r) (suc l) (lower_of n)) (λ u. bit_xor u (word (lower_of n))) lines t.1
+            (λ few small. ap (λ k. bit_xor a k) (short_is n t.0 small)) gets (λ r b st n. refl) (λ _. tt)
+        immediate_computes core.ShiftLeft is lines e gets = let t = let_through (nat_lt n 32) _ lines e in
+            single core.ShiftLeft (instr.Slli (suc r) (suc l) n) (λ u. two core.ShiftLeft u n) lines t.1 (λ few small. refl) gets (λ r b st n. refl) (λ _. tt)
+        immediate_computes core.ShiftRight is lines e gets = let t = let_through (nat_lt n 32) _ lines e in
+            single core.ShiftRight (instr.Srai (suc r) (suc l) n) (λ u. two core.ShiftRight u n) lines t.1 (λ few small. refl) gets (λ r b st n. refl) (λ _. tt)
+        immediate_computes core.ShiftRightUnsigned is lines e gets = let t = let_through (nat_lt n 32) _ lines e in
+            single core.ShiftRightUnsigned (instr.Srli (suc r) (suc l) n) (λ u. two core.ShiftRightUnsigned u n) lines t.1 (λ few small. refl) gets
+            (λ r b st n. refl) (λ _. tt)
+        immediate_computes core.Multiply is lines e gets = absurd (cc)
+        immediate_computes core.Divide is lines e gets = absurd (cc)
+        immediate_computes core.DivideUnsigned is lines e gets = absurd (cc)
+        immediate_computes core.Remainder is lines e gets = absurd (cc)
+        immediate_computes core.RemainderUnsigned is lines e gets = absurd (cc)
+        immediate_computes core.Equal is lines e gets = absurd (cc is)
+        immediate_computes core.NotEqual is lines e gets = absurd (cc is)
+        immediate_computes core.Less is lines e gets = absurd (cc is)
+        immediate_computes core.LessEqual is lines e gets = absurd (cc is)
+        immediate_computes core.LessUnsigned is lines e gets = absurd (cc is)
+        immediate_computes core.LessEqualUnsigned is lines e gets = absurd (cc is)
 
   -- ---- the code
 

@@ -282,11 +282,10 @@ there_elsewhere t r v hs temps m new old here free kept a =
     let others = take 31 (without_temporary t own) in
     let before : AreThere others set m old = there_first 31 (without_temporary t own) set m old
     (there_set t v own temps m old (there_without (result_index t) hs temps m old old (λ q a b. refl) a)) in
-    let after = there_others t (without_register (suc r) others) set m new (there_without r others set m new old kept before) in
-    (
+    let after = there_others t (without_register (suc r) others) set m new (there_without r others set m new old kept before) in (
       subst (λ u. IsThere (Register (suc r)) u m new) (sym (ap (λ c. if c then v else temps t) (eq-eqb t t refl))) (here, free),
       there_first 31 (without_temporary t (without_register (suc r) (with_result t hs))) set m new
-      (subst (λ ls. AreThere ls set m new) (sym (had_another t (suc r) s others)) after),
+          (subst (λ ls. AreThere ls set m new) (sym (had_another t (suc r) s others)) after),
     )
 
 -- ---- what is saved

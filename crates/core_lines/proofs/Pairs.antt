@@ -12,7 +12,7 @@ use Rattle.core_meaning.specs.Selectable.{HaveLinesIn}
 use Rattle.core_lines.specs.declared.line.Line.{Line}
 use Rattle.core_lines.specs.Lines.{code_length}
 use Rattle.core_lines.specs.Machines.{Machine}
-use Rattle.core_lines.specs.Held.{Holding, nth, nth_block, source_of, same_as, with_applied, with_put, held_behind, held_behind_all}
+use Rattle.core_lines.specs.Held.{Holding, nth, nth_block, source_of, same_as, with_result, with_applied, with_put, held_behind, held_behind_all}
 use Rattle.core_lines.specs.Completing.{can_complete, can_complete_all}
 use Rattle.core_lines.specs.Homes.{is_home, flag_at}
 use Rattle.core_lines.specs.Loaded.{unknown_in}
@@ -40,7 +40,7 @@ use Rattle.core_lines.proofs.Straight.{GoesStraight}
 
 -- what is known behind both
 abbrev pub behind_both : ℕ → ℕ → List Holding → List Holding
-behind_both t home held = with_put false t home (with_applied t None held)
+behind_both t home held = with_put false t home (with_result t held)
 
 module _ (w : World) (order : IsInOrder w) (x : Waiting) (outer : List Waiting) (ns : List ℕ) (oss hss : List (List ℕ)) (names : List ℕ) (low : ℕ)
     (held : List Holding) (are : BlocksAre ns x.nest oss hss) (inside : x.phase ≡ Inside)

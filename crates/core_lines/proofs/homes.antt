@@ -4,6 +4,7 @@ pub mod Homed
 pub mod HomeWords
 pub mod SavedFew
 mod HomeSamples
+mod StraightSamples
 pub mod Locals
 pub mod Nests
 pub mod HomeLocals

@@ -7,7 +7,8 @@ use Rattle.core_lines.specs.Held.{Holding, nth, nth_block, source_of, same_as}
 use Rattle.core_lines.specs.Operands.{keep_code}
 use Rattle.core_lines.specs.Computed.{Surroundings, apply_code}
 
--- Whether an operation's last instruction alone changes the result's register, so that both words are read before: no comparison.
+-- Whether an operation's last instruction alone changes the result's register, so that both words are read before. Comparisons are left out, of which most have
+-- two that do.
 abbrev pub is_arithmetic : Binary → Bool
 is_arithmetic Equal = false
 is_arithmetic NotEqual = false

@@ -21,12 +21,14 @@ use Rattle.core_lines.specs.Homes.{saved_slot, saved_by, flag_at}
 use Rattle.core_lines.specs.Selected.{offsets_from, frame_bytes, datum_locals, Surroundings, labels_in, labels_of, names_after, names_after_all}
 use Rattle.core_lines.proofs.Returning.{statements_jump_last, ended_shorter}
 use Rattle.core_lines.specs.Selected.{naming, holding, within_block, statement_code, statements_code, around, labels_within, ended_code, function_code}
-use Rattle.core_lines.specs.Selected.{functions_code, program_code}
+use Rattle.core_lines.specs.Selected.{functions_code, program_code, statements_behind, home_behind}
+use Rattle.core_lines.specs.Straight.{straight_code}
 use Rattle.core_lines.proofs.memory.Access.{length_of_both}
 use Rattle.core_lines.proofs.homes.SavedFew.{ends_within}
 use Rattle.core_meaning.specs.Bounds.{branch_count, statement_operations, operations_of, all_operations, core_code}
 use Rattle.core_lines.proofs.OperationLengths.{IsWithin, both_within, less_within, if_within, nothing_within, load_within, save_within, operand_within}
-use Rattle.core_lines.proofs.OperationLengths.{test_within, into_within, keep_within, operation_within}
+use Rattle.core_lines.proofs.OperationLengths.{test_within, into_within, keep_within, operation_within, straight_within}
+use Rattle.core_lines.proofs.Straight.{first_either, later_either}
 
 -- ---- statements
 
@@ -133,6 +135,10 @@ branch_within : (flags : List Bool) (u : Surroundings) (next out again : ℕ) (s
 branch_within flags u next out again (MoreStatements (Raise kind) NoStatements) n h = record { is = omega arith }
 branch_within flags u next out again ss n h = less_within (64 * n) (12 + 64 * n) _ (omega arith) h
 
+statement_straight : (keeps : Bool) (u : Surroundings) (home : ℕ) (s : Statement) → IsWithin (64 * statement_operations s) (straight_code keeps u home s)
+statement_straight keeps u home (Do operation) = straight_within keeps u home operation
+statement_straight keeps u home s = nothing_within _
+
 mutual
   statement_within : (flags : List Bool) (u : Surroundings) (next out again : ℕ) (s : Statement)
       → IsWithin (64 * statement_operations s) (statement_code flags u next out again s)
@@ -190,10 +196,24 @@ mutual
   statements_within flags u next out again (MoreStatements s ss) =
       let left = drop (results_in s) flags in
       let v = holding (held_behind u.homes u.statics u.held s) (naming (names_after s u.names) u) in
+      let home = home_behind u.homes u.held s ss in
       less_within (64 * statement_operations s + 64 * operations_of ss) (64 * (statement_operations s + operations_of ss)) _ (omega arith)
-      (both_within (64 * statement_operations s) (64 * operations_of ss) _ _ (statement_within flags u next out again s)
-      (if_within (64 * operations_of ss) (can_complete s) _ [] (statements_within left v (next + labels_in s) out again ss)
+      (both_within (64 * statement_operations s) (64 * operations_of ss) _ _
+      (first_either (IsWithin (64 * statement_operations s)) home (flag_at flags 0) u s _ (statement_within flags u next out again s)
+      (statement_straight (flag_at flags 0) u home s))
+      (if_within (64 * operations_of ss) (can_complete s) _ []
+      (later_either (IsWithin (64 * operations_of ss)) home _ _ (statements_within left v (next + labels_in s) out again ss)
+      (others_within left v (next + labels_in s) out again ss))
       (nothing_within (64 * operations_of ss))))
+
+  others_within : (flags : List Bool) (u : Surroundings) (next out again : ℕ) (ss : Statements)
+      → IsWithin (64 * operations_of ss) (statements_behind flags u next out again ss)
+  others_within flags u next out again NoStatements = nothing_within 0
+  others_within flags u next out again (MoreStatements s ss) =
+      let v = holding (held_behind u.homes u.statics u.held s) (naming (names_after s u.names) u) in
+      less_within (64 * operations_of ss) (64 * (statement_operations s + operations_of ss)) _ (omega arith)
+      (if_within (64 * operations_of ss) (can_complete s) _ [] (statements_within (drop (results_in s) flags) v (next + labels_in s) out again ss)
+      (nothing_within (64 * operations_of ss)))
 
 -- ---- functions and programs
 

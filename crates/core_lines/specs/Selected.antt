@@ -20,6 +20,7 @@ use Rattle.core_lines.specs.Operands.{number_kept, move_kept, call_code, return_
 use Rattle.core_lines.specs.Choosing.{choice_code, between_code, behind_code}
 use Rattle.core_lines.specs.Checks.{check_of, checked_code}
 use Rattle.core_lines.specs.Completing.{can_complete, can_complete_all, ends_in_return_all}
+pub use Rattle.core_lines.specs.Straight.{home_behind, first_code, later_code}
 use Rattle.core_lines.specs.Saved.{results_in, results_all, taken_in, live_at_start, saves_at}
 pub use Rattle.core_lines.specs.LocalPlaces.{rounded, bytes_of, offsets_from, end_from, first_of, rest_of, shrink, shrunk, homes_here, homes_after, names_after}
 pub use Rattle.core_lines.specs.LocalPlaces.{names_after_all, shrunk_in, shrunk_of, placed_body, greater, highest, highest_of, slots_of, own_end, too_many}
@@ -132,6 +133,7 @@ holding held u = record u { held = held }
 -- check is a branch over what raises its exception. A loop: a label, its test, its body and a jump back; and a label behind it. What a `break` leaves
 -- without a loop: its statements, and a label behind them. What stands behind a statement that can't complete has no code.
 -- What is known of temporaries is known from one statement to the next, within a block, on both ways of a choice, and from the test of a loop to its choice.
+-- Where a result goes straight into the home of a local, the `Put` behind it has no code.
 abbrev mutual
   pub statement_code : (flags : List Bool) → Surroundings → (next out again : ℕ) → Statement → List Line
   statement_code flags u next out again (Do operation) = operation_code (flag_at flags 0) u operation
@@ -156,7 +158,18 @@ abbrev mutual
   pub statements_code : (flags : List Bool) → Surroundings → (next out again : ℕ) → Statements → List Line
   statements_code flags u next out again NoStatements = []
   statements_code flags u next out again (MoreStatements s ss) =
-      statement_code flags u next out again s ++ (if can_complete s then statements_code (drop (results_in s) flags)
+      let left = drop (results_in s) flags in
+      let later = holding (held_behind u.homes u.statics u.held s) (naming (names_after s u.names) u) in
+      let home = home_behind u.homes u.held s ss in
+      first_code home (flag_at flags 0) u s (statement_code flags u next out again s) ++
+      (if can_complete s then later_code home (statements_code left later (next + labels_in s) out again ss)
+      (statements_behind left later (next + labels_in s) out again ss) else [])
+
+  -- those behind the first of statements
+  pub statements_behind : (flags : List Bool) → Surroundings → (next out again : ℕ) → Statements → List Line
+  statements_behind flags u next out again NoStatements = []
+  statements_behind flags u next out again (MoreStatements s ss) =
+      (if can_complete s then statements_code (drop (results_in s) flags)
       (holding (held_behind u.homes u.statics u.held s) (naming (names_after s u.names) u)) (next + labels_in s) out again ss else [])
 
 -- ---- functions and programs

@@ -26,6 +26,8 @@ use Rattle.core_lines.specs.Operands.{pass_code, result_code, call_code, values_
 use Rattle.core_lines.specs.Selected.{Surroundings, local_offset, local_home, nth, from_temp, to_temp, far_code, read_line, read_code, write_line, write_code}
 use Rattle.core_lines.specs.Selected.{binary_code, turned, immediate_code, immediate_for, address_code, further_code}
 use Rattle.core_lines.specs.Selected.{operand, has_operand, both_code, apply_code, keep_result, computed_kept, applied_kept, get_code, byte_code, put_code}
+use Rattle.core_lines.specs.Straight.{straight_operation, straight_code}
+use Rattle.core_meaning.specs.Core.{Statement, Do}
 use Rattle.core_lines.specs.Selected.{number_in, narrow_kept, exponent_of, times_code, element_code, copy_code, clear_code, bytes_in, bytes_code, operation_code}
 pub use Rattle.core_lines.proofs.labels.BareLines.{are_bare, bare_places, bare_targets, two, three, four, either, one, verdict_bare}
 
@@ -284,6 +286,15 @@ module _ (u : Surroundings) where
         let line : List Line = Plain (instr.Andi (result_register t) (has_operand u 5 x) (pos 255)) ∷ [] in
         kept_bare t (operand u 5 x ++ line) (two (operand u 5 x) line (of_bare 5 x) refl)
     narrow_bare t x (Some w) = number_kept_bare u.passed keeps t (w % 256)
+
+    straight_operation_bare : (home : ℕ) (o : Operation) → are_bare (straight_operation keeps u home o) ≡ true
+    straight_operation_bare home (Apply o t x y) =
+        two (apply_code u o home x y) (keep_code keeps u.passed home t) (apply_bare o home x y) (keep_bare u.passed keeps home t)
+    straight_operation_bare home o = refl
+
+    pub straight_bare : (home : ℕ) (s : Statement) → are_bare (straight_code keeps u home s) ≡ true
+    straight_bare home (Do operation) = straight_operation_bare home operation
+    straight_bare home s = refl
 
     pub operation_bare : (o : Operation) → are_bare (operation_code keeps u o) ≡ true
     operation_bare (Constant t w) = number_kept_bare u.passed keeps t (w % 2 ^ 32)

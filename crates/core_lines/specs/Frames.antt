@@ -73,7 +73,7 @@ test_code bytes =
 abbrev pub move_code : ℕ → List Line
 move_code bytes = word_code 7 bytes ++ (Plain (Sub 2 2 7) ∷ [])
 
--- a frame is taken, by instructions of which ADDI has room for a small one's bytes and their negative
+-- a frame is taken: ADDI has room for a small one's bytes, and for their negative
 abbrev pub frame_code : ℕ → List Line
 frame_code bytes = (if nat_lt bytes 2048 then small_frame_code bytes else test_code bytes ++ move_code bytes)
 

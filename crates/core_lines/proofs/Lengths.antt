@@ -9,7 +9,8 @@ use Rattle.core_meaning.specs.Core.{Statement, Do, If, While, Block, Leave, Brea
 use Rattle.core_meaning.specs.Core.{MoreStatements, Function, Program}
 use Rattle.core_lines.specs.declared.line.Line.TheVariants.{Plain, Label, Jump, JumpUnless, BranchUnless, CallTo}
 use Rattle.core_lines.specs.Lines.{code_length}
-use Rattle.core_lines.specs.Frames.{is_short, slot_of, load_code, save_code, environment_code, test_code, move_code, saves_code, epilogue_code, raise_code}
+use Rattle.core_lines.specs.Frames.{is_short, slot_of, load_code, save_code, environment_code, stack_start_code, frame_code, saves_code}
+use Rattle.core_lines.specs.Frames.{epilogue_code, raise_code}
 use Rattle.core_lines.specs.Held.{Source, Register, Number, Compared, Holding, source_of, without_register, result_register, held_behind, held_behind_all}
 use Rattle.core_lines.specs.Operands.{operand_in, operand_code, into_code, keep_code, pass_code, result_code, values_code, return_code}
 use Rattle.core_lines.specs.Operands.{test_in, ready_code, test_ready, take_code, prologue_code}
@@ -231,12 +232,10 @@ prologue_within : (bytes passed first : ℕ) (saved : List ℕ) (start : List Bo
     → IsWithin (52 + code_length (saves_code first saved) + 24 * parameters) (prologue_code bytes passed first saved start parameters)
 prologue_within bytes passed first saved start parameters =
     let s = code_length (saves_code first saved) in
-    both_within (52 + s) (24 * parameters) (test_code bytes ++ move_code bytes ++ save_code 1 0 ++ saves_code first saved)
-    (take_code bytes passed start 0 parameters)
-    (both_within 52 s (test_code bytes ++ move_code bytes ++ save_code 1 0) (saves_code first saved)
-    (both_within (28 + 12) 12 (test_code bytes ++ move_code bytes) (save_code 1 0)
-    (both_within 28 12 (test_code bytes) (move_code bytes) (record { is = omega arith })
-    (if_within 12 (nat_lt bytes 2048) _ _ (record { is = omega arith }) (record { is = omega arith })))
+    both_within (52 + s) (24 * parameters) (frame_code bytes ++ save_code 1 0 ++ saves_code first saved) (take_code bytes passed start 0 parameters)
+    (both_within 52 s (frame_code bytes ++ save_code 1 0) (saves_code first saved)
+    (both_within 40 12 (frame_code bytes) (save_code 1 0)
+    (if_within 40 (nat_lt bytes 2048) _ _ (record { is = omega arith }) (record { is = omega arith }))
     (save_within 1 0))
     (record { is = omega arith }))
     (take_within bytes passed start 0 parameters)
@@ -282,7 +281,7 @@ pub lines_within : (p : Program) (wide : ℕ → Bool) → code_length (program_
 lines_within p wide =
     let statics = offsets_from 0 (datum_locals p.data_objects) in
     let all = 64 * all_operations p.functions in
-    (less_within (12 + all) (core_code p) (program_code wide p) (omega arith)
-    (both_within 12 all ((CallTo p.main ∷ []) ++ environment_code 0) (functions_code wide statics 0 (length p.functions) p.functions)
+    (less_within (16 + all) (core_code p) (program_code wide p) (omega arith)
+    (both_within 16 all (stack_start_code ++ (CallTo p.main ∷ []) ++ environment_code 0) (functions_code wide statics 0 (length p.functions) p.functions)
     (record { is = omega arith })
     (functions_within wide statics 0 (length p.functions) p.functions))).is

@@ -10,7 +10,7 @@ use Rattle.core_meaning.specs.Core.{Call, Return, Raise, Statements, NoStatement
 use Rattle.core_meaning.specs.Operations.{saturated}
 use Rattle.core_lines.specs.declared.line.Line.{Line}
 use Rattle.core_lines.specs.declared.line.Line.TheVariants.{Plain, Label, Jump, CallTo}
-use Rattle.core_lines.specs.Frames.{word_code, epilogue_code, environment_code, raise_code}
+use Rattle.core_lines.specs.Frames.{word_code, stack_start_code, epilogue_code, environment_code, raise_code}
 use Rattle.core_lines.specs.Loops.{are_words, copy_loop, clear_loop}
 use Rattle.core_lines.specs.Homes.{homes_in, saved_slot, saved_by, flag_at}
 pub use Rattle.core_lines.specs.Held.{nth, nth_block, Source, Register, Number, Compared, Holding, held_behind, held_behind_all, source_of, number_in}
@@ -210,8 +210,8 @@ functions_code wide statics number next [] = []
 functions_code wide statics number next (f ∷ fs) =
     function_code wide statics number next f ++ functions_code wide statics (number + 1) (next + labels_within f) fs
 
--- `main` is called, and what it returns is the status of the exit; then come the functions
+-- The stack's start is put into x3. `main` is called, and what it returns is the status of the exit; then come the functions.
 abbrev pub program_code : (ℕ → Bool) → Program → List Line
 program_code wide p =
-    (CallTo p.main ∷ []) ++ environment_code 0 ++
+    stack_start_code ++ (CallTo p.main ∷ []) ++ environment_code 0 ++
     functions_code wide (offsets_from 0 (datum_locals p.data_objects)) 0 (length p.functions) p.functions

@@ -14,7 +14,7 @@ use Rattle.core_lines.specs.declared.line.Line.{Line}
 use Rattle.core_lines.specs.declared.line.Line.TheVariants.{Plain, Jump, CallTo}
 use Rattle.core_lines.specs.Comparisons.{inverse, branch_if, verdict_code}
 use Rattle.core_lines.specs.Lines.{code_length}
-use Rattle.core_lines.specs.Frames.{is_short, word_code, load_code, save_code, slot_of, environment_code, test_code, move_code, give_code}
+use Rattle.core_lines.specs.Frames.{is_short, word_code, load_code, save_code, slot_of, environment_code, frame_code, give_code}
 use Rattle.core_lines.specs.Frames.{saves_code, restores_code, leave_code, epilogue_code, raise_code}
 use Rattle.core_lines.specs.Checks.{Failure, Always, ByTest, failure_code, check_code}
 use Rattle.core_lines.specs.Homes.{flag_at}
@@ -369,7 +369,6 @@ take_bare bytes passed start k (suc more) =
 pub prologue_bare : (bytes passed first : ℕ) (saved : List ℕ) (start : List Bool) (parameters : ℕ)
     → are_bare (prologue_code bytes passed first saved start parameters) ≡ true
 prologue_bare bytes passed first saved start parameters =
-    two (test_code bytes ++ move_code bytes ++ save_code 1 0 ++ saves_code first saved) (take_code bytes passed start 0 parameters)
-    (four (test_code bytes) (move_code bytes) (save_code 1 0) (saves_code first saved) refl (either (nat_lt bytes 2048) _ _ refl refl) (save_bare 1 0)
-    (saves_bare first saved))
+    two (frame_code bytes ++ save_code 1 0 ++ saves_code first saved) (take_code bytes passed start 0 parameters)
+    (three (frame_code bytes) (save_code 1 0) (saves_code first saved) (either (nat_lt bytes 2048) _ _ refl refl) (save_bare 1 0) (saves_bare first saved))
     (take_bare bytes passed start 0 parameters)

@@ -42,7 +42,7 @@ use Rattle.core_meaning.specs.Core.{
   KeyFree,
 }
 use Rattle.core_lines.specs.Lines.{AreOnce}
-use Rattle.core_lines.specs.Frames.{environment_code, raise_code, epilogue_code}
+use Rattle.core_lines.specs.Frames.{environment_code, raise_code, stack_start_code, epilogue_code}
 use Rattle.core_lines.specs.Homes.{saved_by, saved_slot, flag_at}
 use Rattle.core_lines.specs.Held.{Holding, held_behind, held_behind_all, source_of, result_register, same_as, comparison_of}
 use Rattle.core_lines.specs.declared.comparison.Comparison.{Comparison}
@@ -339,7 +339,7 @@ module _ (wide : ℕ → Bool) where
 
   program_short : (p : Program) → shortened_to wide (program_code far p) ≡ program_code wide p
   program_short p =
-      let stub : List Line = (CallTo p.main ∷ []) ++ environment_code 0 in
+      let stub : List Line = stack_start_code ++ (CallTo p.main ∷ []) ++ environment_code 0 in
       let statics = offsets_from 0 (datum_locals p.data_objects) in
       both stub (functions_code far statics 0 (length p.functions) p.functions) stub (functions_code wide statics 0 (length p.functions) p.functions) refl
       (functions_short statics 0 (length p.functions) p.functions)

@@ -2,7 +2,7 @@
 use Rattle.std.specs.Prelude.{slice_get, nat_eq, ◌&&◌, if◌then◌else◌}
 use Rattle.std.proofs.Common.{◌≡◌, ℕ, suc, ◌+◌, ◌<◌, Bool, true, false, List, [], ◌∷◌, ◌++◌, Some, None, refl, sym, ap, subst, ◌∙◌, arith, append_assoc}
 use Rattle.std.proofs.lemmas.Bool.{eq-eqb}
-use Rattle.core_meaning.specs.Memory.{Content, Word, Memory, with_part}
+use Rattle.core_meaning.specs.Memory.{Content, Word, with_part}
 use Rattle.core_meaning.specs.Core.{Binary, Apply, Put, Statement, Do, Statements, NoStatements, MoreStatements}
 use Rattle.core_meaning.specs.Meaning as core
 use Rattle.core_meaning.specs.Words.{two}
@@ -20,20 +20,20 @@ use Rattle.core_lines.specs.Saved.{all_flagged}
 use Rattle.core_lines.specs.Straight.{is_arithmetic, straight_operation, straight_code}
 use Rattle.core_lines.specs.Selected.{Surroundings, names_after}
 use Rattle.core_lines.proofs.memory.Relations.{Inside, as_home, home_of, Follows, AreKept, keeping, World, IsInOrder, Has, Waiting, Goes, active_of}
-use Rattle.core_lines.proofs.memory.Moving.{Comes, comes_then, comes_as, goes_from}
+use Rattle.core_lines.proofs.memory.Moving.{comes_then, comes_as, goes_from}
 use Rattle.core_lines.proofs.memory.Access.{length_of_both, behind}
 use Rattle.core_lines.proofs.frames.Passing.{has_first, has_second}
 use Rattle.core_lines.proofs.frames.Bodies.{with_config, GoesHolding, goes_fewer}
 use Rattle.core_lines.proofs.operations.Registers.{AtHolding, served_two}
 use Rattle.core_lines.proofs.homes.Nests.{BlocksAre}
-use Rattle.core_lines.proofs.homes.HomeResults.{straight, straight_held}
+use Rattle.core_lines.proofs.homes.HomeResults.{straight}
 use Rattle.core_lines.proofs.operations.Needing.{word_goes, block_goes, reached_goes}
 use Rattle.core_lines.proofs.operations.PartOperations.{surrounding, scoped, with_memory_holding, local_home_is}
 use Rattle.core_lines.proofs.Flags.{length_all, more_flagged, follows_flags}
 use Rattle.core_lines.proofs.Live.{few_results}
 use Rattle.core_lines.proofs.Loads.{operation_below}
 use Rattle.core_lines.proofs.Ways.{Needs, Does}
-use Rattle.core_lines.proofs.Shown.{AreWhole, showing, showing_all, saving, saving_all, whole_all, loads_show}
+use Rattle.core_lines.proofs.Shown.{AreWhole, showing_all, saving, saving_all, whole_all, loads_show}
 use Rattle.core_lines.proofs.Forms.{same_holding}
 use Rattle.core_lines.proofs.Choices.{test, jumps}
 use Rattle.core_lines.proofs.Straight.{GoesStraight, compares_none}
@@ -129,8 +129,8 @@ module _ (w : World) (order : IsInOrder w) (x : Waiting) (outer : List Waiting) 
         let saved_others = saving_all w hss names between_held needs (MoreStatements put others) in
         let are_first = flags_are ∙ append_assoc (saving w hss names held (record needs { after = between }) (Do operation)) saved_others rest in
         let length_between = whole_all w hss names between_held needs x.fn.temporaries whole (MoreStatements put others) in
-        let known : last ≡ behind_both t (suc r) held = 
-            (λ i. with_put (word i) t (there i) (with_applied t (moves_none i) (compares_none o (source_of held y) (source_of held z) computes i) held)) in
+        let known : last ≡ behind_both t (suc r) held =
+        (λ i. with_put (word i) t (there i) (with_applied t (moves_none i) (compares_none o (source_of held y) (source_of held z) computes i) held)) in
         record {
           goes = λ place fuel le k aligned lines ways.
               let middle = place + code_length first in

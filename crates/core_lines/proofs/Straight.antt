@@ -1,5 +1,5 @@
 -- Which results go straight into the home of a local, and that lines of a statement and those behind it are so of each way.
-use Rattle.std.proofs.Common.{◌≡◌, ℕ, zero, suc, Bool, true, false, List, Option, Some, None, refl, sym, ap, ◌∙◌, arith}
+use Rattle.std.proofs.Common.{◌≡◌, ℕ, zero, suc, Bool, true, false, List, Option, Some, None, refl, ap, arith}
 use Rattle.std.specs.Prelude.{nat_eq, not, ◌&&◌, if◌then◌else◌}
 use Rattle.std.proofs.lemmas.Bool.{eqb-true}
 use Rattle.core_meaning.specs.Core as core

@@ -1,6 +1,6 @@
 -- What the code of an operation on two words does whose result goes straight into the home of a local: the temporary and the local get it.
-use Rattle.std.proofs.Common.{◌≡◌, ℕ, zero, suc, ◌+◌, ◌%◌, ◌^◌, ◌<◌, Bool, true, List, [], ◌∷◌, ◌++◌, Option, Some, refl, sym, ap, subst, ◌∙◌}
-use Rattle.std.proofs.Common.{nat_eq, nat_lt, bit_and, bit_or, bit_xor}
+use Rattle.std.proofs.Common.{◌≡◌, ℕ, suc, ◌+◌, ◌^◌, ◌<◌, Bool, true, List, [], ◌∷◌, ◌++◌, Some, refl, sym, ap, subst, ◌∙◌}
+use Rattle.std.proofs.Common.{nat_lt, bit_and, bit_or, bit_xor}
 use Rattle.arena_laws.specs.Lawful.{Answer}
 use Rattle.cyc_words.specs.Words.{word, sum_of}
 use Rattle.rv32_isa.specs.declared.instruction.Instr.{Instr}
@@ -18,13 +18,13 @@ use Rattle.core_lines.specs.declared.line.Line.{Line}
 use Rattle.core_lines.specs.declared.line.Line.TheVariants.{Plain}
 use Rattle.core_lines.specs.Lines.{HasInstr, code_length}
 use Rattle.core_lines.specs.Frames.{is_short, lower_of}
-use Rattle.core_lines.specs.Held.{Source, Register, Number, Holding, source_of, without_register, with_source, with_result}
+use Rattle.core_lines.specs.Held.{Register, Number, Holding, source_of, without_register, with_source, with_result}
 use Rattle.core_lines.specs.Operands.{operand_in, keep_code}
 use Rattle.core_lines.specs.Homes.{is_home}
-use Rattle.core_lines.specs.Straight.{is_arithmetic, straight_operation}
+use Rattle.core_lines.specs.Straight.{is_arithmetic}
 use Rattle.core_lines.specs.Selected.{Surroundings, turned, binary_code, immediate_code, immediate_for, apply_code}
-use Rattle.core_lines.specs.Machines.{Machine, Store, state_of}
-use Rattle.core_lines.specs.Lies.{Maps, Shows, Activation, local_at}
+use Rattle.core_lines.specs.Machines.{Store, state_of}
+use Rattle.core_lines.specs.Lies.{Maps, Activation, local_at}
 use Rattle.core_lines.proofs.Steps.{state_at}
 use Rattle.core_lines.proofs.memory.Relations.{World, IsInOrder, Has, Waiting, Follows, keeping, back_of, FrameShows}
 use Rattle.core_lines.proofs.memory.Moving.{Comes, comes_then, comes_as}

@@ -1,6 +1,6 @@
 -- The code of some sums that are put into locals with homes.
 use Rattle.std.specs.Prelude.{pos}
-use Rattle.std.proofs.Common.{◌≡◌, ℕ, Bool, true, false, List, [], ◌∷◌, refl}
+use Rattle.std.proofs.Common.{◌≡◌, true, List, [], ◌∷◌, refl}
 use Rattle.rv32_isa.specs.declared.instruction.Instr.TheVariants.{Addi, Add, Andi, Sub}
 use Rattle.core_meaning.specs.Core.{Operation, Constant, Get, Put, Apply, Do, Statements, NoStatements, MoreStatements}
 use Rattle.core_meaning.specs.Core as core

@@ -43,7 +43,6 @@ use Rattle.core_lines.specs.declared.comparison.Condition.{Condition}
 use Rattle.core_lines.specs.declared.comparison.Condition.TheVariants as condition
 use Rattle.core_lines.specs.declared.comparison.Comparison.{Comparison}
 use Rattle.core_lines.specs.Comparisons.{holds}
-use Rattle.core_lines.specs.declared.line.Line.{Line}
 use Rattle.core_lines.specs.Lines.{code_length}
 use Rattle.core_lines.specs.Machines.{Machine}
 use Rattle.core_lines.specs.Lies.{Maps, Shows}

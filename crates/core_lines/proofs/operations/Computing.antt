@@ -1,5 +1,5 @@
 -- An operation on two words whose last instructions leave its result somewhere: where it gets both words from registers, or one of them as a number.
-use Rattle.std.proofs.Common.{◌≡◌, ℕ, zero, suc, ◌+◌, ◌<◌, List, ◌∷◌, ◌++◌, Option, Some, None, refl, arith}
+use Rattle.std.proofs.Common.{◌≡◌, ℕ, zero, suc, ◌+◌, ◌<◌, List, ◌++◌, Option, Some, None, refl, arith}
 use Rattle.core_meaning.specs.Memory.{Memory}
 use Rattle.core_meaning.specs.Core.{Binary}
 use Rattle.core_lines.specs.declared.line.Line.{Line}

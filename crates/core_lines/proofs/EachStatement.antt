@@ -1,5 +1,5 @@
 -- Each statement's code does as the statement means, by the forms of statements, where calls with less fuel do as Core.
-use Rattle.std.specs.Prelude.{length, drop}
+use Rattle.std.specs.Prelude.{length, drop, if◌then◌else◌}
 use Rattle.rv32_machine.specs.Arrays.{longest_stack}
 use Rattle.std.proofs.Common.{◌≡◌, ℕ, zero, suc, Bool, true, false, Some, ◌+◌, ◌≤◌, List, [], ◌∷◌, ◌++◌, refl, sym, ap, subst, ◌∙◌, arith}
 use Rattle.std.proofs.Common.{append_assoc}
@@ -7,14 +7,17 @@ use Rattle.core_meaning.specs.Core.{Local, Statement, Do, If, While, Block, Leav
 use Rattle.core_meaning.specs.Core.{MoreStatements}
 use Rattle.core_meaning.specs.Meaning as core
 use Rattle.core_meaning.specs.Steps.{Falls}
+use Rattle.core_lines.specs.declared.line.Line.{Line}
 use Rattle.core_lines.specs.declared.line.Line.TheVariants.{Jump}
 use Rattle.core_lines.specs.Held.{Holding, held_behind, held_behind_all}
 use Rattle.core_lines.specs.Completing.{can_complete, can_complete_all}
+use Rattle.core_lines.specs.Straight.{straight_code}
 use Rattle.core_lines.specs.Choosing.{choice_code, between_code, behind_code}
 use Rattle.core_lines.specs.Checks.{check_of}
 use Rattle.core_lines.specs.Loaded.{unknown_in, loads_of_operation, loads_of_values}
 use Rattle.core_lines.specs.Saved.{cleared, all_flagged, results_of, results_in, results_all}
 use Rattle.core_lines.specs.Selected.{offsets_from, end_from, highest, highest_of, labels_in, labels_of, statement_code, statements_code}
+use Rattle.core_lines.specs.Selected.{Surroundings, holding, naming, statements_behind, home_behind, first_code, later_code}
 use Rattle.core_lines.specs.Selected.{nth_block, shrunk, shrunk_in, shrunk_of, homes_here, homes_after, names_after, names_after_all}
 use Rattle.core_lines.specs.Homes.{is_home, flag_at}
 use Rattle.core_meaning.specs.Selectable.{HasLinesIn, HaveLinesIn}
@@ -29,6 +32,8 @@ use Rattle.core_lines.proofs.Shown.{at_choice, of_test, of_body, whole_test, who
 use Rattle.core_lines.proofs.Forms.{within_block, break_does, continue_does, nothing_does, sequence_does, block_does}
 use Rattle.core_lines.proofs.Checking.{checked_does}
 use Rattle.core_lines.proofs.Choices.{test, jumps, either_does, leave_does, loop_does}
+use Rattle.core_lines.proofs.Straight.{goes_straight}
+use Rattle.core_lines.proofs.Pairs.{BehindDo, straight_does}
 use Rattle.core_lines.proofs.memory.Nested.{NestFits}
 use Rattle.core_lines.proofs.homes.Locals.{shrunk_layouts, as_many_shrunk, offsets_lie, as_many_offsets, end_above, offset_below, highest_of_above, both_below}
 use Rattle.core_lines.proofs.homes.Nests.{BlocksAre}
@@ -85,6 +90,58 @@ module _ (w : World) (order : IsInOrder w) (outer : List Waiting) (small : DataS
       homes_of : (out local r : ℕ) → home_of (nth_block (homes_here ls names ∷ hss) out) local ≡ Some r → is_home r ≡ true
       homes_of zero local r e = (fits.saved local r e).0
       homes_of (suc out) local r e = around.are_homes out local r e
+
+  -- the code of the statements behind the first of some, where that completes
+  abbrev others_code : (flags : List Bool) → Surroundings → (next out again : ℕ) → Statements → List Line
+  others_code flags u next out again NoStatements = []
+  others_code flags u next out again (MoreStatements s ss) = statements_code (drop (results_in s) flags)
+      (holding (held_behind u.homes u.statics u.held s) (naming (names_after s u.names) u)) (next + labels_in s) out again ss
+
+  -- A statement and those behind it, whether or not its result goes straight into the home of a local.
+  followed : (x : Waiting) (ns : List ℕ) (oss hss : List (List ℕ)) (names : List ℕ) (low : ℕ) (held : List Holding) (needs : Needs)
+      (flags rest : List Bool) (next out again : ℕ) (s : Statement) (ss : Statements) → AreWhole x.fn.temporaries needs
+      → flags ≡ saving_all w hss names held needs (MoreStatements s ss) ++ rest → IsAround w x ns oss hss low bytes
+      → HaveLinesIn (scoped w x ns) (MoreStatements s ss) → (home : ℕ) → home_behind hss held s ss ≡ home
+      → (let last = held_behind hss w.data_offsets held s in
+      let later = surrounding w x oss hss (names_after s names) low last in
+      let left = drop (results_in s) flags in
+      Does w x outer most (can_complete s) held last
+      (showing w hss names held (record needs { after = showing_all w hss (names_after s names) last needs ss }) s)
+      (record needs { after = showing_all w hss (names_after s names) last needs ss })
+      (statement_code flags (surrounding w x oss hss names low held) next out again s) out again (core.statement s)
+      → Does w x outer most (can_complete_all ss) last (held_behind_all hss w.data_offsets last ss) (showing_all w hss (names_after s names) last needs ss)
+      needs (statements_code left later (next + labels_in s) out again ss) out again (core.statements ss)
+      → BehindDo w order x outer most ns oss hss low (names_after s names) last needs (others_code left later (next + labels_in s) out again ss) out again ss
+      → Does w x outer most (can_complete_all (MoreStatements s ss)) held (held_behind_all hss w.data_offsets held (MoreStatements s ss))
+      (showing_all w hss names held needs (MoreStatements s ss)) needs
+      (first_code home (flag_at flags 0) (surrounding w x oss hss names low held) s
+      (statement_code flags (surrounding w x oss hss names low held) next out again s)
+      ++ (if can_complete s then later_code home (statements_code left later (next + labels_in s) out again ss)
+      (statements_behind left later (next + labels_in s) out again ss) else [])) out again (core.statements (MoreStatements s ss)))
+  followed x ns oss hss names low held needs flags rest next out again s ss whole are around has zero none one others behind =
+      let last = held_behind hss w.data_offsets held s in
+      sequence_does w order x outer most (test w order x outer most) (jumps w order x outer most) (can_complete s) (can_complete_all ss) held last
+      (held_behind_all hss w.data_offsets last ss)
+      (showing w hss names held (record needs { after = showing_all w hss (names_after s names) last needs ss }) s)
+      (showing_all w hss (names_after s names) last needs ss) needs
+      (statement_code flags (surrounding w x oss hss names low held) next out again s)
+      (statements_code (drop (results_in s) flags) (surrounding w x oss hss (names_after s names) low last) (next + labels_in s) out again ss) out again s ss
+      one others
+  followed x ns oss hss names low held needs flags rest next out again s ss whole are around has (suc h) some one others behind =
+      let g = goes_straight hss held s ss h some in
+      let u = surrounding w x oss hss names low held in
+      let last = held_behind hss w.data_offsets held s in
+      let later = surrounding w x oss hss (names_after s names) low last in
+      let left = drop (results_in s) flags in
+      let lines = others_code left later (next + labels_in s) out again ss in
+      let same : lines ≡ (if can_complete s then statements_behind left later (next + labels_in s) out again ss else []) =
+      (λ i. others_code left later (next + labels_in s) out again (g.next_is i))
+      ∙ (λ i. if can_complete (sym g.first_is i) then statements_behind left later (next + labels_in s) out again (sym g.next_is i) else []) in
+      subst (λ second. Does w x outer most (can_complete_all (MoreStatements s ss)) held (held_behind_all hss w.data_offsets held (MoreStatements s ss))
+      (showing_all w hss names held needs (MoreStatements s ss)) needs (straight_code (flag_at flags 0) u (suc h) s ++ second) out again
+      (core.statements (MoreStatements s ss))) same
+      (straight_does w order x outer most ns oss hss low around.blocks around.inside around.are_homes names held needs flags rest lines out again whole s ss h g
+      are has behind)
 
   mutual
     pub statement_does : (x : Waiting) (ns : List ℕ) (oss hss : List (List ℕ)) (names : List ℕ) (low : ℕ) (held : List Holding) (needs : Needs)
@@ -245,10 +302,27 @@ module _ (w : World) (order : IsInOrder w) (outer : List Waiting) (small : DataS
         let are_first : flags ≡ saved ++ (saved_others ++ rest) = are ∙ append_assoc saved saved_others rest in
         let are_others : flags_others ≡ saved_others ++ rest = flags_behind (results_in s) flags saved (saved_others ++ rest)
         (saved_in w.data_offsets hss names held between needs.out needs.again s) are_first in
-        sequence_does w order x outer most (test w order x outer most) (jumps w order x outer most) (can_complete s) (can_complete_all ss) held last
-        (held_behind_all hss w.data_offsets last ss)
-        (showing w hss names held needs_first s) between needs
-        (statement_code flags (surrounding w x oss hss names low held) next out again s)
-        (statements_code flags_others (surrounding w x oss hss behind low last) (next + labels_in s) out again ss) out again s ss
+        followed x ns oss hss names low held needs flags rest next out again s ss whole are around has (home_behind hss held s ss) refl
         (statement_does x ns oss hss names low held needs_first flags (saved_others ++ rest) next out again s whole_first are_first around has.0 fine.0 b.0)
         (statements_do x ns oss hss behind low last needs flags_others rest (next + labels_in s) out again ss whole are_others around has.1 fine.1 b.1)
+        (behind_do x ns oss hss behind low last needs flags_others rest (next + labels_in s) out again ss whole are_others around has.1 fine.1 b.1)
+
+    -- those behind the first of statements
+    behind_do : (x : Waiting) (ns : List ℕ) (oss hss : List (List ℕ)) (names : List ℕ) (low : ℕ) (held : List Holding) (needs : Needs)
+        (flags rest : List Bool) (next out again : ℕ) (ss : Statements) → AreWhole x.fn.temporaries needs
+        → flags ≡ saving_all w hss names held needs ss ++ rest
+        → IsAround w x ns oss hss low bytes → HaveLinesIn (scoped w x ns) ss → AreFine x.fn hss names ss → highest_of low (shrunk_of names ss) ≤ bytes
+        → BehindDo w order x outer most ns oss hss low names held needs
+        (others_code flags (surrounding w x oss hss names low held) next out again ss) out again ss
+    behind_do x ns oss hss names low held needs flags rest next out again NoStatements whole are around has fine below = tt
+    behind_do x ns oss hss names low held needs flags rest next out again (MoreStatements s ss) whole are around has fine below =
+        let behind = names_after s names in
+        let b = both_below (highest low (shrunk_in names s)) (highest_of low (shrunk_of behind ss)) bytes below in
+        let last = held_behind hss w.data_offsets held s in
+        let between = showing_all w hss behind last needs ss in
+        let saved = saving w hss names held (record needs { after = between }) s in
+        let saved_others = saving_all w hss behind last needs ss in
+        let are_others : drop (results_in s) flags ≡ saved_others ++ rest = flags_behind (results_in s) flags saved (saved_others ++ rest)
+        (saved_in w.data_offsets hss names held between needs.out needs.again s) (are ∙ append_assoc saved saved_others rest) in
+        statements_do x ns oss hss behind low last needs (drop (results_in s) flags) rest (next + labels_in s) out again ss whole are_others around has.1 fine.1
+        b.1

@@ -1,6 +1,6 @@
 -- Statements that end in a `Return` do as they mean where, in the place of its jump, the function ends.
 use Rattle.std.specs.Prelude.{◌&&◌, drop, if◌then◌else◌, length}
-use Rattle.std.proofs.Common.{◌≡◌, ℕ, suc, Bool, true, false, ◌+◌, ◌≤◌, List, [], ◌∷◌, ◌++◌, refl, sym, ap, subst, ◌∙◌, arith}
+use Rattle.std.proofs.Common.{◌≡◌, ℕ, zero, suc, Bool, true, false, ◌+◌, ◌≤◌, List, [], ◌∷◌, ◌++◌, refl, sym, ap, subst, ◌∙◌, arith}
 use Rattle.std.proofs.Common.{append_assoc, append-nil}
 use Rattle.core_meaning.specs.Core.{Statement, Do, If, While, Block, Leave, Break, Continue, Call, Return, Raise, Statements, NoStatements}
 use Rattle.core_meaning.specs.Core.{MoreStatements}
@@ -14,6 +14,9 @@ use Rattle.core_lines.specs.Held.{Holding, held_behind, held_behind_all}
 use Rattle.core_lines.specs.Completing.{can_complete, can_complete_all, ends_in_return, ends_in_return_all}
 use Rattle.core_lines.specs.Loaded.{loads_of_values}
 use Rattle.core_lines.specs.Saved.{cleared, results_in}
+use Rattle.core_lines.specs.Homes.{flag_at}
+use Rattle.core_lines.specs.Straight.{straight_code}
+use Rattle.core_lines.specs.Selected.{statements_behind, home_behind, first_code, later_code}
 use Rattle.core_lines.specs.Selected.{offsets_from, end_from, highest, highest_of, labels_in, statement_code, statements_code, ended_code}
 use Rattle.core_lines.specs.Selected.{shrunk, shrunk_in, shrunk_of, homes_here, homes_after, names_after}
 use Rattle.core_lines.proofs.memory.Relations.{World, IsInOrder, Waiting, Place, keeping}
@@ -31,7 +34,10 @@ use Rattle.core_lines.proofs.homes.Locals.{shrunk_layouts, offsets_lie, highest_
 use Rattle.core_lines.proofs.homes.Fine.{IsFine, AreFine, tiny, fit}
 use Rattle.core_lines.proofs.operations.EachOperation.{DataSmall, surrounding, scoped}
 use Rattle.core_lines.proofs.EachStatement.{IsAround, in_block, statement_does, statements_do}
-use Rattle.core_lines.proofs.Returning.{JumpsLast, without_last, last_of_both, statement_jumps_last, statements_jump_last}
+use Rattle.core_lines.proofs.Returning.{JumpsLast, without_last, same_before, last_of_both, last_if, first_completes, behind_jump_last}
+use Rattle.core_lines.proofs.Returning.{statement_jumps_last, statements_jump_last}
+use Rattle.core_lines.proofs.Straight.{goes_straight}
+use Rattle.core_lines.proofs.Pairs.{BehindDo, straight_does}
 
 -- where a function ends
 abbrev pub exit_of : World → Waiting → List Line
@@ -84,8 +90,88 @@ module _ (w : World) (order : IsInOrder w) (x : Waiting) (outer : List Waiting) 
         });
   }
 
+-- where what completes is reached
+ended_if : (exit : ℕ) (completes : Bool) (is : completes ≡ true) (one_ends other_ends : Bool) (ends : (if completes then other_ends else one_ends) ≡ true)
+    (lines : List Line) (last : other_ends ≡ true → JumpsLast exit lines) (D : List Line → Type 0) → ((e : other_ends ≡ true) → D (last e).before)
+    → D (last_if exit completes one_ends other_ends is ends lines last).before
+ended_if exit true is one_ends other_ends ends lines last D does = does ends
+ended_if exit false is one_ends other_ends ends lines last D does = absurd (cc is)
+
 module _ (w : World) (order : IsInOrder w) (outer : List Waiting) (small : DataSmall w) (bytes most : ℕ)
     (calls : (j : ℕ) → suc j ≤ most → (g : ℕ) → BodyGoes w j g) where
+  -- A statement and those behind it, whether or not its result goes straight into the home of a local.
+  followed_ends : (x : Waiting) (ns : List ℕ) (oss hss : List (List ℕ)) (names : List ℕ) (low : ℕ) (held : List Holding) (needs : Needs)
+      (flags rest : List Bool) (next out again : ℕ) (s : Statement) (ss : Statements) → AreWhole x.fn.temporaries needs
+      → flags ≡ saving_all w hss names held needs (MoreStatements s ss) ++ rest → IsAround w x ns oss hss low bytes
+      → HaveLinesIn (scoped w x ns) (MoreStatements s ss) → (ends : ends_in_return_all (MoreStatements s ss) ≡ true) → (home : ℕ)
+      → home_behind hss held s ss ≡ home
+      → (let last = held_behind hss w.data_offsets held s in
+      let u = surrounding w x oss hss names low held in
+      let v = surrounding w x oss hss (names_after s names) low last in
+      let left = drop (results_in s) flags in
+      let between = showing_all w hss (names_after s names) last needs ss in
+      let all = statements_code left v (next + labels_in s) out again ss in
+      let exit = w.exits x.function in
+      (l : JumpsLast exit (first_code home (flag_at flags 0) u s (statement_code flags u next out again s)
+      ++ (if can_complete s then later_code home all (statements_behind left v (next + labels_in s) out again ss) else [])))
+      → Does w x outer most (can_complete s) held last (showing w hss names held (record needs { after = between }) s) (record needs { after = between })
+      (statement_code flags u next out again s) out again (core.statement s)
+      → Does w x outer most (can_complete_all ss) last (held_behind_all hss w.data_offsets last ss) between needs all out again (core.statements ss)
+      → ((e : ends_in_return s ≡ true) → Does w x outer most (can_complete s) held last (showing w hss names held (record needs { after = between }) s)
+      (record needs { after = between }) ((statement_jumps_last flags u next out again s e).before ++ exit_of w x) out again (core.statement s))
+      → ((e : ends_in_return_all ss ≡ true) → Does w x outer most (can_complete_all ss) last (held_behind_all hss w.data_offsets last ss) between needs
+      ((statements_jump_last left v (next + labels_in s) out again ss e).before ++ exit_of w x) out again (core.statements ss))
+      → ((completes : first_completes ss ≡ true) (e : ends_in_return_all ss ≡ true)
+      → BehindDo w order x outer most ns oss hss low (names_after s names) last needs
+      ((behind_jump_last left v (next + labels_in s) out again ss completes e).before ++ exit_of w x) out again ss)
+      → Does w x outer most (can_complete_all (MoreStatements s ss)) held (held_behind_all hss w.data_offsets held (MoreStatements s ss))
+      (showing_all w hss names held needs (MoreStatements s ss)) needs (l.before ++ exit_of w x) out again (core.statements (MoreStatements s ss)))
+  followed_ends x ns oss hss names low held needs flags rest next out again s ss whole are around has ends zero none l one others one_ends others_end behind =
+      let last = held_behind hss w.data_offsets held s in
+      let u = surrounding w x oss hss names low held in
+      let v = surrounding w x oss hss (names_after s names) low last in
+      let left = drop (results_in s) flags in
+      let between = showing_all w hss (names_after s names) last needs ss in
+      let exit = w.exits x.function in
+      let first = statement_code flags u next out again s in
+      let second = statements_code left v (next + labels_in s) out again ss in
+      let jumps_first = statement_jumps_last flags u next out again s in
+      let jumps_second = statements_jump_last left v (next + labels_in s) out again ss in
+      let m = last_of_both exit (can_complete s) (ends_in_return s) (ends_in_return_all ss) ends first second jumps_first jumps_second in
+      subst (λ before. Does w x outer most (can_complete_all (MoreStatements s ss)) held (held_behind_all hss w.data_offsets held (MoreStatements s ss))
+      (showing_all w hss names held needs (MoreStatements s ss)) needs (before ++ exit_of w x) out again (core.statements (MoreStatements s ss)))
+      (same_before exit (first ++ (if can_complete s then second else [])) (first ++ (if can_complete s then second else [])) refl m l)
+      (sequence_ends w order x outer most (can_complete s) (can_complete_all ss) held last (held_behind_all hss w.data_offsets last ss)
+      (showing w hss names held (record needs { after = between }) s) between needs first second out again s ss (ends_in_return s) (ends_in_return_all ss) ends
+      jumps_first jumps_second one others one_ends others_end)
+  followed_ends x ns oss hss names low held needs flags rest next out again s ss whole are around has ends (suc h) some l one others one_ends others_end
+      behind =
+      let g = goes_straight hss held s ss h some in
+      let u = surrounding w x oss hss names low held in
+      let v = surrounding w x oss hss (names_after s names) low (held_behind hss w.data_offsets held s) in
+      let left = drop (results_in s) flags in
+      let exit = w.exits x.function in
+      let first = straight_code (flag_at flags 0) u (suc h) s in
+      let second = statements_behind left v (next + labels_in s) out again ss in
+      let completes : can_complete s ≡ true = ap can_complete g.first_is in
+      let next_completes : first_completes ss ≡ true = ap first_completes g.next_is in
+      let ends_behind : ends_in_return_all ss ≡ true = ap (λ c. if c then ends_in_return_all ss else ends_in_return s) (sym completes) ∙ ends in
+      let tail = behind_jump_last left v (next + labels_in s) out again ss next_completes ends_behind in
+      let lines = first ++ (if can_complete s then second else []) in
+      let m : JumpsLast exit lines = record {
+        before = first ++ tail.before;
+        are = ap (λ c. first ++ (if c then second else [])) completes ∙ ap (λ ls. first ++ ls) tail.are
+            ∙ sym (append_assoc first tail.before (Jump exit ∷ []));
+      } in
+      subst (λ before. Does w x outer most (can_complete_all (MoreStatements s ss)) held (held_behind_all hss w.data_offsets held (MoreStatements s ss))
+      (showing_all w hss names held needs (MoreStatements s ss)) needs (before ++ exit_of w x) out again (core.statements (MoreStatements s ss)))
+      (same_before exit lines lines refl m l)
+      (subst (λ ls. Does w x outer most (can_complete_all (MoreStatements s ss)) held (held_behind_all hss w.data_offsets held (MoreStatements s ss))
+      (showing_all w hss names held needs (MoreStatements s ss)) needs ls out again (core.statements (MoreStatements s ss)))
+      (sym (append_assoc first tail.before (exit_of w x)))
+      (straight_does w order x outer most ns oss hss low around.blocks around.inside around.are_homes names held needs flags rest (tail.before ++ exit_of w x)
+      out again whole s ss h g are has (behind next_completes ends_behind)))
+
   mutual
     statement_ends : (x : Waiting) (ns : List ℕ) (oss hss : List (List ℕ)) (names : List ℕ) (low : ℕ) (held : List Holding) (needs : Needs)
         (flags rest : List Bool) (next out again : ℕ) (s : Statement) → AreWhole x.fn.temporaries needs → flags ≡ saving w hss names held needs s ++ rest
@@ -151,10 +237,8 @@ module _ (w : World) (order : IsInOrder w) (outer : List Waiting) (small : DataS
         (saved_in w.data_offsets hss names held between needs.out needs.again s) are_first in
         let u = surrounding w x oss hss names low held in
         let v = surrounding w x oss hss behind low last in
-        sequence_ends w order x outer most (can_complete s) (can_complete_all ss) held last (held_behind_all hss w.data_offsets last ss)
-        (showing w hss names held needs_first s) between needs (statement_code flags u next out again s)
-        (statements_code flags_others v (next + labels_in s) out again ss) out again s ss (ends_in_return s) (ends_in_return_all ss) ends
-        (statement_jumps_last flags u next out again s) (statements_jump_last flags_others v (next + labels_in s) out again ss)
+        followed_ends x ns oss hss names low held needs flags rest next out again s ss whole are around has ends (home_behind hss held s ss) refl
+        (statements_jump_last flags u next out again (MoreStatements s ss) ends)
         (statement_does w order outer small bytes most calls x ns oss hss names low held needs_first flags (saved_others ++ rest) next out again s whole_first
         are_first around has.0 fine.0 b.0)
         (statements_do w order outer small bytes most calls x ns oss hss behind low last needs flags_others rest (next + labels_in s) out again ss whole
@@ -162,6 +246,34 @@ module _ (w : World) (order : IsInOrder w) (outer : List Waiting) (small : DataS
         (λ e. statement_ends x ns oss hss names low held needs_first flags (saved_others ++ rest) next out again s whole_first are_first around has.0 fine.0
         b.0 e)
         (λ e. statements_end x ns oss hss behind low last needs flags_others rest (next + labels_in s) out again ss whole are_others around has.1 fine.1 b.1 e)
+        (λ completes e. behind_end x ns oss hss behind low last needs flags_others rest (next + labels_in s) out again ss whole are_others around has.1 fine.1
+        b.1 completes e)
+
+    -- those behind the first of statements, which completes
+    behind_end : (x : Waiting) (ns : List ℕ) (oss hss : List (List ℕ)) (names : List ℕ) (low : ℕ) (held : List Holding) (needs : Needs)
+        (flags rest : List Bool) (next out again : ℕ) (ss : Statements) → AreWhole x.fn.temporaries needs
+        → flags ≡ saving_all w hss names held needs ss ++ rest
+        → IsAround w x ns oss hss low bytes → HaveLinesIn (scoped w x ns) ss → AreFine x.fn hss names ss → highest_of low (shrunk_of names ss) ≤ bytes
+        → (completes : first_completes ss ≡ true) (ends : ends_in_return_all ss ≡ true)
+        → BehindDo w order x outer most ns oss hss low names held needs
+        ((behind_jump_last flags (surrounding w x oss hss names low held) next out again ss completes ends).before ++ exit_of w x) out again ss
+    behind_end x ns oss hss names low held needs flags rest next out again NoStatements whole are around has fine below completes ends = tt
+    behind_end x ns oss hss names low held needs flags rest next out again (MoreStatements s ss) whole are around has fine below completes ends =
+        let behind = names_after s names in
+        let b = both_below (highest low (shrunk_in names s)) (highest_of low (shrunk_of behind ss)) bytes below in
+        let last = held_behind hss w.data_offsets held s in
+        let between = showing_all w hss behind last needs ss in
+        let saved = saving w hss names held (record needs { after = between }) s in
+        let saved_others = saving_all w hss behind last needs ss in
+        let left = drop (results_in s) flags in
+        let are_others : left ≡ saved_others ++ rest = flags_behind (results_in s) flags saved (saved_others ++ rest)
+        (saved_in w.data_offsets hss names held between needs.out needs.again s) (are ∙ append_assoc saved saved_others rest) in
+        let v = surrounding w x oss hss behind low last in
+        ended_if (w.exits x.function) (can_complete s) completes (ends_in_return s) (ends_in_return_all ss) ends
+        (statements_code left v (next + labels_in s) out again ss) (statements_jump_last left v (next + labels_in s) out again ss)
+        (λ before. Does w x outer most (can_complete_all ss) last (held_behind_all hss w.data_offsets last ss) between needs (before ++ exit_of w x) out again
+        (core.statements ss))
+        (λ e. statements_end x ns oss hss behind low last needs left rest (next + labels_in s) out again ss whole are_others around has.1 fine.1 b.1 e)
 
   -- what is so of lines, or of those before their last jump, is so of ended ones
   at_end : (D : List Line → Type 0) (to : ℕ) (lines : List Line) (returns : Bool) (last : returns ≡ true → JumpsLast to lines) → D lines

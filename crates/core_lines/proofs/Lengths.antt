@@ -9,7 +9,8 @@ use Rattle.core_meaning.specs.Core.{Statement, Do, If, While, Block, Leave, Brea
 use Rattle.core_meaning.specs.Core.{MoreStatements, Function, Program}
 use Rattle.core_lines.specs.declared.line.Line.TheVariants.{Plain, Label, Jump, JumpUnless, BranchUnless, CallTo}
 use Rattle.core_lines.specs.Lines.{code_length}
-use Rattle.core_lines.specs.Frames.{is_short, slot_of, load_code, save_code, environment_code, test_code, move_code, saves_code, epilogue_code, raise_code}
+use Rattle.core_lines.specs.Frames.{is_short, slot_of, load_code, save_code, environment_code, stack_start_code, frame_code, saves_code}
+use Rattle.core_lines.specs.Frames.{epilogue_code, raise_code}
 use Rattle.core_lines.specs.Held.{Source, Register, Number, Compared, Holding, source_of, without_register, result_register, held_behind, held_behind_all}
 use Rattle.core_lines.specs.Operands.{operand_in, operand_code, into_code, keep_code, pass_code, result_code, values_code, return_code}
 use Rattle.core_lines.specs.Operands.{test_in, ready_code, test_ready, take_code, prologue_code}
@@ -21,12 +22,14 @@ use Rattle.core_lines.specs.Homes.{saved_slot, saved_by, flag_at}
 use Rattle.core_lines.specs.Selected.{offsets_from, frame_bytes, datum_locals, Surroundings, labels_in, labels_of, names_after, names_after_all}
 use Rattle.core_lines.proofs.Returning.{statements_jump_last, ended_shorter}
 use Rattle.core_lines.specs.Selected.{naming, holding, within_block, statement_code, statements_code, around, labels_within, ended_code, function_code}
-use Rattle.core_lines.specs.Selected.{functions_code, program_code}
+use Rattle.core_lines.specs.Selected.{functions_code, program_code, statements_behind, home_behind}
+use Rattle.core_lines.specs.Straight.{straight_code}
 use Rattle.core_lines.proofs.memory.Access.{length_of_both}
 use Rattle.core_lines.proofs.homes.SavedFew.{ends_within}
 use Rattle.core_meaning.specs.Bounds.{branch_count, statement_operations, operations_of, all_operations, core_code}
 use Rattle.core_lines.proofs.OperationLengths.{IsWithin, both_within, less_within, if_within, nothing_within, load_within, save_within, operand_within}
-use Rattle.core_lines.proofs.OperationLengths.{test_within, into_within, keep_within, operation_within}
+use Rattle.core_lines.proofs.OperationLengths.{test_within, into_within, keep_within, operation_within, straight_within}
+use Rattle.core_lines.proofs.Straight.{first_either, later_either}
 
 -- ---- statements
 
@@ -133,6 +136,10 @@ branch_within : (flags : List Bool) (u : Surroundings) (next out again : ℕ) (s
 branch_within flags u next out again (MoreStatements (Raise kind) NoStatements) n h = record { is = omega arith }
 branch_within flags u next out again ss n h = less_within (64 * n) (12 + 64 * n) _ (omega arith) h
 
+statement_straight : (keeps : Bool) (u : Surroundings) (home : ℕ) (s : Statement) → IsWithin (64 * statement_operations s) (straight_code keeps u home s)
+statement_straight keeps u home (Do operation) = straight_within keeps u home operation
+statement_straight keeps u home s = nothing_within _
+
 mutual
   statement_within : (flags : List Bool) (u : Surroundings) (next out again : ℕ) (s : Statement)
       → IsWithin (64 * statement_operations s) (statement_code flags u next out again s)
@@ -190,10 +197,24 @@ mutual
   statements_within flags u next out again (MoreStatements s ss) =
       let left = drop (results_in s) flags in
       let v = holding (held_behind u.homes u.statics u.held s) (naming (names_after s u.names) u) in
+      let home = home_behind u.homes u.held s ss in
       less_within (64 * statement_operations s + 64 * operations_of ss) (64 * (statement_operations s + operations_of ss)) _ (omega arith)
-      (both_within (64 * statement_operations s) (64 * operations_of ss) _ _ (statement_within flags u next out again s)
-      (if_within (64 * operations_of ss) (can_complete s) _ [] (statements_within left v (next + labels_in s) out again ss)
+      (both_within (64 * statement_operations s) (64 * operations_of ss) _ _
+      (first_either (IsWithin (64 * statement_operations s)) home (flag_at flags 0) u s _ (statement_within flags u next out again s)
+      (statement_straight (flag_at flags 0) u home s))
+      (if_within (64 * operations_of ss) (can_complete s) _ []
+      (later_either (IsWithin (64 * operations_of ss)) home _ _ (statements_within left v (next + labels_in s) out again ss)
+      (others_within left v (next + labels_in s) out again ss))
       (nothing_within (64 * operations_of ss))))
+
+  others_within : (flags : List Bool) (u : Surroundings) (next out again : ℕ) (ss : Statements)
+      → IsWithin (64 * operations_of ss) (statements_behind flags u next out again ss)
+  others_within flags u next out again NoStatements = nothing_within 0
+  others_within flags u next out again (MoreStatements s ss) =
+      let v = holding (held_behind u.homes u.statics u.held s) (naming (names_after s u.names) u) in
+      less_within (64 * operations_of ss) (64 * (statement_operations s + operations_of ss)) _ (omega arith)
+      (if_within (64 * operations_of ss) (can_complete s) _ [] (statements_within (drop (results_in s) flags) v (next + labels_in s) out again ss)
+      (nothing_within (64 * operations_of ss)))
 
 -- ---- functions and programs
 
@@ -211,12 +232,10 @@ prologue_within : (bytes passed first : ℕ) (saved : List ℕ) (start : List Bo
     → IsWithin (52 + code_length (saves_code first saved) + 24 * parameters) (prologue_code bytes passed first saved start parameters)
 prologue_within bytes passed first saved start parameters =
     let s = code_length (saves_code first saved) in
-    both_within (52 + s) (24 * parameters) (test_code bytes ++ move_code bytes ++ save_code 1 0 ++ saves_code first saved)
-    (take_code bytes passed start 0 parameters)
-    (both_within 52 s (test_code bytes ++ move_code bytes ++ save_code 1 0) (saves_code first saved)
-    (both_within (28 + 12) 12 (test_code bytes ++ move_code bytes) (save_code 1 0)
-    (both_within 28 12 (test_code bytes) (move_code bytes) (record { is = omega arith })
-    (if_within 12 (nat_lt bytes 2048) _ _ (record { is = omega arith }) (record { is = omega arith })))
+    both_within (52 + s) (24 * parameters) (frame_code bytes ++ save_code 1 0 ++ saves_code first saved) (take_code bytes passed start 0 parameters)
+    (both_within 52 s (frame_code bytes ++ save_code 1 0) (saves_code first saved)
+    (both_within 40 12 (frame_code bytes) (save_code 1 0)
+    (if_within 40 (nat_lt bytes 2048) _ _ (record { is = omega arith }) (record { is = omega arith }))
     (save_within 1 0))
     (record { is = omega arith }))
     (take_within bytes passed start 0 parameters)
@@ -262,7 +281,7 @@ pub lines_within : (p : Program) (wide : ℕ → Bool) → code_length (program_
 lines_within p wide =
     let statics = offsets_from 0 (datum_locals p.data_objects) in
     let all = 64 * all_operations p.functions in
-    (less_within (12 + all) (core_code p) (program_code wide p) (omega arith)
-    (both_within 12 all ((CallTo p.main ∷ []) ++ environment_code 0) (functions_code wide statics 0 (length p.functions) p.functions)
+    (less_within (16 + all) (core_code p) (program_code wide p) (omega arith)
+    (both_within 16 all (stack_start_code ++ (CallTo p.main ∷ []) ++ environment_code 0) (functions_code wide statics 0 (length p.functions) p.functions)
     (record { is = omega arith })
     (functions_within wide statics 0 (length p.functions) p.functions))).is

@@ -4,6 +4,7 @@ pub mod homes
 pub mod frames
 pub mod Flags
 pub mod Completing
+pub mod Straight
 pub mod Ways
 pub mod Forms
 pub mod operations
@@ -17,6 +18,7 @@ pub mod EachFunction
 pub mod Offsets
 pub mod Shown
 pub mod Choices
+pub mod Pairs
 pub mod EachStatement
 pub mod Returning
 pub mod Endings

@@ -25,6 +25,7 @@ use Rattle.core_lines.specs.Selected.{Surroundings, nth, local_offset, local_hom
 use Rattle.core_lines.specs.Selected.{binary_code, turned, immediate_code, immediate_for, operand, has_operand, both_code, apply_code, keep_result}
 use Rattle.core_lines.specs.Selected.{computed_kept, applied_kept, address_code, get_code, byte_code, put_code}
 use Rattle.core_lines.specs.Selected.{number_in, narrow_kept, exponent_of, times_code, element_code, bytes_code, further_code, bytes_in, operation_code}
+use Rattle.core_lines.specs.Straight.{straight_operation}
 use Rattle.core_lines.proofs.memory.Access.{length_of_both}
 use Rattle.core_meaning.specs.Bounds.{operation_count}
 
@@ -259,6 +260,13 @@ applied_within : (keeps : Bool) (u : Surroundings) (o : Binary) (t x y : ℕ) (s
     → IsWithin 64 (applied_kept keeps u o t x y same compared)
 applied_within keeps u o t x y None compared = computed_within keeps u o t x y compared
 applied_within keeps u o t x y (Some z) compared = move_within keeps u.passed (result_register t) t z (source_of u.held z)
+
+-- one whose result goes straight into a home
+pub straight_within : (keeps : Bool) (u : Surroundings) (home : ℕ) (o : Operation) → IsWithin (64 * operation_count o) (straight_operation keeps u home o)
+straight_within keeps u home (Apply o t x y) =
+    less_within 44 64 _ (omega arith)
+    (both_within 32 12 (apply_code u o home x y) (keep_code keeps u.passed home t) (apply_within u o home x y) (keep_within keeps u.passed home t))
+straight_within keeps u home o = nothing_within _
 
 times_within : (exponent : Option ℕ) (left bytes : ℕ) → IsWithin 12 (times_code exponent left bytes)
 times_within None left bytes = both_within 8 4 (number_code 6 bytes) (Plain (instr.Mul 5 left 6) ∷ []) (number_within 6 bytes) (record { is = omega arith })

@@ -20,6 +20,7 @@ use Rattle.std.proofs.Common.{
   List,
   [],
   ◌∷◌,
+  ◌++◌,
   Option,
   Some,
   None,
@@ -38,6 +39,7 @@ use Rattle.core_lines.specs.declared.line.Line.{Line}
 use Rattle.core_lines.specs.declared.line.Line.TheVariants.{Plain, CallTo}
 use Rattle.core_lines.specs.Machines.{Machine}
 use Rattle.core_lines.specs.Lines.{code_length}
+use Rattle.core_lines.specs.Frames.{stack_start_code}
 use Rattle.core_lines.specs.Selected.{frame_bytes, too_many, slots_of, own_end, placed_body, datum_locals, function_code, functions_code, program_code, labels_within}
 use Rattle.core_meaning.specs.Selectable.{AreLayouts, HaveLayouts, IsSelectable}
 use Rattle.core_lines.specs.Running.{AreBounded, Begins, DoesAsCore, data_offsets, data_end}
@@ -91,7 +93,7 @@ world_of wide names bound n places p s = record {
   bound = bound;
   exits = exit_of (length p.functions) p.functions;
   wide = wide;
-  stub = 4;
+  stub = 8;
   data_offsets = data_offsets p.data_objects;
 }
 
@@ -184,7 +186,7 @@ module _ (p : Program) (wide : ℕ → Bool) (names : ℕ → List ℕ) (bound :
   }
 
   abbrev stub : List Line
-  stub = CallTo p.main ∷ Plain (Addi 17 0 (pos 0)) ∷ Plain Ecall ∷ []
+  stub = stack_start_code ++ CallTo p.main ∷ Plain (Addi 17 0 (pos 0)) ∷ Plain Ecall ∷ []
 
   abbrev behind_stub : List Line
   behind_stub = functions_code wide (data_offsets p.data_objects) 0 (length p.functions) p.functions
@@ -210,7 +212,7 @@ module _ (p : Program) (wide : ℕ → Bool) (names : ℕ → List ℕ) (bound :
   each : FunctionsDo w in_order → (number : ℕ) (f : Function) → slice_get p.functions number ≡ Some f → FunctionDoes w in_order number f
   each does number f is =
       let e : 0 + number ≡ number = omega arith in
-      does number f is (subst (λ k. IsAtCode w k f) e (code_of w p.functions 0 (length p.functions) 12 number f refl
+      does number f is (subst (λ k. IsAtCode w k f) e (code_of w p.functions 0 (length p.functions) 16 number f refl
       (λ j. let s : 0 + j ≡ j = omega arith in ap (λ q. exit_of (length p.functions) p.functions q) s)
       (other_lines n s.bytes places 0 stub behind_stub begins.has) is))
 

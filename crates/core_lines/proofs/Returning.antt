@@ -15,6 +15,10 @@ use Rattle.core_lines.specs.Operands.{values_code}
 use Rattle.core_lines.specs.Completing.{can_complete, ends_in_return, ends_in_return_all}
 use Rattle.core_lines.specs.Saved.{results_in}
 use Rattle.core_lines.specs.Selected.{Surroundings, labels_in, naming, holding, within_block, names_after, statement_code, statements_code, ended_code}
+use Rattle.core_lines.specs.Selected.{statements_behind, home_behind, first_code, later_code}
+use Rattle.core_lines.specs.Homes.{flag_at}
+use Rattle.core_lines.specs.Straight.{straight_code}
+use Rattle.core_lines.proofs.Straight.{goes_straight}
 use Rattle.core_lines.proofs.memory.Access.{length_of_both}
 use Rattle.core_lines.proofs.labels.NoLabels.{labels_placed-append}
 use Rattle.core_lines.proofs.labels.NoTargets.{targets_append}
@@ -30,6 +34,11 @@ without_last before line =
     ap (λ n. take n (before ++ last)) {y = length before} (let e = length-append before last in omega (arith, e))
     ∙ take-append-le (length before) before last (omega arith) ∙ take_all (length before) before (omega arith)
 
+-- which are before it is determined
+pub same_before : (exit : ℕ) (lines others : List Line) → lines ≡ others → (a : JumpsLast exit lines) (b : JumpsLast exit others) → a.before ≡ b.before
+same_before exit lines others same a b =
+    sym (without_last a.before (Jump exit)) ∙ ap (λ ls. ended_code true ls) (sym a.are ∙ same ∙ b.are) ∙ without_last b.before (Jump exit)
+
 -- where more lines come before them, or none behind them
 abbrev pub last_behind : (exit : ℕ) (first second : List Line) → JumpsLast exit second → JumpsLast exit (first ++ second)
 last_behind exit first second last =
@@ -38,10 +47,49 @@ last_behind exit first second last =
 abbrev pub last_alone : (exit : ℕ) (lines : List Line) → JumpsLast exit lines → JumpsLast exit (lines ++ [])
 last_alone exit lines last = record { before = last.before; are = append-nil lines ∙ last.are }
 
+abbrev pub last_then : (exit : ℕ) (completes : Bool) → completes ≡ true → (lines : List Line) → JumpsLast exit lines
+    → JumpsLast exit (if completes then lines else [])
+last_then exit true is lines last = last
+last_then exit false is lines last = absurd (false≢true is)
+
 abbrev pub last_of_both : (exit : ℕ) (completes one_ends other_ends : Bool) → (if completes then other_ends else one_ends) ≡ true → (first second : List Line)
     → (one_ends ≡ true → JumpsLast exit first) → (other_ends ≡ true → JumpsLast exit second) → JumpsLast exit (first ++ (if completes then second else []))
 last_of_both exit true one_ends other_ends ends first second one other = last_behind exit first second (other ends)
 last_of_both exit false one_ends other_ends ends first second one other = last_alone exit first (one ends)
+
+-- where the first of statements completes, the others are reached
+abbrev pub first_completes : Statements → Bool
+first_completes NoStatements = true
+first_completes (MoreStatements s ss) = can_complete s
+
+abbrev pub last_if : (exit : ℕ) (completes one_ends other_ends : Bool) → completes ≡ true → (if completes then other_ends else one_ends) ≡ true
+    → (lines : List Line) → (other_ends ≡ true → JumpsLast exit lines) → JumpsLast exit (if completes then lines else [])
+last_if exit true one_ends other_ends is ends lines last = last ends
+last_if exit false one_ends other_ends is ends lines last = absurd (false≢true is)
+
+-- a statement and those behind it, whether or not its result goes straight into the home of a local
+abbrev pub followed_jumps_last : (flags : List Bool) (u : Surroundings) (next out again : ℕ) (s : Statement) (ss : Statements) (home : ℕ)
+    → home_behind u.homes u.held s ss ≡ home → ends_in_return_all (MoreStatements s ss) ≡ true
+    → (let v = holding (held_behind u.homes u.statics u.held s) (naming (names_after s u.names) u) in
+    let left = drop (results_in s) flags in
+    (ends_in_return s ≡ true → JumpsLast u.exit (statement_code flags u next out again s))
+    → (ends_in_return_all ss ≡ true → JumpsLast u.exit (statements_code left v (next + labels_in s) out again ss))
+    → (first_completes ss ≡ true → ends_in_return_all ss ≡ true → JumpsLast u.exit (statements_behind left v (next + labels_in s) out again ss))
+    → JumpsLast u.exit (first_code home (flag_at flags 0) u s (statement_code flags u next out again s)
+    ++ (if can_complete s then later_code home (statements_code left v (next + labels_in s) out again ss)
+    (statements_behind left v (next + labels_in s) out again ss) else [])))
+followed_jumps_last flags u next out again s ss zero none ends one others behind =
+    last_of_both u.exit (can_complete s) (ends_in_return s) (ends_in_return_all ss) ends (statement_code flags u next out again s)
+    (statements_code (drop (results_in s) flags) (holding (held_behind u.homes u.statics u.held s) (naming (names_after s u.names) u)) (next + labels_in s)
+    out again ss) one others
+followed_jumps_last flags u next out again s ss (suc h) some ends one others behind =
+    let g = goes_straight u.homes u.held s ss h some in
+    let completes : can_complete s ≡ true = ap can_complete g.first_is in
+    let next_completes : first_completes ss ≡ true = ap first_completes g.next_is in
+    let ends_behind : ends_in_return_all ss ≡ true =
+    ap (λ c. if c then ends_in_return_all ss else ends_in_return s) (sym completes) ∙ ends in
+    last_behind u.exit (straight_code (flag_at flags 0) u (suc h) s) _
+    (last_then u.exit (can_complete s) completes _ (behind next_completes ends_behind))
 
 abbrev mutual
   pub statement_jumps_last : (flags : List Bool) (u : Surroundings) (next out again : ℕ) (s : Statement) → ends_in_return s ≡ true
@@ -62,9 +110,17 @@ abbrev mutual
   statements_jump_last flags u next out again NoStatements ends = absurd (false≢true ends)
   statements_jump_last flags u next out again (MoreStatements s ss) ends =
       let v = holding (held_behind u.homes u.statics u.held s) (naming (names_after s u.names) u) in
-      last_of_both u.exit (can_complete s) (ends_in_return s) (ends_in_return_all ss) ends (statement_code flags u next out again s)
+      followed_jumps_last flags u next out again s ss (home_behind u.homes u.held s ss) refl ends (statement_jumps_last flags u next out again s)
+      (statements_jump_last (drop (results_in s) flags) v (next + labels_in s) out again ss)
+      (behind_jump_last (drop (results_in s) flags) v (next + labels_in s) out again ss)
+
+  pub behind_jump_last : (flags : List Bool) (u : Surroundings) (next out again : ℕ) (ss : Statements) → first_completes ss ≡ true
+      → ends_in_return_all ss ≡ true → JumpsLast u.exit (statements_behind flags u next out again ss)
+  behind_jump_last flags u next out again NoStatements completes ends = absurd (false≢true ends)
+  behind_jump_last flags u next out again (MoreStatements s ss) completes ends =
+      let v = holding (held_behind u.homes u.statics u.held s) (naming (names_after s u.names) u) in
+      last_if u.exit (can_complete s) (ends_in_return s) (ends_in_return_all ss) completes ends
       (statements_code (drop (results_in s) flags) v (next + labels_in s) out again ss)
-      (statement_jumps_last flags u next out again s)
       (statements_jump_last (drop (results_in s) flags) v (next + labels_in s) out again ss)
 
 -- a block's `Return` is the last of what is reached; one within a choice isn't

@@ -55,18 +55,29 @@ kind_number ArrayBounds = 2
 abbrev pub raise_code : Kind → List Line
 raise_code kind = (Plain (Addi 10 0 (pos (kind_number kind))) ∷ []) ++ environment_code 3
 
--- the stack is refused where fewer bytes than the frame's are left of it
+-- x3 is the address where the stack begins: a program's first line puts it there, and no other line changes x3
+abbrev pub stack_start_code : List Line
+stack_start_code = Plain (Lui 3 (upper_of stack_base)) ∷ []
+
+-- A frame below 2,048 bytes is taken first, and then x2 is compared with the stack's start. It was there or above, which is far above 2,048, so x2 doesn't
+-- wrap. Where it is below the start now, the stack has fewer bytes left than the frame's: x2 goes up again, and the stack is refused.
+abbrev pub small_frame_code : ℕ → List Line
+small_frame_code bytes =
+    Plain (Addi 2 2 (pos 0 -ℤ pos bytes)) ∷ Plain (Bgeu 2 3 (pos 20)) ∷ Plain (Addi 2 2 (pos bytes)) ∷ Plain (Addi 10 0 (pos bytes)) ∷ environment_code 13
+
+-- A larger one might make x2 wrap. So the stack is refused first, where fewer bytes than the frame's are left of it; then x2 goes down.
 abbrev pub test_code : ℕ → List Line
 test_code bytes =
     word_code 6 (stack_base + bytes) ++ (Plain (Bgeu 2 6 (pos 20)) ∷ []) ++ word_code 10 bytes ++ environment_code 13
 
--- x2 goes down by a frame's bytes: by one instruction where ADDI has room for them and their negative
 abbrev pub move_code : ℕ → List Line
-move_code bytes =
-    (if nat_lt bytes 2048 then Plain (Addi 2 2 (pos 0 -ℤ pos bytes)) ∷ []
-    else word_code 7 bytes ++ (Plain (Sub 2 2 7) ∷ []))
+move_code bytes = word_code 7 bytes ++ (Plain (Sub 2 2 7) ∷ [])
 
--- and up again
+-- a frame is taken: ADDI has room for a small one's bytes, and for their negative
+abbrev pub frame_code : ℕ → List Line
+frame_code bytes = (if nat_lt bytes 2048 then small_frame_code bytes else test_code bytes ++ move_code bytes)
+
+-- and given back
 abbrev pub give_code : ℕ → List Line
 give_code bytes =
     (if nat_lt bytes 2048 then Plain (Addi 2 2 (pos bytes)) ∷ []

@@ -205,10 +205,11 @@ abbrev pub with_local : ℕ → ℕ → List Holding → List Holding
 with_local t zero hs = with_result t hs
 with_local t (suc h) hs = with_source t (Register (suc h)) hs
 
--- a local changes
-abbrev pub without_local : ℕ → List Holding → List Holding
-without_local zero hs = hs
-without_local (suc h) hs = without_register (suc h) hs
+-- A local gets the word of a temporary, which is then in the local's register, if it has one. Of a byte that isn't known: the register has less.
+abbrev pub with_put : Bool → (x home : ℕ) → List Holding → List Holding
+with_put byte x zero hs = hs
+with_put true x (suc h) hs = without_register (suc h) hs
+with_put false x (suc h) hs = with_source x (Register (suc h)) (without_register (suc h) hs)
 
 -- ---- behind operations
 
@@ -227,7 +228,7 @@ held_behind_operation homes statics hs (DataAddress t object) = with_source t (N
 held_behind_operation homes statics hs (Offset t p cells bytes) = with_result t hs
 held_behind_operation homes statics hs (Element t p i cells bytes) = with_result t hs
 held_behind_operation homes statics hs (Get t out local width) = with_local t (nth (nth_block homes out) local) hs
-held_behind_operation homes statics hs (Put out local width x) = without_local (nth (nth_block homes out) local) hs
+held_behind_operation homes statics hs (Put out local width x) = with_put (nat_eq width 1) x (nth (nth_block homes out) local) hs
 held_behind_operation homes statics hs (Load t p d) = with_result t hs
 held_behind_operation homes statics hs (Store p d x) = hs
 held_behind_operation homes statics hs (Copy to from layout) = []

@@ -31,9 +31,9 @@ is_home q = nat_eq q 8 || (nat_eq q 9 || (nat_le 18 q && nat_le q 27))
 abbrev pub home_registers : List ℕ
 home_registers = 8 ∷ 9 ∷ 18 ∷ 19 ∷ 20 ∷ 21 ∷ 22 ∷ 23 ∷ 24 ∷ 25 ∷ 26 ∷ 27 ∷ []
 
--- a register that only prologues, returns and stores to locals change: the stack pointer, and the homes
+-- a register that only first lines, returns and stores to locals change: the stack pointer, x3, where the stack's start is, and the homes
 abbrev pub stays : ℕ → Bool
-stays q = nat_eq q 2 || is_home q
+stays q = nat_eq q 2 || (nat_eq q 3 || is_home q)
 
 abbrev pub is_among : ℕ → List ℕ → Bool
 is_among q [] = false

@@ -12,6 +12,7 @@ pub mod Completing
 pub mod Loaded
 pub mod Saved
 pub mod Computed
+pub mod Straight
 pub mod Selected
 pub mod Machines
 pub mod Homes

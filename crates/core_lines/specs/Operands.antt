@@ -4,7 +4,7 @@ use Rattle.std.specs.Prelude.{ℕ, zero, suc, pos, ◌+◌, ◌/◌, ◌%◌, �
 use Rattle.rv32_isa.specs.declared.instruction.Instr.TheVariants.{Lui, Addi}
 use Rattle.core_lines.specs.declared.line.Line.{Line}
 use Rattle.core_lines.specs.declared.line.Line.TheVariants.{Plain, Jump, CallTo}
-use Rattle.core_lines.specs.Frames.{upper_of, lower_of, is_short, word_code, load_code, save_code, slot_of, test_code, move_code, saves_code}
+use Rattle.core_lines.specs.Frames.{upper_of, lower_of, is_short, word_code, load_code, save_code, slot_of, frame_code, saves_code}
 use Rattle.core_lines.specs.Homes.{flag_at}
 use Rattle.core_lines.specs.declared.comparison.Comparison.{Comparison}
 use Rattle.core_lines.specs.declared.comparison.Condition.TheVariants.{NotEqual}
@@ -135,4 +135,4 @@ take_code bytes passed start k (suc more) =
 
 abbrev pub prologue_code : ℕ → (passed : ℕ) → ℕ → List ℕ → List Bool → ℕ → List Line
 prologue_code bytes passed first saved start parameters =
-    test_code bytes ++ move_code bytes ++ save_code 1 0 ++ saves_code first saved ++ take_code bytes passed start 0 parameters
+    frame_code bytes ++ save_code 1 0 ++ saves_code first saved ++ take_code bytes passed start 0 parameters

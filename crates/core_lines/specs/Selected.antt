@@ -10,7 +10,7 @@ use Rattle.core_meaning.specs.Core.{Call, Return, Raise, Statements, NoStatement
 use Rattle.core_meaning.specs.Operations.{saturated}
 use Rattle.core_lines.specs.declared.line.Line.{Line}
 use Rattle.core_lines.specs.declared.line.Line.TheVariants.{Plain, Label, Jump, CallTo}
-use Rattle.core_lines.specs.Frames.{word_code, epilogue_code, environment_code, raise_code}
+use Rattle.core_lines.specs.Frames.{word_code, stack_start_code, epilogue_code, environment_code, raise_code}
 use Rattle.core_lines.specs.Loops.{are_words, copy_loop, clear_loop}
 use Rattle.core_lines.specs.Homes.{homes_in, saved_slot, saved_by, flag_at}
 pub use Rattle.core_lines.specs.Held.{nth, nth_block, Source, Register, Number, Compared, Holding, held_behind, held_behind_all, source_of, number_in}
@@ -20,6 +20,7 @@ use Rattle.core_lines.specs.Operands.{number_kept, move_kept, call_code, return_
 use Rattle.core_lines.specs.Choosing.{choice_code, between_code, behind_code}
 use Rattle.core_lines.specs.Checks.{check_of, checked_code}
 use Rattle.core_lines.specs.Completing.{can_complete, can_complete_all, ends_in_return_all}
+pub use Rattle.core_lines.specs.Straight.{home_behind, first_code, later_code}
 use Rattle.core_lines.specs.Saved.{results_in, results_all, taken_in, live_at_start, saves_at}
 pub use Rattle.core_lines.specs.LocalPlaces.{rounded, bytes_of, offsets_from, end_from, first_of, rest_of, shrink, shrunk, homes_here, homes_after, names_after}
 pub use Rattle.core_lines.specs.LocalPlaces.{names_after_all, shrunk_in, shrunk_of, placed_body, greater, highest, highest_of, slots_of, own_end, too_many}
@@ -132,6 +133,7 @@ holding held u = record u { held = held }
 -- check is a branch over what raises its exception. A loop: a label, its test, its body and a jump back; and a label behind it. What a `break` leaves
 -- without a loop: its statements, and a label behind them. What stands behind a statement that can't complete has no code.
 -- What is known of temporaries is known from one statement to the next, within a block, on both ways of a choice, and from the test of a loop to its choice.
+-- Where a result goes straight into the home of a local, the `Put` behind it has no code.
 abbrev mutual
   pub statement_code : (flags : List Bool) → Surroundings → (next out again : ℕ) → Statement → List Line
   statement_code flags u next out again (Do operation) = operation_code (flag_at flags 0) u operation
@@ -156,7 +158,18 @@ abbrev mutual
   pub statements_code : (flags : List Bool) → Surroundings → (next out again : ℕ) → Statements → List Line
   statements_code flags u next out again NoStatements = []
   statements_code flags u next out again (MoreStatements s ss) =
-      statement_code flags u next out again s ++ (if can_complete s then statements_code (drop (results_in s) flags)
+      let left = drop (results_in s) flags in
+      let later = holding (held_behind u.homes u.statics u.held s) (naming (names_after s u.names) u) in
+      let home = home_behind u.homes u.held s ss in
+      first_code home (flag_at flags 0) u s (statement_code flags u next out again s) ++
+      (if can_complete s then later_code home (statements_code left later (next + labels_in s) out again ss)
+      (statements_behind left later (next + labels_in s) out again ss) else [])
+
+  -- those behind the first of statements
+  pub statements_behind : (flags : List Bool) → Surroundings → (next out again : ℕ) → Statements → List Line
+  statements_behind flags u next out again NoStatements = []
+  statements_behind flags u next out again (MoreStatements s ss) =
+      (if can_complete s then statements_code (drop (results_in s) flags)
       (holding (held_behind u.homes u.statics u.held s) (naming (names_after s u.names) u)) (next + labels_in s) out again ss else [])
 
 -- ---- functions and programs
@@ -197,8 +210,8 @@ functions_code wide statics number next [] = []
 functions_code wide statics number next (f ∷ fs) =
     function_code wide statics number next f ++ functions_code wide statics (number + 1) (next + labels_within f) fs
 
--- `main` is called, and what it returns is the status of the exit; then come the functions
+-- The stack's start is put into x3. `main` is called, and what it returns is the status of the exit; then come the functions.
 abbrev pub program_code : (ℕ → Bool) → Program → List Line
 program_code wide p =
-    (CallTo p.main ∷ []) ++ environment_code 0 ++
+    stack_start_code ++ (CallTo p.main ∷ []) ++ environment_code 0 ++
     functions_code wide (offsets_from 0 (datum_locals p.data_objects)) 0 (length p.functions) p.functions

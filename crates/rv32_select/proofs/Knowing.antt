@@ -4,7 +4,7 @@ use Rattle.std.proofs.Common.{◌≡◌, ℕ, zero, suc, ◌+◌, ◌-◌, ◌<�
 use Rattle.std.proofs.lemmas.Bool.{ne_eqb}
 use Rattle.core_lines.specs.Held as lines
 use Rattle.core_lines.specs.Held.{source_of, some_source, is_in, without_register, without_temporary}
-use Rattle.core_lines.specs.Held.{with_moved, with_source, with_result, with_taken, with_local, without_local, is_zero, with_applied}
+use Rattle.core_lines.specs.Held.{with_moved, with_source, with_result, with_taken, with_local, with_put, is_zero, with_applied}
 use Rattle.core_lines.specs.Held.{number_in, with_narrowed, register_in, with_computed}
 use Rattle.core_lines.specs.declared.comparison.Comparison.{Comparison}
 use Rattle.rv32_select.specs.declared.held.Holding.{Holding}
@@ -39,13 +39,18 @@ module _ (hs : List lines.Holding) where
   local_with t zero after some e = absurd (omega (arith, some))
   local_with t (suc h) after some e = e
 
-  pub changed_without : (h : ℕ) → h ≡ 0 → hs ≡ without_local h hs
-  changed_without zero none = refl
-  changed_without (suc h) none = absurd (omega (arith, none))
+  pub put_without : (byte : Bool) (t h : ℕ) → h ≡ 0 → hs ≡ with_put byte t h hs
+  put_without byte t zero none = refl
+  put_without byte t (suc h) none = absurd (omega (arith, none))
 
-  pub changed_with : (h : ℕ) (after : List lines.Holding) → 0 < h → after ≡ without_register h hs → after ≡ without_local h hs
-  changed_with zero after some e = absurd (omega (arith, some))
-  changed_with (suc h) after some e = e
+  pub put_byte : (t h : ℕ) (after : List lines.Holding) → (h ≡ 0 → ⊥) → after ≡ without_register h hs → after ≡ with_put true t h hs
+  put_byte t zero after some e = absurd (some refl)
+  put_byte t (suc h) after some e = e
+
+  pub put_word : (t h : ℕ) (after : List lines.Holding) → (h ≡ 0 → ⊥) → after ≡ with_source t (lines.Register h) (without_register h hs)
+      → after ≡ with_put false t h hs
+  put_word t zero after some e = absurd (some refl)
+  put_word t (suc h) after some e = e
 
   -- by where another one's word is
   pub moved_none : (t x : ℕ) (after : List lines.Holding) → None ≡ source_of hs x → after ≡ with_result t hs → after ≡ with_moved t (source_of hs x) hs

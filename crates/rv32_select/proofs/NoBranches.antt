@@ -33,10 +33,12 @@ use Rattle.core_lines.specs.Completing.{can_complete, can_complete_all, ends_in_
 use Rattle.core_lines.specs.Saved.{results_in, results_all, live_at_start, saves_at}
 use Rattle.core_lines.specs.Selected.{Surroundings, operation_code, labels_in, labels_of, labels_within, holding, naming, names_after, names_after_all}
 use Rattle.core_lines.specs.Selected.{within_block, statement_code, statements_code, frame_bytes, around, ended_code, function_code, functions_code}
-use Rattle.core_lines.specs.Selected.{program_code}
+use Rattle.core_lines.specs.Selected.{program_code, statements_behind, home_behind, first_code, later_code}
+use Rattle.core_lines.specs.Straight.{straight_code}
 use Rattle.core_lines.specs.Selected.{offsets_from, datum_locals}
 use Rattle.core_lines.proofs.labels.NoTargets.{check_none, operation_none, test_none, between_none, behind_none, call_none, return_none}
-use Rattle.core_lines.proofs.labels.NoTargets.{prologue_none, epilogue_none}
+use Rattle.core_lines.proofs.labels.NoTargets.{prologue_none, epilogue_none, straight_none}
+use Rattle.core_lines.proofs.Straight.{first_either, later_either}
 use Rattle.core_lines.proofs.Returning.{statements_jump_last, ended}
 use Rattle.rv32_select.specs.Beginning.{are_long}
 
@@ -132,9 +134,25 @@ mutual
   codes_long flags u next out again (MoreStatements s ss) all =
       let left = drop (results_in s) flags in
       let later = holding (held_behind u.homes u.statics u.held s) (naming (names_after s u.names) u) in
-      let others = statements_code left later (next + labels_in s) out again ss in
-      both (statement_code flags u next out again s) (if can_complete s then others else []) (code_long flags u next out again s all)
-      (if_long (can_complete s) others (codes_long left later (next + labels_in s) out again ss all))
+      let home = home_behind u.homes u.held s ss in
+      let keeps = flag_at flags 0 in
+      let one = statement_code flags u next out again s in
+      let all_lines = statements_code left later (next + labels_in s) out again ss in
+      let others = statements_behind left later (next + labels_in s) out again ss in
+      both (first_code home keeps u s one) (if can_complete s then later_code home all_lines others else [])
+      (first_either (λ ls. are_long ls ≡ true) home keeps u s one (code_long flags u next out again s all)
+      (none_long (straight_code keeps u home s) (straight_none keeps u home s)))
+      (if_long (can_complete s) (later_code home all_lines others)
+      (later_either (λ ls. are_long ls ≡ true) home all_lines others (codes_long left later (next + labels_in s) out again ss all)
+      (behind_long left later (next + labels_in s) out again ss all)))
+
+  behind_long : (flags : List Bool) (u : Surroundings) (next out again : ℕ) (ss : Statements) → u.wide ≡ far
+      → are_long (statements_behind flags u next out again ss) ≡ true
+  behind_long flags u next out again NoStatements all = refl
+  behind_long flags u next out again (MoreStatements s ss) all =
+      let left = drop (results_in s) flags in
+      let later = holding (held_behind u.homes u.statics u.held s) (naming (names_after s u.names) u) in
+      if_long (can_complete s) (statements_code left later (next + labels_in s) out again ss) (codes_long left later (next + labels_in s) out again ss all)
 
 function_long : (statics : List ℕ) (number next : ℕ) (f : Function) → are_long (function_code far statics number next f) ≡ true
 function_long statics number next f =

@@ -1,8 +1,9 @@
 -- One statement more: its lines and labels, what it loads, and the place behind it.
-use Rattle.std.specs.Prelude.{◌&&◌, if◌then◌else◌, take, length}
-use Rattle.std.proofs.Common.{◌≡◌, ℕ, ◌+◌, Bool, true, false, List, [], ◌∷◌, ◌++◌, drop, sym, ap, ◌∙◌}
+use Rattle.std.specs.Prelude.{◌&&◌, not, nat_eq, if◌then◌else◌, take, length}
+use Rattle.std.proofs.Common.{◌≡◌, ℕ, zero, suc, ◌+◌, Bool, true, false, List, [], ◌∷◌, ◌++◌, drop, refl, sym, ap, ◌∙◌, arith}
 use Rattle.std.proofs.Math.Seq.{take-append_seam}
-use Rattle.std.proofs.lemmas.List.{append_assoc, drop-drop}
+use Rattle.std.proofs.lemmas.Bool.{ne_eqb}
+use Rattle.std.proofs.lemmas.List.{append_assoc, append-nil, drop-drop}
 use Rattle.core_meaning.specs.Core.{Statement, Statements, If, While, MoreStatements}
 use Rattle.core_lines.specs.declared.line.Line.{Line}
 use Rattle.core_lines.specs.Held.{held_behind, held_behind_all}
@@ -10,8 +11,32 @@ use Rattle.core_lines.specs.Completing.{can_complete}
 use Rattle.core_lines.specs.Loaded.{unknown_in, loads_in, loads_of}
 use Rattle.core_lines.specs.Saved.{all_flagged, results_in, results_all}
 use Rattle.core_lines.specs.Selected.{Surroundings, statement_code, statements_code, labels_in, names_after, names_after_all, holding, naming}
+use Rattle.core_lines.specs.Selected.{statements_behind, home_behind, first_code, later_code}
+use Rattle.core_lines.specs.Homes.{flag_at}
 use Rattle.rv32_select.specs.Starts.{Start, start_at, starts_of}
 use Rattle.rv32_select.proofs.Flagging.{flagged_both}
+
+-- the code of the statements that are left, where the first of them may put a word where it is already
+abbrev pub code_left : Bool → (flags : List Bool) → Surroundings → (next out again : ℕ) → Statements → List Line
+code_left placed flags u next out again ss =
+    (if placed then statements_behind flags u next out again ss else statements_code flags u next out again ss)
+
+is_some : (h : ℕ) → nat_eq (suc h) 0 ≡ false
+is_some h = ne_eqb (suc h) 0 (λ e. absurd (omega (arith, e)))
+
+left_is : (home : ℕ) (flags : List Bool) (u : Surroundings) (next out again : ℕ) (ss : Statements)
+    → code_left (not (nat_eq home 0)) flags u next out again ss
+    ≡ later_code home (statements_code flags u next out again ss) (statements_behind flags u next out again ss)
+left_is zero flags u next out again ss = refl
+left_is (suc h) flags u next out again ss = ap (λ none. code_left (not none) flags u next out again ss) (is_some h)
+
+-- what goes straight into a home, and else what the statement itself appends
+pub straight_first : (home : ℕ) (keeps : Bool) (u : Surroundings) (s : Statement) (old straight put new code : List Line)
+    → straight ≡ old ++ first_code home keeps u s [] → put ≡ straight ++ code → new ≡ (if nat_eq home 0 then put else take (length straight) put)
+    → new ≡ old ++ first_code home keeps u s code
+straight_first zero keeps u s old straight put new code e p n = n ∙ p ∙ ap (λ ls. ls ++ code) (e ∙ append-nil old)
+straight_first (suc h) keeps u s old straight put new code e p n =
+    n ∙ ap (λ none. if none then put else take (length straight) put) (is_some h) ∙ ap (take (length straight)) p ∙ take-append_seam straight code ∙ e
 
 -- the place at the start of statements, before one of them, and behind it
 module _ (start before behind : Surroundings) (s : Statement) (ss all : Statements)
@@ -68,21 +93,34 @@ module _ (start before behind : Surroundings) (s : Statement) (ss all : Statemen
   flags_left kept now k =
       ap (drop (results_all ss)) k ∙ drop-drop (results_all ss) (results_in s) kept ∙ ap (λ more. drop (results_all more) kept) (sym is)
 
-  -- what is appended is kept where it is reached
-  pub code_behind : (reached : Bool) (old put new : List Line) (kept now : List Bool) (next free out again : ℕ)
-      → put ≡ old ++ statement_code kept before next out again s → new ≡ (if reached then put else take (length old) put)
-      → now ≡ drop (results_in s) kept → free ≡ next + labels_in s
-      → new ++ (if reached && can_complete s then statements_code now behind free out again ss else [])
-      ≡ old ++ (if reached then statements_code kept before next out again all else [])
-  code_behind true old put new kept now next free out again e n k f =
+  -- what is appended is kept where it is reached, and doesn't put a word where it is already
+  pub code_behind : (reached placed : Bool) (home : ℕ) (old put new : List Line) (kept now : List Bool) (next free out again : ℕ)
+      → home ≡ (if placed then 0 else home_behind before.homes before.held s ss)
+      → put ≡ old ++ first_code home (flag_at kept 0) before s (statement_code kept before next out again s)
+      → new ≡ (if reached && not placed then put else take (length old) put) → now ≡ drop (results_in s) kept → free ≡ next + labels_in s
+      → new ++ (if reached && can_complete s then code_left (not (nat_eq home 0)) now behind free out again ss else [])
+      ≡ old ++ (if reached then code_left placed kept before next out again all else [])
+  code_behind true false home old put new kept now next free out again h e n k f =
       let later = holding (held_behind before.homes before.statics before.held s) (naming (names_after s before.names) before) in
-      let first = n ∙ e in
-      (λ i. first i ++ (if can_complete s then statements_code (k i) (step i) (f i) out again ss else [])) ∙
-      append_assoc old (statement_code kept before next out again s)
-      (if can_complete s then statements_code (drop (results_in s) kept) later (next + labels_in s) out again ss else []) ∙
+      let home_is = home_behind before.homes before.held s ss in
+      let left = drop (results_in s) kept in
+      let after = next + labels_in s in
+      let one = first_code home_is (flag_at kept 0) before s (statement_code kept before next out again s) in
+      (λ i. n i ++ (if can_complete s then code_left (not (nat_eq (h i) 0)) (k i) (step i) (f i) out again ss else [])) ∙
+      (λ i. e i ++ (if can_complete s then left_is home_is left later after out again ss i else [])) ∙
+      (λ i. (old ++ first_code (h i) (flag_at kept 0) before s (statement_code kept before next out again s))
+      ++ (if can_complete s then later_code home_is (statements_code left later after out again ss) (statements_behind left later after out again ss) else []))
+      ∙ append_assoc old one
+      (if can_complete s then later_code home_is (statements_code left later after out again ss) (statements_behind left later after out again ss) else []) ∙
       ap (λ more. old ++ statements_code kept before next out again more) (sym is)
-  code_behind false old put new kept now next free out again e n k f =
-      ap (λ ls. ls ++ []) (n ∙ ap (take (length old)) e ∙ take-append_seam old (statement_code kept before next out again s))
+  code_behind true true home old put new kept now next free out again h e n k f =
+      let lines = first_code home (flag_at kept 0) before s (statement_code kept before next out again s) in
+      (λ i. (n ∙ ap (take (length old)) e ∙ take-append_seam old lines) i
+      ++ (if can_complete s then code_left (not (nat_eq (h i) 0)) (k i) (step i) (f i) out again ss else [])) ∙
+      ap (λ more. old ++ statements_behind kept before next out again more) (sym is)
+  code_behind false placed home old put new kept now next free out again h e n k f =
+      ap (λ ls. ls ++ []) (n ∙ ap (take (length old)) e ∙
+      take-append_seam old (first_code home (flag_at kept 0) before s (statement_code kept before next out again s)))
 
 -- the place behind a choice: where its second statements begin, the same is known as where its first do
 module _ (u first second : Surroundings) (t : ℕ) (these those : Statements)

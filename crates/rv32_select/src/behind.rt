@@ -32,10 +32,9 @@ pub fn hold_behind(place: &mut Place, operation: Operation) -> Result<(), AllocE
             let (_, home) = place.local(variable);
             place.held.hold_local(to, home)
         }
-        Operation::Put(variable, _, _) => {
+        Operation::Put(variable, width, from) => {
             let (_, home) = place.local(variable);
-            place.held.forget_local(home);
-            Ok(())
+            place.held.hold_put(width, from, home)
         }
         Operation::Store(..) => Ok(()),
         Operation::Apply(binary, to, left, right) => {

@@ -2,7 +2,8 @@
 
 ghost use Rattle.std.specs.Prelude.{◌≡◌, ◌/◌, ◌+◌, ◌-◌, ◌%◌, ◌^◌, ◌*◌, ◌≤◌, ◌<◌, ◌++◌, IfOk, OnOk, map, ℕ, length};
 ghost use Rattle.cyc_core.specs.Trees.{body_tree, function_tree, program_tree};
-ghost use Rattle.core_lines.specs.Frames.{test_code, move_code, give_code, load_code, saves_code, restores_code, epilogue_code};
+ghost use Rattle.core_lines.specs.Frames.{stack_start_code, small_frame_code, test_code, move_code, frame_code, give_code};
+ghost use Rattle.core_lines.specs.Frames.{load_code, saves_code, restores_code, epilogue_code};
 ghost use Rattle.core_lines.specs.Operands.{keep_code, take_code, prologue_code};
 ghost use Rattle.core_lines.specs.Choosing.{far};
 ghost use Rattle.core_lines.specs.Promise.{AreLinesOf};
@@ -15,8 +16,8 @@ ghost use Rattle.rv32_select.specs.Places.{surroundings, saves_left, framed};
 
 use crate::completing::end_lines;
 use crate::emit::{
-    ADDRESS, SECOND, put, put_environment, put_lines, put_load, put_save, put_three, put_word,
-    word_instructions,
+    ADDRESS, SECOND, put, put_environment, put_lines, put_load, put_number, put_save, put_three,
+    put_word, word_instructions,
 };
 use crate::flags::flag_at;
 use crate::held::result_register;
@@ -61,6 +62,34 @@ fn frame_bytes(place: &Place, body: &[Statement]) -> Result<u64, AllocError>
     Ok(framed(highest_of(place.low, &place.homes, &mut named, body)?))
 }
 
+/// x3, which has the address where the stack begins, from a program's second instruction on.
+fn stack_start() -> Register
+    ensures { result ≡ 3 }
+{
+    Register::new(3)
+}
+
+/// Appends what puts that address there.
+fn put_stack_start(lines: &mut Vec<Line>) -> Result<(), AllocError>
+    ensures { OnOk result (lines.new.items ≡ lines.old.items ++ stack_start_code) }
+{
+    put_number(lines, stack_start(), STACK_BASE)
+}
+
+/// Appends the taking of a small frame, which is given back and refused where x2 comes below x3.
+fn put_small_frame(lines: &mut Vec<Line>, bytes: u64) -> Result<(), AllocError>
+    requires { bytes < 2048 }
+    ensures { OnOk result (lines.new.items ≡ lines.old.items ++ small_frame_code bytes) }
+{
+    let pointer = Register::STACK_POINTER;
+    let (down, up) = (Signed12::new(-(bytes as i32)), Signed12::new(bytes as i32));
+    let take = Instr::Addi(pointer, pointer, down);
+    let test = Instr::Bgeu(pointer, stack_start(), BranchOffset::new(20));
+    put_three(lines, take, test, Instr::Addi(pointer, pointer, up))?;
+    put(lines, Instr::Addi(Register::ARGUMENT_0, Register::ZERO, up))?;
+    put_environment(lines, STACK_REFUSED)
+}
+
 /// Appends the test that the stack has room for so many bytes, which is refused where it has not.
 fn put_stack_test(lines: &mut Vec<Line>, bytes: u64) -> Result<(), AllocError>
     ensures { OnOk result (lines.new.items ≡ lines.old.items ++ test_code bytes) }
@@ -73,17 +102,24 @@ fn put_stack_test(lines: &mut Vec<Line>, bytes: u64) -> Result<(), AllocError>
     put_environment(lines, STACK_REFUSED)
 }
 
-/// Appends the taking of the stack's next bytes for a frame.
+/// Appends the taking of the stack's next bytes for a large frame.
 fn put_stack_move(lines: &mut Vec<Line>, bytes: u64) -> Result<(), AllocError>
     ensures { OnOk result (lines.new.items ≡ lines.old.items ++ move_code bytes) }
 {
     let pointer = Register::STACK_POINTER;
+    let (first, second) = word_instructions(ADDRESS, bytes);
+    put_three(lines, first, second, Instr::Sub(pointer, pointer, ADDRESS))
+}
+
+/// Appends the taking of the stack's next bytes for a frame, which is refused where the stack has fewer.
+fn put_frame(lines: &mut Vec<Line>, bytes: u64) -> Result<(), AllocError>
+    ensures { OnOk result (lines.new.items ≡ lines.old.items ++ frame_code bytes) }
+{
     if bytes < SMALL {
-        let down = Signed12::new(-(bytes as i32));
-        put(lines, Instr::Addi(pointer, pointer, down))
+        put_small_frame(lines, bytes)
     } else {
-        let (first, second) = word_instructions(ADDRESS, bytes);
-        put_three(lines, first, second, Instr::Sub(pointer, pointer, ADDRESS))
+        put_stack_test(lines, bytes)?;
+        put_stack_move(lines, bytes)
     }
 }
 
@@ -163,7 +199,7 @@ fn put_restores(lines: &mut Vec<Line>, first: u64, saved: &[Register]) -> Result
     Ok(())
 }
 
-/// Appends what a function begins with: the test of the stack, its frame, its return address, the registers that it saves and its parameters.
+/// Appends what a function begins with: its frame, if the stack has room for it, its return address, the registers that it saves and its parameters.
 fn put_prologue(
     lines: &mut Vec<Line>,
     place: &Place,
@@ -175,8 +211,7 @@ fn put_prologue(
 ) -> Result<(), AllocError>
     ensures { OnOk result (lines.new.items ≡ lines.old.items ++ prologue_code bytes place.now.passed first saved.now live.now parameters) }
 {
-    put_stack_test(lines, bytes)?;
-    put_stack_move(lines, bytes)?;
+    put_frame(lines, bytes)?;
     put_save(lines, Register::RETURN_ADDRESS, 0)?;
     put_saves(lines, first, saved)?;
     put_parameters(lines, place, bytes, live, parameters)
@@ -275,6 +310,7 @@ fn program_lines(alloc: Global, program: &Program) -> Result<Vec<Line>, AllocErr
     ensures { IfOk result (λ lines. lines.items ≡ program_code far (program_tree program.now)) }
 {
     let mut lines = Vec::new(alloc);
+    put_stack_start(&mut lines)?;
     put_lines(&mut lines, &[Line::CallTo(program.main)])?;
     put_environment(&mut lines, EXIT)?;
     let mut place = Place::new(alloc, statics(alloc, &program.globals)?);

@@ -1,17 +1,17 @@
 // Where the words of temporaries are known to be besides their slots.
 
-ghost use Rattle.std.specs.Prelude.{◌≡◌, [], map, IfOk, OnOk, option_map};
+ghost use Rattle.std.specs.Prelude.{◌≡◌, [], map, nat_eq, IfOk, OnOk, option_map};
 ghost use Rattle.core_lines.specs.Held.{some_source, source_of, is_in, without_register, without_temporary, with_source};
 ghost use Rattle.core_lines.specs.Held.{Register as in_register};
-ghost use Rattle.core_lines.specs.Held.{result_register, with_result, with_taken, with_moved, with_local, without_local, with_results};
+ghost use Rattle.core_lines.specs.Held.{result_register, with_result, with_taken, with_moved, with_local, with_put, with_results};
 ghost use Rattle.core_lines.specs.Held.{number_in, with_narrowed, is_zero, same_as, with_applied};
 ghost use Rattle.core_lines.specs.Held.{register_in, compared_by, comparison_of, with_computed};
 ghost use Rattle.core_meaning.specs.Core.{Add};
-ghost use Rattle.cyc_core.specs.Trees.{binary_tree, optional_tree, temporary_tree};
+ghost use Rattle.cyc_core.specs.Trees.{binary_tree, bytes_of, optional_tree, temporary_tree};
 ghost use Rattle.rv32_select.specs.Known.{source_tree, holding_tree, keeper_tree};
 
 use core_lines::{Comparison, Condition};
-use cyc_core::{Binary, Temporary, Words};
+use cyc_core::{Binary, Temporary, Width, Words};
 use rv32_isa::Register;
 use std::alloc::{AllocError, Global};
 use std::marker::Model;
@@ -387,13 +387,23 @@ impl Known {
         }
     }
 
-    /// A local changes whose home this is, or x0.
-    #[tactic(auto, using(crate::proofs::Knowing::changed_without, crate::proofs::Knowing::changed_with))]
-    pub fn forget_local(&mut self, home: Register)
-        ensures { self.new ≡ without_local home self.old }
+    /// A local whose home this is, or x0, gets a temporary's word, or the lowest byte of it.
+    #[tactic(auto, using(crate::proofs::Knowing::put_without, crate::proofs::Knowing::put_byte, crate::proofs::Knowing::put_word))]
+    pub fn hold_put(
+        &mut self,
+        width: Width,
+        temporary: Temporary,
+        home: Register,
+    ) -> Result<(), AllocError>
+        ensures { OnOk result (self.new ≡ with_put (nat_eq (bytes_of width) 1) temporary.0 home self.old) }
     {
-        if home.number() != 0 {
-            self.forget_register(home);
+        if home.number() == 0 {
+            return Ok(());
+        }
+        self.forget_register(home);
+        match width {
+            Width::Byte => Ok(()),
+            Width::Word => self.hold(temporary, Source::Register(home)),
         }
     }
 

@@ -39,6 +39,7 @@ mod raising;
 mod results;
 mod settling;
 mod statement;
+mod straight;
 mod whole;
 mod words;
 

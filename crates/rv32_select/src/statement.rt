@@ -11,7 +11,7 @@ ghost use Rattle.core_lines.specs.Homes.{flag_at};
 ghost use Rattle.core_lines.specs.Operands.{call_code};
 ghost use Rattle.core_lines.specs.Saved.{results_of, results_in, results_all};
 ghost use Rattle.core_lines.specs.Selected.{operation_code, statement_code, statements_code, labels_in, labels_of, names_after, names_after_all};
-ghost use Rattle.core_lines.specs.Selected.{holding, naming};
+ghost use Rattle.core_lines.specs.Selected.{holding, naming, first_code};
 ghost use Rattle.rv32_select.specs.Places.{surroundings, saves_left};
 
 use crate::behind::hold_behind;
@@ -22,9 +22,11 @@ use crate::emit::{FIRST, put_lines};
 use crate::operands::put_test;
 use crate::operation::put_operation;
 use crate::place::Place;
+use crate::straight::{behind_first, home_behind, put_straight};
 use crate::whole::{put_clear, put_copy, put_region_alloc, put_unique_alloc};
 use core_lines::Line;
 use cyc_core::{Local, Operation, Statement, Temporary, Words};
+use rv32_isa::Register;
 use std::alloc::{AllocError, Global};
 
 /// How a statement can be left.
@@ -208,8 +210,33 @@ fn put_statement(
     Ok(next)
 }
 
-/// Appends the instructions of statements, one after the other, but for those behind one that can't complete: what these append is dropped. Answers
-/// the next free label.
+/// Appends the instructions of a statement whose result goes straight into a home, if it is none but x0: what the statement itself appends is dropped
+/// then. Answers the next free label.
+#[cycle(statement)]
+fn put_first(
+    lines: &mut Vec<Line>,
+    place: &mut Place,
+    next: usize,
+    ways: Ways,
+    home: Register,
+    statement: &Statement,
+) -> Result<usize, AllocError>
+    ensures code { let s = statement_tree statement.now in let u = surroundings place.old in OnOk result (lines.new.items ≡ lines.old.items
+        ++ first_code home (flag_at (saves_left place.old) 0) u s (statement_code (saves_left place.old) u next ways.out ways.again s)) }
+    ensures free { IfOk result (λ n. n ≡ next + labels_in (statement_tree statement.now)) }
+    ensures same { let u = surroundings place.old in let s = statement_tree statement.now in
+        OnOk result (surroundings place.new ≡ holding (held_behind u.homes u.statics u.held s) (naming (names_after s u.names) u)) }
+    ensures saves { OnOk result (saves_left place.new ≡ drop (results_in (statement_tree statement.now)) (saves_left place.old)) }
+{
+    put_straight(lines, place, home, statement)?;
+    let kept = lines.len();
+    let free = put_statement(lines, place, next, ways, statement)?;
+    keep_reached(lines, kept, home.number() == 0);
+    Ok(free)
+}
+
+/// Appends the instructions of statements, one after the other, but for those behind one that can't complete, and those that put a result into a home where
+/// it is already: what these append is dropped. Answers the next free label.
 #[cycle(statement)]
 pub fn put_statements(
     lines: &mut Vec<Line>,
@@ -227,11 +254,16 @@ pub fn put_statements(
 {
     let mut free = next;
     let mut reached = true;
+    let mut placed = false;
+    let mut behind = statements;
     'each: for statement in statements {
+        behind = behind_first(behind);
         let kept = lines.len();
-        free = put_statement(lines, place, free, ways, statement)?;
-        keep_reached(lines, kept, reached);
+        let home = home_behind(place, placed, statement, behind);
+        free = put_first(lines, place, free, ways, home, statement)?;
+        keep_reached(lines, kept, reached && !placed);
         reached = reached && can_complete(statement);
+        placed = home.number() != 0;
     }
     Ok(free)
 }

@@ -103,7 +103,7 @@ fn put_with(
 }
 
 /// Appends an operation on two temporaries, into a register.
-fn put_applied(
+pub fn put_applied(
     lines: &mut Vec<Line>,
     place: &Place,
     operation: Binary,

@@ -49,6 +49,7 @@ module _ (w : World) (order : IsInOrder w) (x : Waiting) (outer : List Waiting) 
           there = r.stands.there;
           aligned = r.stands.aligned;
           pointer = r.stands.pointer;
+          stack_start = r.stands.stack_start;
           small = r.stands.small;
           kept = r.stands.kept;
           stacked = stacked;

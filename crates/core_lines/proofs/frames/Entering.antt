@@ -1,5 +1,5 @@
 -- A function is entered: the frame is pushed, with the return address, the caller's registers that it changes and the parameters.
-use Rattle.std.specs.Prelude.{length, slice_get, if◌then◌else◌}
+use Rattle.std.specs.Prelude.{length, slice_get, nat_lt, if◌then◌else◌}
 use Rattle.std.proofs.Common.{◌≡◌, ℕ, zero, suc, ◌+◌, ◌-◌, ◌*◌, ◌/◌, ◌<◌, ◌≤◌, ◌⊎◌, inl, inr, ⊎_elim, Bool, true, false, List, [], ◌∷◌}
 use Rattle.std.proofs.Common.{◌++◌, ◌^◌, Some, None, refl, sym, ap, ◌∙◌, subst, arith, append_assoc, append-nil, length-append}
 use Rattle.std.proofs.lemmas.Bool.{ne_eqb, eq-eqb, cases_lt}
@@ -10,7 +10,7 @@ use Rattle.core_lines.specs.Machines.{Machine}
 use Rattle.rv32_machine.specs.State.{code_base, stack_base}
 use Rattle.core_lines.specs.declared.line.Line.{Line}
 use Rattle.core_lines.specs.Lines.{code_length}
-use Rattle.core_lines.specs.Frames.{save_code, test_code, move_code, saves_code}
+use Rattle.core_lines.specs.Frames.{save_code, frame_code, saves_code}
 use Rattle.core_lines.specs.Held.{Holding, with_taken}
 use Rattle.core_lines.specs.Operands.{take_code, prologue_code}
 use Rattle.core_lines.specs.Lies.{Maps, Activation, Laid}
@@ -27,8 +27,7 @@ use Rattle.core_lines.proofs.frames.Frames.{push_fits, push_stacked}
 use Rattle.core_lines.proofs.memory.Knowing.{known_called}
 use Rattle.core_lines.proofs.memory.Access.{length_of_both, behind, saves}
 use Rattle.core_lines.proofs.frames.Passing.{has_first, has_second}
-use Rattle.core_lines.proofs.frames.Pointer.{moved_some}
-use Rattle.core_lines.proofs.frames.Prologue.{stack_bound, stack_low, refused, moved}
+use Rattle.core_lines.proofs.frames.Prologue.{stack_bound, stack_low, refused, taken}
 use Rattle.core_lines.proofs.operations.Standing.{AtHolding, as_holding}
 use Rattle.rv32_machine.specs.Implements.{frames}
 pub use Rattle.core_lines.proofs.frames.Begun.{with_call, call_fits}
@@ -138,6 +137,7 @@ module _ (w : World) (order : IsInOrder w) (f : ℕ) (fn : Function) (is : slice
           there = a.stands.there;
           aligned = a.stands.aligned;
           pointer = a.stands.pointer;
+          stack_start = a.stands.stack_start;
           small = a.stands.small;
           kept = a.stands.kept;
           stacked = (laid_homed a.sp a.frame a.frame.homes fewer a.frame.callers a.stands.stacked.0, a.stands.stacked.1);
@@ -204,18 +204,17 @@ module _ (w : World) (order : IsInOrder w) (f : ℕ) (fn : Function) (is : slice
   abbrev behind_move : List Line
   behind_move = save_code 1 0 ++ (saving_lines ++ taking_lines)
 
-  apart : lines ≡ test_code size ++ (move_code size ++ behind_move)
+  apart : lines ≡ frame_code size ++ behind_move
   apart =
-      append_assoc (test_code size ++ move_code size ++ save_code 1 0) saving_lines taking_lines
-      ∙ append_assoc (test_code size ++ move_code size) (save_code 1 0) (saving_lines ++ taking_lines)
-      ∙ append_assoc (test_code size) (move_code size) behind_move
+      append_assoc (frame_code size ++ save_code 1 0) saving_lines taking_lines
+      ∙ append_assoc (frame_code size) (save_code 1 0) (saving_lines ++ taking_lines)
 
   -- where x2 has moved
   abbrev below : ℕ
-  below = entry + 28 + code_length (move_code size)
+  below = entry + code_length (frame_code size)
 
   abbrev moving : ℕ
-  moving = 3 + code_length (move_code size) / 4
+  moving = if nat_lt size 2048 then 2 else 6
 
   -- the frame is made: the return address is in it
   made : Has w entry lines → (s : Machine) (r : Calling w f outer mem arguments s) → stack_base + size ≤ r.sp
@@ -229,12 +228,10 @@ module _ (w : World) (order : IsInOrder w) (f : ℕ) (fn : Function) (is : slice
       let within = order.stack_within in
       let room = order.frames f fn is (omega (arith, fits, high, within)) in
       let parts = subst (Has w entry) apart has in
-      let has_test = has_first w entry (test_code size) (move_code size ++ behind_move) parts in
-      let after_test : Has w (entry + 28) (move_code size ++ behind_move) = has_second w entry (test_code size) (move_code size ++ behind_move) parts in
-      let has_move = has_first w (entry + 28) (move_code size) behind_move after_test in
+      let has_frame = has_first w entry (frame_code size) behind_move parts in
       let has_save : Has w below (save_code 1 0) =
-      has_first w below (save_code 1 0) (saving_lines ++ taking_lines) (has_second w (entry + 28) (move_code size) behind_move after_test) in
-      let g = moved w order f fn is outer mem s r.maps r.frames r.sp entry r.stands has_test fits high has_move in
+      has_first w below (save_code 1 0) (saving_lines ++ taking_lines) (has_second w entry (frame_code size) behind_move parts) in
+      let g = taken w order f fn is outer mem s r.maps r.frames r.sp entry r.stands ends.0 high fits has_frame in
       let low = r.sp - size in
       let s1 = state_at below g.new s.bytes s.store in
       let a : Activation = record {
@@ -263,8 +260,9 @@ module _ (w : World) (order : IsInOrder w) (f : ℕ) (fn : Function) (is : slice
       let stands : Stands w mem' below r.maps (a ∷ r.frames) low low s1 = record {
         runs = refl;
         there = refl;
-        aligned = behind (entry + 28) (move_code size) (let i = (order.labels f).aligned in omega (arith, i));
+        aligned = behind entry (frame_code size) (order.labels f).aligned;
         pointer = g.pointer;
+        stack_start = g.stack_start;
         small = r.stands.small;
         kept = r.stands.kept;
         stacked = push_stacked w.areas order.statics_within order.stack_within r.maps r.frames mem s.bytes s.store r.sp
@@ -331,10 +329,9 @@ module _ (w : World) (order : IsInOrder w) (f : ℕ) (fn : Function) (is : slice
   enters few has =
       let both = saving_lines ++ taking_lines in
       let parts = subst (Has w entry) apart has in
-      let after_test : Has w (entry + 28) (move_code size ++ behind_move) = has_second w entry (test_code size) (move_code size ++ behind_move) parts in
       let begin = below + code_length (save_code 1 0) in
       let has_both : Has w begin both =
-      has_second w below (save_code 1 0) both (has_second w (entry + 28) (move_code size) behind_move after_test) in
+      has_second w below (save_code 1 0) both (has_second w entry (frame_code size) behind_move parts) in
       let middle = begin + code_length saving_lines in
       let plain : saved_slot fn + 0 ≡ saved_slot fn = omega arith in
       let has_save = subst (λ k. Has w begin (saves_code k (saved_by fn))) (sym plain) (has_first w begin saving_lines taking_lines has_both) in
@@ -350,23 +347,24 @@ module _ (w : World) (order : IsInOrder w) (f : ℕ) (fn : Function) (is : slice
       omega (
         arith,
         ap code_length apart,
-        length_of_both (test_code size) (move_code size ++ behind_move),
-        length_of_both (move_code size) behind_move,
+        length_of_both (frame_code size) behind_move,
         length_of_both (save_code 1 0) both,
         length_of_both saving_lines taking_lines,
       ) in
-      let some = moved_some size in
       let count = moving + code_length (save_code 1 0) / 4 + all.count in (
         count,
         λ s r.
             let ends = stack_low w.areas order.stack_pages r.frames r.sp r.stands.stacked in
-            let has_test = has_first w entry (test_code size) (move_code size ++ behind_move) parts in
+            let has_frame = has_first w entry (frame_code size) behind_move parts in
             ⊎_elim
             (λ (short : r.sp < stack_base + size).
-            let x = refused w order f fn is outer mem s r.maps r.frames r.sp entry r.stands has_test short ends.0 ends.1 in
+            let x = refused w order f fn is outer mem s r.maps r.frames r.sp entry r.stands ends.0 ends.1 short has_frame in
             let bound = stack_bound w order r.maps outer r.frames r.sp r.stack r.stands.stacked in
             let mine = order.bounded f in
-            inr (record { count = 7; within = omega (arith, some); last = x.last; moves = x.moves; over = x.over }, omega (arith, bound, mine, short)))
+            inr (
+              record { count = x.count; within = omega (arith, x.within); last = x.last; moves = x.moves; over = x.over },
+              omega (arith, bound, mine, short),
+            ))
             (λ (fits : stack_base + size ≤ r.sp).
             let x = made has s r fits in
             let y = all.by x.next x.there in

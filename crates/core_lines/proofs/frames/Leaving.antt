@@ -66,7 +66,7 @@ use Rattle.core_lines.proofs.memory.Relations.{
 }
 use Rattle.core_lines.specs.Homes.{is_home, is_among, saved_by, saved_slot}
 use Rattle.core_meaning.specs.Selectable.{AreBelow}
-use Rattle.core_lines.proofs.homes.Homes.{other_home, value_no_home, homes_on}
+use Rattle.core_lines.proofs.homes.Homes.{other_home, no_home, value_no_home, homes_on}
 use Rattle.core_lines.proofs.homes.Saving.{AreHomeRegisters, saved_homes}
 use Rattle.core_lines.proofs.homes.Homed.{homed_fits, laid_homed}
 use Rattle.core_lines.proofs.memory.Moving.{Comes, comes_then, comes_as, and_then}
@@ -130,7 +130,8 @@ module _ (w : World) (order : IsInOrder w) (x : Waiting) (outer : List Waiting) 
               runs = refl;
               there = refl;
               aligned = behind place (load_code (suc r) k) a.stands.aligned;
-              pointer = l.kept 2 refl (other_two (suc r) home) ∙ a.stands.pointer;
+              pointer = l.kept 2 refl (no_home 2 (suc r) refl home) ∙ a.stands.pointer;
+              stack_start = l.kept 3 refl (no_home 3 (suc r) refl home) ∙ a.stands.stack_start;
               small = a.stands.small;
               kept = a.stands.kept;
               stacked = (laid_homed a.sp a.frame a.frame.homes fewer a.frame.callers laid, a.stands.stacked.1);
@@ -170,26 +171,12 @@ module _ (w : World) (order : IsInOrder w) (x : Waiting) (outer : List Waiting) 
             stack = a.stack;
             left = a.left.1;
             results = registers_kept a.maps 9 done l.new s.registers
-                (λ q more most. l.kept q (ne_eqb q 7 (λ e. omega (arith, e, more))) (not_value q (suc r) (omega (arith, more)) (omega (arith, most, few)) home))
+                (λ q more most. l.kept q (ne_eqb q 7 (λ e. omega (arith, e, more))) (no_home q (suc r) (value_no_home q (omega (arith, more)) (omega (arith, most, few))) home))
                 a.results;
           };
         };
   }
     where
-      other_two : (q : ℕ) → is_home q ≡ true → nat_eq 2 q ≡ false
-      other_two q is = by (nat_eq 2 q) refl
-        where
-          by : (c : Bool) → nat_eq 2 q ≡ c → nat_eq 2 q ≡ false
-          by true e = absurd (cc (is, ap is_home (sym (eqb-true 2 q e))))
-          by false e = e
-
-      not_value : (q r : ℕ) → 10 ≤ q → q ≤ 17 → is_home r ≡ true → nat_eq q r ≡ false
-      not_value q r low high is = by (nat_eq q r) refl
-        where
-          by : (c : Bool) → nat_eq q r ≡ c → nat_eq q r ≡ false
-          by true e = absurd (cc (is, value_no_home q low high, ap is_home (eqb-true q r e)))
-          by false e = e
-
       or_false : (a b : Bool) → a ≡ false → b ≡ false → (a || b) ≡ false
       or_false true b e e' = e
       or_false false b e e' = e'
@@ -274,6 +261,7 @@ module _ (w : World) (order : IsInOrder w) (x : Waiting) (outer : List Waiting) 
                   there = refl;
                   aligned = even;
                   pointer = g.holds;
+                  stack_start = g.kept 3 refl refl ∙ l.kept 3 refl refl ∙ a.stands.stack_start;
                   small = a.stands.small;
                   kept = a.stands.kept;
                   stacked = a.stands.stacked;
@@ -312,6 +300,7 @@ module _ (w : World) (order : IsInOrder w) (x : Waiting) (outer : List Waiting) 
           there = a.stands.there;
           aligned = a.stands.aligned;
           pointer = a.stands.pointer;
+          stack_start = a.stands.stack_start;
           small = a.stands.small;
           kept = a.stands.kept;
           stacked = (laid_homed a.sp a.frame none a.frame.saves a.frame.callers a.stands.stacked.0, a.stands.stacked.1);

@@ -19,15 +19,6 @@ use Rattle.core_lines.proofs.memory.Moving.{and_then, bare}
 use Rattle.core_lines.proofs.memory.Slots.{Puts, set_here, set_there, puts_word}
 use Rattle.core_lines.proofs.Steps.{state_at, IsKeptBelow, gives_value}
 
--- a move takes one instruction at least
-pub moved_some : (bytes : ℕ) → 4 ≤ code_length (move_code bytes)
-moved_some bytes = by (nat_lt bytes 2048)
-  where
-    by : (small : Bool)
-        → 4 ≤ code_length (if small then Plain (Addi 2 2 (pos 0 -ℤ pos bytes)) ∷ [] else word_code 7 bytes ++ (Plain (Sub 2 2 7) ∷ []))
-    by true = omega arith
-    by false = omega arith
-
 module _ (w : World) (order : IsInOrder w) (place : ℕ) (registers bytes : ℕ → ℕ) (st : Store) (below : IsKeptBelow w.code bytes) (size sp : ℕ)
     (few : size ≤ 2 ^ 25) (pointer : registers 2 ≡ sp) (near : sp + size < 2 ^ 31) where
   -- by an instruction that adds the frame's bytes or their negative
@@ -67,22 +58,21 @@ module _ (w : World) (order : IsInOrder w) (place : ℕ) (registers bytes : ℕ 
         kept = λ q not7 other. set_there 2 new q p.new other ∙ p.kept q not7 not7;
       }
 
-  -- down
-  pub moves_down : (low : ℕ) → low + size ≡ sp → Has w place (move_code size)
-      → Puts w place (place + code_length (move_code size)) (code_length (move_code size) / 4) 2 low registers bytes st
-  moves_down low is has = by (nat_lt size 2048) has
-    where
-      by : (small : Bool)
-          → Has w place (if small then Plain (Addi 2 2 (pos 0 -ℤ pos size)) ∷ [] else word_code 7 size ++ (Plain (Sub 2 2 7) ∷ []))
-          → Puts w place (place + code_length (if small then Plain (Addi 2 2 (pos 0 -ℤ pos size)) ∷ [] else word_code 7 size ++ (Plain (Sub 2 2 7) ∷ [])))
-          (code_length (if small then Plain (Addi 2 2 (pos 0 -ℤ pos size)) ∷ [] else word_code 7 size ++ (Plain (Sub 2 2 7) ∷ [])) / 4) 2 low registers bytes st
-      by true has =
-          let joined : sum_of (low + size) (word (pos 0 -ℤ pos size)) ≡ low =
-          offset_joined low 0 size (omega (arith, is, near)) (omega (arith, is, near)) ∙ add-zero low in
-          moves_near (pos 0 -ℤ pos size) low (ap (λ k. sum_of k (word (pos 0 -ℤ pos size))) (pointer ∙ sym is) ∙ joined) has
-      by false has = moves_far (Sub 2 2 7) difference_of low (λ answer s. refl) (λ r. tt) (omega (arith, is, near)) has
+  -- down, by a small frame or a large one
+  pub moves_down_near : (low : ℕ) → low + size ≡ sp → Has w place (Plain (Addi 2 2 (pos 0 -ℤ pos size)) ∷ [])
+      → Puts w place (place + 4) 1 2 low registers bytes st
+  moves_down_near low is has =
+      let joined : sum_of (low + size) (word (pos 0 -ℤ pos size)) ≡ low =
+      offset_joined low 0 size (omega (arith, is, near)) (omega (arith, is, near)) ∙ add-zero low in
+      moves_near (pos 0 -ℤ pos size) low (ap (λ k. sum_of k (word (pos 0 -ℤ pos size))) (pointer ∙ sym is) ∙ joined) has
+
+  pub moves_down_far : (low : ℕ) → low + size ≡ sp → Has w place (move_code size) → Puts w place (place + 12) 3 2 low registers bytes st
+  moves_down_far low is has = moves_far (Sub 2 2 7) difference_of low (λ answer s. refl) (λ r. tt) (omega (arith, is, near)) has
 
   -- and up
+  pub moves_up_near : Has w place (Plain (Addi 2 2 (pos size)) ∷ []) → Puts w place (place + 4) 1 2 (sp + size) registers bytes st
+  moves_up_near has = moves_near (pos size) (sp + size) (omega (arith, pointer, near)) has
+
   pub moves_up : Has w place (give_code size)
       → Puts w place (place + code_length (give_code size)) (code_length (give_code size) / 4) 2 (sp + size) registers bytes st
   moves_up has = by (nat_lt size 2048) has
@@ -90,5 +80,5 @@ module _ (w : World) (order : IsInOrder w) (place : ℕ) (registers bytes : ℕ 
       by : (small : Bool) → Has w place (if small then Plain (Addi 2 2 (pos size)) ∷ [] else word_code 7 size ++ (Plain (Add 2 2 7) ∷ []))
           → Puts w place (place + code_length (if small then Plain (Addi 2 2 (pos size)) ∷ [] else word_code 7 size ++ (Plain (Add 2 2 7) ∷ [])))
           (code_length (if small then Plain (Addi 2 2 (pos size)) ∷ [] else word_code 7 size ++ (Plain (Add 2 2 7) ∷ [])) / 4) 2 (sp + size) registers bytes st
-      by true has = moves_near (pos size) (sp + size) (omega (arith, pointer, near)) has
+      by true has = moves_up_near has
       by false has = moves_far (Add 2 2 7) sum_of (sp + size) (λ answer s. refl) (λ r. tt) (omega (arith, near)) has

@@ -1,53 +1,28 @@
--- A function's first lines: the stack is refused where the frame doesn't fit, or the frame is made, with the return address and the parameters in it.
+-- A function's first lines: the stack is refused where the frame doesn't fit, or x2 goes down by it.
 use Rattle.std.specs.Prelude.{slice_get, if◌then◌else◌}
-use Rattle.std.proofs.Common.{
-  ◌≡◌,
-  ℕ,
-  pos,
-  ◌+◌,
-  ◌-◌,
-  ◌/◌,
-  ◌%◌,
-  ◌^◌,
-  ◌<◌,
-  ◌≤◌,
-  true,
-  false,
-  not,
-  nat_lt,
-  nat_le,
-  List,
-  [],
-  ◌∷◌,
-  Some,
-  refl,
-  sym,
-  ap,
-  ◌∙◌,
-  subst,
-  arith,
-}
-use Rattle.std.proofs.lemmas.Bool.{le-leb, lt-ltb, le-ltb, and_from}
-use Rattle.cyc_words.specs.Words.{sum_of}
+use Rattle.std.proofs.Common.{◌≡◌, ℕ, pos, ◌+◌, ◌-◌, ◌%◌, ◌^◌, ◌<◌, ◌≤◌, true, false, not, nat_lt, nat_le, Bool, List, [], ◌∷◌, ◌++◌, Some, refl, sym, ap, ◌∙◌, subst, arith}
+use Rattle.std.proofs.lemmas.Bool.{le-leb, lt-ltb, le-ltb, ltb-true, and_from}
+use Rattle.cyc_words.specs.Words.{word, sum_of}
 use Rattle.rv32_isa.specs.declared.instruction.Instr.TheVariants.{Bgeu, Addi, Ecall}
 use Rattle.core_meaning.specs.Memory.{Memory}
 use Rattle.core_meaning.specs.Core.{Function}
-use Rattle.core_lines.specs.Machines.{Machine}
+use Rattle.core_lines.specs.Machines.{Machine, Store}
 use Rattle.rv32_machine.specs.State.{Areas, Stop, Over, code_base, stack_base, stack_end, set_register}
 use Rattle.cyc_words.specs.declared.faults.MachineFault.TheVariants.{BadCall}
 use Rattle.rv32_machine.specs.Step.{branches, stop, fault}
 use Rattle.core_lines.specs.declared.line.Line.TheVariants.{Plain}
 use Rattle.core_lines.specs.Lines.{code_length}
-use Rattle.core_lines.specs.Frames.{word_code, test_code, move_code}
+use Rattle.core_lines.specs.Frames.{word_code, environment_code, small_frame_code, test_code, move_code, frame_code}
 use Rattle.core_lines.specs.Lies.{Maps, Activation, Stacked}
 use Rattle.core_lines.proofs.memory.Relations.{Moves, World, IsInOrder, Has, Waiting, StackShows, Stands, active_of}
 use Rattle.core_lines.proofs.memory.Moving.{and_then, by_stop}
-use Rattle.core_lines.proofs.Steps.{state_at, goes_to, passes, gives_value, step_is, is_lawful, is_in_code}
+use Rattle.core_lines.proofs.Steps.{state_at, IsKeptBelow, goes_to, passes, gives_value, step_is, is_lawful, is_in_code}
 use Rattle.core_lines.proofs.homes.Homes.{SameHomes, other_home}
 use Rattle.core_lines.proofs.memory.Slots.{Puts, puts_word}
-use Rattle.core_lines.proofs.frames.Pointer.{moves_down}
+use Rattle.core_lines.proofs.frames.Pointer.{moves_down_near, moves_down_far, moves_up_near}
 use Rattle.core_lines.proofs.memory.Fitting.{below_end}
 use Rattle.core_lines.proofs.memory.Access.{written_out}
+use Rattle.core_lines.proofs.frames.Passing.{has_second}
 use Rattle.rv32_machine.specs.Implements.{frames}
 use Rattle.rv32_machine.specs.Step.{refuses_frame, has_stack}
 use Rattle.core_lines.specs.Machines.{state_of}
@@ -76,112 +51,218 @@ module _ (w : World) (order : IsInOrder w) (f : ℕ) (fn : Function) (is : slice
   abbrev size : ℕ
   size = w.frame_bytes f
 
-  -- ---- the test
+  small : size ≤ 2 ^ 25
+  small = order.not_too_large f
 
-  module _ (s : Machine) (m : Maps) (fs : List Activation) (sp : ℕ) (place : ℕ) (stands : Stands w mem place m fs sp sp s)
-      (has : Has w place (test_code size)) where
-    small : size ≤ 2 ^ 25
-    small = order.not_too_large f
+  -- ---- the refusal
 
-    abbrev first : Puts w place (place + 8) 2 6 (stack_base + size) s.registers s.bytes s.store
-    first = puts_word w order place s.registers s.bytes s.store stands.kept 5 (stack_base + size) (omega (arith, small)) (has.0, tt, (has.2.0, tt, tt))
+  -- by these two lines the environment is told that the stack is too short, and it agrees
+  refuses : (place : ℕ) (registers bytes : ℕ → ℕ) (st : Store) → IsKeptBelow w.code bytes → (sp : ℕ) → registers 2 ≡ sp → registers 10 ≡ size
+      → sp < stack_base + size → stack_base ≤ sp → sp ≤ stack_end w.areas → Has w place (environment_code 13)
+      → Moves w.areas 2 (state_at place registers bytes st)
+      (record (state_at (place + 4) (set_register 17 13 registers) bytes st) { mode = Over (Stop.Exhausted) })
+  refuses place registers bytes st kept sp pointer argument short low high has =
+      let s1 = state_at place registers bytes st in
+      let new = set_register 17 13 registers in
+      let s2 = state_at (place + 4) new bytes st in
+      let m1 : Moves w.areas 1 s1 s2 =
+      gives_value w.areas w.code order.code_within st place registers bytes kept (Addi 17 0 (pos 13)) has.0.0 17 13 (λ answer. refl) tt in
+      let l1 : nat_le stack_base (new 2) ≡ true = le-leb stack_base (new 2) (omega (arith, pointer, low)) in
+      let l2 : nat_le (new 2) (stack_base + w.areas.stack) ≡ true = le-leb (new 2) (stack_base + w.areas.stack) (omega (arith, pointer, high)) in
+      let l3 : nat_lt (new 2 - stack_base) (new 10) ≡ true = lt-ltb (new 2 - stack_base) (new 10) (omega (arith, pointer, argument, short, low)) in
+      let why = Stop.Exhausted in
+      let t = state_of s2 in
+      let found : refuses_frame w.areas (new 10) t ≡ stop why t =
+      ap (λ c. if c then stop why t else fault BadCall t) (and_from (has_stack w.areas t) _ (and_from (nat_le stack_base (new 2)) _ l1 l2) l3) in
+      let last = record s2 { mode = Over why } in
+      let m2 : Moves w.areas 1 s2 last =
+      by_stop w.areas s2 last refl why
+      (λ answer. step_is w.areas w.code order.code_within st (place + 4) new bytes kept Ecall has.2.0.0 answer ∙ found)
+      (is_lawful w.areas w.code order.code_within st (place + 4) new bytes kept Ecall has.2.0.0 tt) in
+      and_then w.areas s1 s2 last 1 1 m1 m2
 
-    abbrev s1 : Machine
-    s1 = state_at (place + 8) first.new s.bytes s.store
+  -- ---- the lines of a frame
 
-    two : first.new 2 ≡ sp
-    two = first.kept 2 refl refl ∙ stands.pointer
+  module _ (s : Machine) (m : Maps) (fs : List Activation) (sp : ℕ) (place : ℕ) (stands : Stands w mem place m fs sp sp s) (low : stack_base ≤ sp)
+      (high : sp ≤ stack_end w.areas) where
+    here : s ≡ state_at place s.registers s.bytes s.store
+    here = written_out w order mem place m fs sp s stands
 
-    taken : stack_base + size ≤ sp → Moves w.areas 3 s (state_at (place + 28) first.new s.bytes s.store)
-    taken fits =
-        let e : place + 4 + 4 ≡ place + 8 = omega arith in
-        let instr = subst (λ p. Has w p (Plain (Bgeu 2 6 (pos 20)) ∷ [])) e (has.2.2.0, tt, tt) in
-        let near = is_in_code w.areas w.code order.code_within s.store (place + 8) (Bgeu 2 6 (pos 20)) instr.0.0 in
-        let enough : nat_lt (first.new 2) (first.new 6) ≡ false =
-        le-ltb (first.new 2) (first.new 6) (let a = two in let b = first.holds in omega (arith, a, b, fits)) in
-        let aligned = stands.aligned in
-        let there : place + 28 ≡ place + 28 = refl in
-        subst (λ (t : Machine). Moves w.areas 3 t (state_at (place + 28) first.new s.bytes s.store)) (sym (written_out w order mem place m fs sp s stands))
-        (and_then w.areas _ s1 _ 2 1 first.moves
-        (goes_to w.areas w.code order.code_within s.store (place + 8) first.new s.bytes stands.kept (Bgeu 2 6 (pos 20)) instr.0.0 0
-        (sum_of (code_base + (place + 8)) 20) (place + 28) (omega (arith, near)) (omega (arith, aligned))
-        (λ answer. ap (λ b. branches (not b) (pos 20) (state_of s1)) enough) tt))
-
-    -- where the frame doesn't fit, the environment is told so, and it agrees
-    pub record IsRefused : Type 0 where
+    -- where the frame doesn't fit, the run is over by no more steps than these
+    pub record IsRefused (most : ℕ) : Type 0 where
+      pub count : ℕ
+      pub within : count ≤ most
       pub last : Machine
-      pub moves : Moves w.areas 7 s last
+      pub moves : Moves w.areas count s last
       pub over : last.mode ≡ Over (Stop.Exhausted)
 
-    pub refused : sp < stack_base + size → stack_base ≤ sp → sp ≤ stack_end w.areas → IsRefused
-    refused short low high =
-        let e : place + 4 + 4 ≡ place + 8 = omega arith in
-        let e2 : place + 4 + 4 + 4 ≡ place + 12 = omega arith in
-        let e3 : place + 4 + 4 + 4 + 4 + 4 ≡ place + 12 + 8 = omega arith in
-        let e4 : place + 4 + 4 + 4 + 4 + 4 + 4 ≡ place + 12 + 8 + 4 = omega arith in
-        let branch = subst (λ p. Has w p (Plain (Bgeu 2 6 (pos 20)) ∷ [])) e (has.2.2.0, tt, tt) in
-        let less : nat_lt (first.new 2) (first.new 6) ≡ true =
-        lt-ltb (first.new 2) (first.new 6) (let a = two in let b = first.holds in omega (arith, a, b, short)) in
-        let f12 : place + 8 + 4 ≡ place + 12 = omega arith in
-        let s2 = state_at (place + 12) first.new s.bytes s.store in
-        let m2 : Moves w.areas 1 s1 s2 =
-        subst (λ p. Moves w.areas 1 s1 (state_at p first.new s.bytes s.store)) f12
-        (passes w.areas w.code order.code_within s.store (place + 8) first.new s.bytes stands.kept (Bgeu 2 6 (pos 20)) branch.0.0
-        (λ answer. ap (λ b. branches (not b) (pos 20) (state_of s1)) less) tt) in
-        let third = puts_word w order (place + 12) first.new s.bytes s.store stands.kept 9 size (omega (arith, small))
-        (subst (λ p. Has w p (word_code 10 size)) e2 (has.2.2.2.0, tt, (has.2.2.2.2.0, tt, tt))) in
-        let s3 = state_at (place + 12 + 8) third.new s.bytes s.store in
-        let number = subst (λ p. Has w p (Plain (Addi 17 0 (pos 13)) ∷ [])) e3 (has.2.2.2.2.2.0, tt, tt) in
-        let call = subst (λ p. Has w p (Plain Ecall ∷ [])) e4 (has.2.2.2.2.2.2.0, tt, tt) in
-        let four = set_register 17 13 third.new in
-        let s4 = state_at (place + 12 + 8 + 4) four s.bytes s.store in
-        let m4 : Moves w.areas 1 s3 s4 =
-        gives_value w.areas w.code order.code_within s.store (place + 12 + 8) third.new s.bytes stands.kept (Addi 17 0 (pos 13)) number.0.0 17 13
-        (λ answer. refl) tt in
-        let x2 : four 2 ≡ sp = third.kept 2 refl refl ∙ two in
-        let a0 : four 10 ≡ size = third.holds in
-        let l1 : nat_le stack_base (four 2) ≡ true = le-leb stack_base (four 2) (omega (arith, x2, low)) in
-        let l3 : nat_lt (four 2 - stack_base) (four 10) ≡ true = lt-ltb (four 2 - stack_base) (four 10) (omega (arith, x2, a0, short, low)) in
-        let l2' : nat_le (four 2) (stack_base + w.areas.stack) ≡ true = le-leb (four 2) (stack_base + w.areas.stack) (omega (arith, x2, high)) in
-        let why = Stop.Exhausted in
-        let s4' = state_of s4 in
-        let found : refuses_frame w.areas (four 10) s4' ≡ stop why s4' =
-        ap (λ c. if c then stop why s4' else fault BadCall s4') (and_from (has_stack w.areas s4') _ (and_from (nat_le stack_base (four 2)) _ l1 l2') l3) in
-        let last = record s4 { mode = Over why } in
-        let m5 : Moves w.areas 1 s4 last =
-        by_stop w.areas s4 last refl why
-        (λ answer. step_is w.areas w.code order.code_within s.store (place + 12 + 8 + 4) four s.bytes stands.kept Ecall call.0.0 answer ∙ found)
-        (is_lawful w.areas w.code order.code_within s.store (place + 12 + 8 + 4) four s.bytes stands.kept Ecall call.0.0 tt) in
-        record {
-          last = last;
-          moves = subst (λ (t : Machine). Moves w.areas 7 t last) (sym (written_out w order mem place m fs sp s stands))
-              (and_then w.areas _ s1 last 2 5 first.moves (and_then w.areas s1 s2 last 1 4 m2 (and_then w.areas s2 s3 last 2 2 third.moves
-              (and_then w.areas s3 s4 last 1 1 m4 m5))));
-          over = refl;
-        }
-
-    -- ---- the frame
-
-    abbrev low : ℕ
-    low = sp - size
-
-    -- x2 goes down by the frame
-    pub record IsMoved : Type 0 where
+    -- where it does, x2 goes down by it
+    pub record IsMoved (count behind : ℕ) : Type 0 where
       pub new : ℕ → ℕ
-      pub moves : Moves w.areas (3 + code_length (move_code size) / 4) s (state_at (place + 28 + code_length (move_code size)) new s.bytes s.store)
-      pub pointer : new 2 ≡ low
+      pub moves : Moves w.areas count s (state_at behind new s.bytes s.store)
+      pub pointer : new 2 ≡ sp - size
+      pub stack_start : new 3 ≡ stack_base
       pub kept_one : new 1 ≡ s.registers 1
       pub same : SameHomes new s.registers
 
-    pub moved : stack_base + size ≤ sp → sp ≤ stack_end w.areas → Has w (place + 28) (move_code size) → IsMoved
-    moved fits high has_move =
-        let p = moves_down w order (place + 28) first.new s.bytes s.store stands.kept size sp (omega (arith, small)) two (omega (arith, small, high)) low
-        (omega (arith, fits)) has_move in
-        let s2 = state_at (place + 28) first.new s.bytes s.store in
-        record {
-          new = p.new;
-          moves = and_then w.areas s s2 _ 3 (code_length (move_code size) / 4) (taken fits) p.moves;
-          pointer = p.holds;
-          kept_one = p.kept 1 refl refl ∙ first.kept 1 refl refl;
-          same = λ q is. p.kept q (other_home 7 q refl is) (other_home 2 q refl is) ∙ first.kept q (other_home 7 q refl is) (other_home 6 q refl is);
-        }
+    -- ---- a small frame, which is taken and then tested
+
+    module _ (few : size < 2048) (has : Has w place (small_frame_code size)) where
+      near : sp + size < 2 ^ 31
+      near = let within = order.stack_within in omega (arith, few, high, within)
+
+      down : Puts w place (place + 4) 1 2 (sp - size) s.registers s.bytes s.store
+      down =
+          moves_down_near w order place s.registers s.bytes s.store stands.kept size sp (omega (arith, few)) stands.pointer near (sp - size)
+          (omega (arith, few, low)) (has.0, tt, tt)
+
+      abbrev s1 : Machine
+      s1 = state_at (place + 4) down.new s.bytes s.store
+
+      start : down.new 3 ≡ stack_base
+      start = down.kept 3 refl refl ∙ stands.stack_start
+
+      taken_small : stack_base + size ≤ sp → IsMoved 2 (place + 24)
+      taken_small fits =
+          let near_end = is_in_code w.areas w.code order.code_within s.store (place + 4) (Bgeu 2 3 (pos 20)) has.2.0.0 in
+          let enough : nat_lt (down.new 2) (down.new 3) ≡ false =
+          le-ltb (down.new 2) (down.new 3) (let a = down.holds in omega (arith, a, start, fits)) in
+          let aligned = stands.aligned in
+          let next = state_at (place + 24) down.new s.bytes s.store in
+          let m2 : Moves w.areas 1 s1 next =
+          goes_to w.areas w.code order.code_within s.store (place + 4) down.new s.bytes stands.kept (Bgeu 2 3 (pos 20)) has.2.0.0 0
+          (sum_of (code_base + (place + 4)) 20) (place + 24) (omega (arith, near_end)) (omega (arith, aligned))
+          (λ answer. ap (λ b. branches (not b) (pos 20) (state_of s1)) enough) tt in
+          record {
+            new = down.new;
+            moves = subst (λ (t : Machine). Moves w.areas 2 t next) (sym here) (and_then w.areas _ s1 next 1 1 down.moves m2);
+            pointer = down.holds;
+            stack_start = start;
+            kept_one = down.kept 1 refl refl;
+            same = λ q is. down.kept q (other_home 7 q refl is) (other_home 2 q refl is);
+          }
+
+      refused_small : sp < stack_base + size → IsRefused 6
+      refused_small short =
+          let less : nat_lt (down.new 2) (down.new 3) ≡ true =
+          lt-ltb (down.new 2) (down.new 3) (let a = down.holds in omega (arith, a, start, short, few)) in
+          let p2 = place + 4 + 4 in
+          let s2 = state_at p2 down.new s.bytes s.store in
+          let m2 : Moves w.areas 1 s1 s2 =
+          passes w.areas w.code order.code_within s.store (place + 4) down.new s.bytes stands.kept (Bgeu 2 3 (pos 20)) has.2.0.0
+          (λ answer. ap (λ b. branches (not b) (pos 20) (state_of s1)) less) tt in
+          let back : sp - size + size ≡ sp = omega (arith, few, low) in
+          let up = moves_up_near w order p2 down.new s.bytes s.store stands.kept size (sp - size) (omega (arith, few)) down.holds (omega (arith, near))
+          (has.2.2.0, tt, tt) in
+          let p3 = p2 + 4 in
+          let s3 = state_at p3 up.new s.bytes s.store in
+          let value = sum_of 0 (word (pos size)) in
+          let new = set_register 10 value up.new in
+          let s4 = state_at (p3 + 4) new s.bytes s.store in
+          let m4 : Moves w.areas 1 s3 s4 =
+          gives_value w.areas w.code order.code_within s.store p3 up.new s.bytes stands.kept (Addi 10 0 (pos size)) has.2.2.2.0.0 10 value (λ answer. refl)
+          tt in
+          let argument : value ≡ size = omega (arith, few) in
+          let m5 = refuses (p3 + 4) new s.bytes s.store stands.kept sp (up.holds ∙ back) argument short low high has.2.2.2.2 in
+          let last = record (state_at (p3 + 4 + 4) (set_register 17 13 new) s.bytes s.store) { mode = Over (Stop.Exhausted) } in
+          record {
+            count = 6;
+            within = omega arith;
+            last = last;
+            moves = subst (λ (t : Machine). Moves w.areas 6 t last) (sym here)
+                (and_then w.areas _ s1 last 1 5 down.moves (and_then w.areas s1 s2 last 1 4 m2 (and_then w.areas s2 s3 last 1 3 up.moves
+                (and_then w.areas s3 s4 last 1 2 m4 m5))));
+            over = refl;
+          }
+
+    -- ---- a large frame, for which the stack is tested first
+
+    module _ (has : Has w place (test_code size ++ move_code size)) where
+      first : Puts w place (place + 8) 2 6 (stack_base + size) s.registers s.bytes s.store
+      first = puts_word w order place s.registers s.bytes s.store stands.kept 5 (stack_base + size) (omega (arith, small)) (has.0, tt, (has.2.0, tt, tt))
+
+      abbrev t1 : Machine
+      t1 = state_at (place + 8) first.new s.bytes s.store
+
+      two : first.new 2 ≡ sp
+      two = first.kept 2 refl refl ∙ stands.pointer
+
+      -- the branch over the refusal
+      branch : Has w (place + 8) (Plain (Bgeu 2 6 (pos 20)) ∷ [])
+      branch = let e : place + 4 + 4 ≡ place + 8 = omega arith in subst (λ p. Has w p (Plain (Bgeu 2 6 (pos 20)) ∷ [])) e (has.2.2.0, tt, tt)
+
+      taken_large : stack_base + size ≤ sp → IsMoved 6 (place + 40)
+      taken_large fits =
+          let near = is_in_code w.areas w.code order.code_within s.store (place + 8) (Bgeu 2 6 (pos 20)) branch.0.0 in
+          let enough : nat_lt (first.new 2) (first.new 6) ≡ false =
+          le-ltb (first.new 2) (first.new 6) (let a = two in let b = first.holds in omega (arith, a, b, fits)) in
+          let aligned = stands.aligned in
+          let t2 = state_at (place + 28) first.new s.bytes s.store in
+          let m2 : Moves w.areas 1 t1 t2 =
+          goes_to w.areas w.code order.code_within s.store (place + 8) first.new s.bytes stands.kept (Bgeu 2 6 (pos 20)) branch.0.0 0
+          (sum_of (code_base + (place + 8)) 20) (place + 28) (omega (arith, near)) (omega (arith, aligned))
+          (λ answer. ap (λ b. branches (not b) (pos 20) (state_of t1)) enough) tt in
+          let within = order.stack_within in
+          let has_move = has_second w place (test_code size) (move_code size) has in
+          let p = moves_down_far w order (place + 28) first.new s.bytes s.store stands.kept size sp (omega (arith, small)) two
+          (omega (arith, small, high, within)) (sp - size) (omega (arith, fits)) has_move in
+          let e : place + 28 + 12 ≡ place + 40 = omega arith in
+          let next = state_at (place + 40) p.new s.bytes s.store in
+          let m3 : Moves w.areas 3 t2 next = subst (λ q. Moves w.areas 3 t2 (state_at q p.new s.bytes s.store)) e p.moves in
+          record {
+            new = p.new;
+            moves = subst (λ (t : Machine). Moves w.areas 6 t next) (sym here)
+                (and_then w.areas _ t1 next 2 4 first.moves (and_then w.areas t1 t2 next 1 3 m2 m3));
+            pointer = p.holds;
+            stack_start = p.kept 3 refl refl ∙ first.kept 3 refl refl ∙ stands.stack_start;
+            kept_one = p.kept 1 refl refl ∙ first.kept 1 refl refl;
+            same = λ q is. p.kept q (other_home 7 q refl is) (other_home 2 q refl is) ∙ first.kept q (other_home 7 q refl is) (other_home 6 q refl is);
+          }
+
+      refused_large : sp < stack_base + size → IsRefused 7
+      refused_large short =
+          let less : nat_lt (first.new 2) (first.new 6) ≡ true =
+          lt-ltb (first.new 2) (first.new 6) (let a = two in let b = first.holds in omega (arith, a, b, short)) in
+          let p2 = place + 8 + 4 in
+          let t2 = state_at p2 first.new s.bytes s.store in
+          let m2 : Moves w.areas 1 t1 t2 =
+          passes w.areas w.code order.code_within s.store (place + 8) first.new s.bytes stands.kept (Bgeu 2 6 (pos 20)) branch.0.0
+          (λ answer. ap (λ b. branches (not b) (pos 20) (state_of t1)) less) tt in
+          let e2 : place + 4 + 4 + 4 ≡ p2 = omega arith in
+          let third = puts_word w order p2 first.new s.bytes s.store stands.kept 9 size (omega (arith, small))
+          (subst (λ p. Has w p (word_code 10 size)) e2 (has.2.2.2.0, tt, (has.2.2.2.2.0, tt, tt))) in
+          let p3 = p2 + 8 in
+          let t3 = state_at p3 third.new s.bytes s.store in
+          let e3 : place + 4 + 4 + 4 + 4 + 4 ≡ p3 = omega arith in
+          let call = subst (λ p. Has w p (environment_code 13)) e3 (has.2.2.2.2.2.0, tt, (has.2.2.2.2.2.2.0, tt, tt)) in
+          let m4 = refuses p3 third.new s.bytes s.store stands.kept sp (third.kept 2 refl refl ∙ two) third.holds short low high call in
+          let last = record (state_at (p3 + 4) (set_register 17 13 third.new) s.bytes s.store) { mode = Over (Stop.Exhausted) } in
+          record {
+            count = 7;
+            within = omega arith;
+            last = last;
+            moves = subst (λ (t : Machine). Moves w.areas 7 t last) (sym here)
+                (and_then w.areas _ t1 last 2 5 first.moves (and_then w.areas t1 t2 last 1 4 m2 (and_then w.areas t2 t3 last 2 2 third.moves m4)));
+            over = refl;
+          }
+
+    -- ---- a frame
+
+    pub taken : stack_base + size ≤ sp → Has w place (frame_code size)
+        → IsMoved (if nat_lt size 2048 then 2 else 6) (place + code_length (frame_code size))
+    taken fits has = by (nat_lt size 2048) refl has
+      where
+        by : (few : Bool) → nat_lt size 2048 ≡ few → Has w place (if few then small_frame_code size else test_code size ++ move_code size)
+            → IsMoved (if few then 2 else 6) (place + code_length (if few then small_frame_code size else test_code size ++ move_code size))
+        by true is has = taken_small (ltb-true size 2048 is) has fits
+        by false is has = taken_large has fits
+
+    pub refused : sp < stack_base + size → Has w place (frame_code size) → IsRefused ((if nat_lt size 2048 then 2 else 6) + 4)
+    refused short has = by (nat_lt size 2048) refl has
+      where
+        by : (few : Bool) → nat_lt size 2048 ≡ few → Has w place (if few then small_frame_code size else test_code size ++ move_code size)
+            → IsRefused ((if few then 2 else 6) + 4)
+        by true is has = refused_small (ltb-true size 2048 is) has short
+        by false is has =
+            let x = refused_large has short in
+            record { count = x.count; within = omega (arith, x.within); last = x.last; moves = x.moves; over = x.over }

@@ -12,7 +12,7 @@ use Rattle.core_lines.proofs.memory.Relations.{World, IsInOrder, Stands}
 use Rattle.core_lines.proofs.Steps.{state_at}
 use Rattle.core_lines.proofs.memory.Slots.{Kept}
 use Rattle.core_meaning.proofs.Spots.{spot_same}
-use Rattle.core_lines.proofs.homes.Homes.{other_home}
+use Rattle.core_lines.proofs.homes.Homes.{other_home, no_home}
 use Rattle.core_lines.proofs.memory.Storing.{known_part}
 
 -- ---- a part without an address gets another content
@@ -96,13 +96,6 @@ module _ (w : World) (order : IsInOrder w) (mem : Memory) (place : ℕ) (m : Map
   home : is_home (suc r) ≡ true
   home = (stands.homes.0.saved k o (suc r) is).0
 
-  two_other : nat_eq 2 (suc r) ≡ false
-  two_other = by (nat_eq 2 (suc r)) refl
-    where
-      by : (c : Bool) → nat_eq 2 (suc r) ≡ c → nat_eq 2 (suc r) ≡ false
-      by true e = absurd (cc (home, ap is_home (sym (eqb-true 2 (suc r) e))))
-      by false e = e
-
   -- with another value in the register, and in no other but x7
   pub home_stored : (place' : ℕ) (new : ℕ → ℕ) → place' % 4 ≡ 0 → Kept (suc r) new s.registers → Shows m v (new (suc r)) → new (suc r) < 2 ^ 32
       → Stands w stored place' m (a ∷ fs) sp sp (state_at place' new s.bytes s.store)
@@ -114,7 +107,8 @@ module _ (w : World) (order : IsInOrder w) (mem : Memory) (place : ℕ) (m : Map
         runs = refl;
         there = refl;
         aligned = aligned;
-        pointer = kept 2 refl two_other ∙ stands.pointer;
+        pointer = kept 2 refl (no_home 2 (suc r) refl home) ∙ stands.pointer;
+        stack_start = kept 3 refl (no_home 3 (suc r) refl home) ∙ stands.stack_start;
         small = stands.small;
         kept = stands.kept;
         stacked = stands.stacked;

@@ -76,6 +76,7 @@ use Rattle.core_lines.proofs.operations.Registers.{
   operand_some,
   there_kept,
   there_without,
+  there_also,
   there_source,
   set_kept,
   in_turn,
@@ -138,17 +139,17 @@ module _ (w : World) (order : IsInOrder w) (x : Waiting) (outer : List Waiting) 
       (AreThere (with_source t (Register (suc r)) hs) (having t part.content x).config.temps) s
       (λ m registers h. there_source t part.content (Register (suc r)) hs x.config.temps m registers (h.0, home_not_spare (suc r) yes) h.1) a)))
 
-  abbrev put_in : Content → Memory
+  abbrev pub put_in : Content → Memory
   put_in v = with_part mem (local_at k o) 0 (record part { content = v })
 
   -- ---- a store to the local
 
   -- by these steps its register gets another value
-  stores_home : (v : Content) (P : Maps → (ℕ → ℕ) → Type 0) (place count : ℕ) (lines : List Line) (s : Machine) (a : AtWith w x outer mem place P s)
+  stores_home : (v : Content) (P Q : Maps → (ℕ → ℕ) → Type 0) (place count : ℕ) (lines : List Line) (s : Machine) (a : AtWith w x outer mem place P s)
       (new : ℕ → ℕ) → Moves w.areas count s (state_at (place + code_length lines) new s.bytes s.store) → Kept (suc r) new s.registers
-      → Shows a.maps v (new (suc r)) → new (suc r) < 2 ^ 32 → Known a.maps s.registers
-      → Reach w.areas count (AtWith w x outer (put_in v) (place + code_length lines) Left) s
-  stores_home v P place count lines s a new moves kept shows below known = record {
+      → InRegister (suc r) v a.maps new → Q a.maps new
+      → Reach w.areas count (AtWith w x outer (put_in v) (place + code_length lines) Q) s
+  stores_home v P Q place count lines s a new moves kept here known = record {
     next = state_at (place + code_length lines) new s.bytes s.store;
     moves = moves;
     there = record {
@@ -157,41 +158,55 @@ module _ (w : World) (order : IsInOrder w) (x : Waiting) (outer : List Waiting) 
       others = a.others;
       sp = a.sp;
       stands = home_stored w order mem place a.maps a.frame a.others a.sp s a.stands k o r (found a.maps a.frame a.shows) part has_part
-          v (place + code_length lines) new (behind place lines a.stands.aligned) kept shows below;
+          v (place + code_length lines) new (behind place lines a.stands.aligned) kept here.0 here.1;
       shows = a.shows;
       stack = a.stack;
-      holds = there_without r hs x.config.temps a.maps new s.registers kept known;
+      holds = known;
     };
   }
 
   -- one instruction that gives the value
-  one_more : (v : Content) (P : Maps → (ℕ → ℕ) → Type 0) (place : ℕ) (i : Instr) (value : (ℕ → ℕ) → ℕ) → HasInstr w.areas w.code (code_base + place) i
+  pub one_more : (v : Content) (P Q : Maps → (ℕ → ℕ) → Type 0) (place : ℕ) (i : Instr) (value : (ℕ → ℕ) → ℕ)
+      → HasInstr w.areas w.code (code_base + place) i
       → ((registers bytes : ℕ → ℕ) (st : Store) (answer : Answer)
       → effect w.areas answer i (state_of (state_at place registers bytes st)) ≡ gives (suc r) (value registers) (state_of (state_at place registers bytes st)))
       → ((q : Run) → AccessIsLawful w.areas q i)
-      → ((m : Maps) (registers : ℕ → ℕ) → P m registers → Shows m v (value registers) × (value registers < 2 ^ 32) × Known m registers)
-      → Comes w (AtWith w x outer mem place P) (AtWith w x outer (put_in v) (place + 4) Left)
-  one_more v P place i value has e access gets = record {
+      → ((m : Maps) (registers : ℕ → ℕ) → P m registers → Shows m v (value registers) × (value registers < 2 ^ 32))
+      → ((m : Maps) (new old : ℕ → ℕ) → InRegister (suc r) v m new → Kept (suc r) new old → P m old → Q m new)
+      → Comes w (AtWith w x outer mem place P) (AtWith w x outer (put_in v) (place + 4) Q)
+  one_more v P Q place i value has e access shows gets = record {
     count = 1;
     by = λ s a.
-        let g = gets a.maps s.registers a.holds in
         let n = value s.registers in
         let new = set_register (suc r) n s.registers in
-        let here = set_here r n s.registers in
-        stores_home v P place 1 (Plain i ∷ []) s a new
+        let kept = set_kept r n s.registers in
+        let here : InRegister (suc r) v a.maps new =
+        subst (λ q. Shows a.maps v q × (q < 2 ^ 32)) (sym (set_here r n s.registers)) (shows a.maps s.registers a.holds) in
+        stores_home v P Q place 1 (Plain i ∷ []) s a new
         (subst (λ (t : Machine). Moves w.areas 1 t (state_at (place + 4) new s.bytes s.store))
         (sym (written_out w order mem place a.maps (a.frame ∷ a.others) a.sp s a.stands))
         (gives_value w.areas w.code order.code_within s.store place s.registers s.bytes a.stands.kept i has (suc r) n
         (λ answer. e s.registers s.bytes s.store answer) (access (bare (state_at place s.registers s.bytes s.store)))))
-        (set_kept r n s.registers) (subst (λ q. Shows a.maps v q) (sym here) g.0) (subst (λ q. q < 2 ^ 32) (sym here) g.1) g.2;
+        kept here (gets a.maps new s.registers here kept a.holds);
   }
 
   module _ (y : ℕ) (named : y < x.fn.temporaries) (served : IsServed w x hs y) where
     abbrev v : Content
     v = x.config.temps y
 
+    -- the temporary's word is in the register then
+    abbrev both : List Holding
+    both = with_source y (Register (suc r)) others
+
+    abbrev Both : Maps → (ℕ → ℕ) → Type 0
+    Both m registers = AreThere both x.config.temps m registers
+
+    known_there : (m : Maps) (new old : ℕ → ℕ) → InRegister (suc r) v m new → Kept (suc r) new old → Known m old → Both m new
+    known_there m new old here kept a =
+        there_also y (Register (suc r)) others x.config.temps m new (here, home_not_spare (suc r) yes) (there_without r hs x.config.temps m new old kept a)
+
     abbrev Stores : List Line → ℕ → Type 0
-    Stores lines place = Comes w (AtWith w x outer mem place Known) (AtWith w x outer (put_in v) (place + code_length lines) Left)
+    Stores lines place = Comes w (AtWith w x outer mem place Known) (AtWith w x outer (put_in v) (place + code_length lines) Both)
 
     -- a temporary into a local of a word: from its slot, from another register, or a number
     from_slot : source_of hs y ≡ None → (place : ℕ) → Has w place (load_code (suc r) (slot_of x.fn.passed y))
@@ -203,7 +218,9 @@ module _ (w : World) (order : IsInOrder w) (x : Waiting) (outer : List Waiting) 
           by = λ s a.
               let l = reads w order mem place a.maps (a.frame ∷ a.others) a.sp s a.stands 0 (slot_of x.fn.passed y) (slot_of x.fn.passed y) r v
               (temp_lies w order x outer mem a.maps (back_of w outer) a.frame a.others a.sp y named (served unknown) a.shows a.stands.stacked) has in
-              stores_home v Known place (code_length lines / 4) lines s a l.new l.moves l.kept l.holds l.below a.holds;
+              let here : InRegister (suc r) v a.maps l.new = (l.holds, l.below) in
+              stores_home v Known Both place (code_length lines / 4) lines s a l.new l.moves l.kept here
+              (known_there a.maps l.new s.registers here l.kept a.holds);
         }
 
     from_register : (q : ℕ) → source_of hs y ≡ Some (Register (suc q)) → (same : Bool) → nat_eq (suc q) (suc r) ≡ same → (place : ℕ)
@@ -215,19 +232,19 @@ module _ (w : World) (order : IsInOrder w) (x : Waiting) (outer : List Waiting) 
           let here = there_found hs y (Register (suc q)) x.config.temps a.maps s.registers a.holds is in
           let own = subst (λ t. InRegister t v a.maps s.registers) (eqb-true (suc q) (suc r) same) here.0 in
           let there : place ≡ place + 0 = omega arith in
-          stores_home v Known place 0 [] s a s.registers
+          stores_home v Known Both place 0 [] s a s.registers
           (subst (λ p. Moves w.areas 0 s (state_at p s.registers s.bytes s.store)) there
           (subst (λ (t : Machine). Moves w.areas 0 s t) (written_out w order mem place a.maps (a.frame ∷ a.others) a.sp s a.stands)
           (Rattle.core_lines.proofs.memory.Moving.stays w.areas s)))
-          (λ t a b. refl) own.0 own.1 a.holds;
+          (λ t a b. refl) own (known_there a.maps s.registers s.registers own (λ t a b. refl) a.holds);
     }
     from_register q is false apart place has =
-        one_more v Known place (instr.Addi (suc r) (suc q) (pos 0)) (λ registers. sum_of (registers (suc q)) (word (pos 0))) has.0.0
+        one_more v Known Both place (instr.Addi (suc r) (suc q) (pos 0)) (λ registers. sum_of (registers (suc q)) (word (pos 0))) has.0.0
         (λ registers b st n. refl) (λ _. tt)
         (λ m registers h.
         let here = there_found hs y (Register (suc q)) x.config.temps m registers h is in
         let same = none_added (registers (suc q)) here.0.1 in
-        (subst (λ n. Shows m v n) (sym same) here.0.0, subst (λ n. n < 2 ^ 32) (sym same) here.0.1, h))
+        (subst (λ n. Shows m v n) (sym same) here.0.0, subst (λ n. n < 2 ^ 32) (sym same) here.0.1)) known_there
 
     from_number : (n : ℕ) → source_of hs y ≡ Some (Number n) → (place : ℕ) → Has w place (number_code (suc r) n) → Stores (number_code (suc r) n) place
     from_number n is place has = record {
@@ -236,10 +253,11 @@ module _ (w : World) (order : IsInOrder w) (x : Waiting) (outer : List Waiting) 
           let here = there_found hs y (Number n) x.config.temps a.maps s.registers a.holds is in
           let p = puts_number w order place s.registers s.bytes s.store a.stands.kept r n here.1 has in
           let lines = number_code (suc r) n in
-          stores_home v Known place (code_length lines / 4) lines s a p.new
+          let there : InRegister (suc r) v a.maps p.new = subst (λ q. Shows a.maps v q × (q < 2 ^ 32)) (sym p.holds) here in
+          stores_home v Known Both place (code_length lines / 4) lines s a p.new
           (subst (λ (t : Machine). Moves w.areas (code_length lines / 4) t (state_at (place + code_length lines) p.new s.bytes s.store))
           (sym (written_out w order mem place a.maps (a.frame ∷ a.others) a.sp s a.stands)) p.moves)
-          p.kept (subst (λ q. Shows a.maps v q) (sym p.holds) here.0) (subst (λ q. q < 2 ^ 32) (sym p.holds) here.1) a.holds;
+          p.kept there (known_there a.maps p.new s.registers there p.kept a.holds);
     }
 
     from_verdict : (c : Comparison) → source_of hs y ≡ Some (Compared c) → (place : ℕ) → Has w place (verdict_code (suc r) c)
@@ -250,10 +268,12 @@ module _ (w : World) (order : IsInOrder w) (x : Waiting) (outer : List Waiting) 
           let here = there_found hs y (Compared c) x.config.temps a.maps s.registers a.holds is in
           let p = puts_verdict w order place s.registers s.bytes s.store a.stands.kept c r here.1.1 here.2.1 has in
           let lines = verdict_code (suc r) c in
-          stores_home v Known place (code_length lines / 4) lines s a p.new
+          let there : InRegister (suc r) v a.maps p.new =
+          (subst (λ q. Shows a.maps v q) (sym p.holds) here.0, subst (λ q. q < 2 ^ 32) (sym p.holds) (truth_few (is_so c s.registers))) in
+          stores_home v Known Both place (code_length lines / 4) lines s a p.new
           (subst (λ (t : Machine). Moves w.areas (code_length lines / 4) t (state_at (place + code_length lines) p.new s.bytes s.store))
           (sym (written_out w order mem place a.maps (a.frame ∷ a.others) a.sp s a.stands)) p.moves)
-          p.kept (subst (λ q. Shows a.maps v q) (sym p.holds) here.0) (subst (λ q. q < 2 ^ 32) (sym p.holds) (truth_few (is_so c s.registers))) a.holds;
+          p.kept there (known_there a.maps p.new s.registers there p.kept a.holds);
     }
 
     from_source : (s : Option Source) → source_of hs y ≡ s → (place : ℕ) → Has w place (fetch_code x.fn.passed (suc r) y s)
@@ -265,17 +285,20 @@ module _ (w : World) (order : IsInOrder w) (x : Waiting) (outer : List Waiting) 
     from_source (Some (Compared c)) is place has = from_verdict c is place has
 
     -- with what is known before and behind
-    stored_as : (v : Content) (place end : ℕ) → Comes w (AtWith w x outer mem place Known) (AtWith w x outer (put_in v) end Left)
-        → Comes w (AtHolding w x outer mem place hs) (AtHolding w x outer (put_in v) end others)
-    stored_as v place end comes = comes_then w _ _ _
+    stored_as : (v : Content) (place end : ℕ) (after : List Holding)
+        → Comes w (AtWith w x outer mem place Known) (AtWith w x outer (put_in v) end (AreThere after x.config.temps))
+        → Comes w (AtHolding w x outer mem place hs) (AtHolding w x outer (put_in v) end after)
+    stored_as v place end after comes = comes_then w _ _ _
         (comes_as w (AtHolding w x outer mem place hs) (AtWith w x outer mem place Known) (with_there w x outer mem place hs))
         (comes_then w _ _ _ comes
-        (comes_as w (AtWith w x outer (put_in v) end Left) (AtHolding w x outer (put_in v) end others) (as_holding w x outer (put_in v) end others)))
+        (comes_as w (AtWith w x outer (put_in v) end (AreThere after x.config.temps)) (AtHolding w x outer (put_in v) end after)
+        (as_holding w x outer (put_in v) end after)))
 
     pub put_word : (place : ℕ) → Has w place (into_code x.fn.passed hs (suc r) y)
         → Comes w (AtHolding w x outer mem place hs)
-        (AtHolding w x outer (put_in v) (place + code_length (into_code x.fn.passed hs (suc r) y)) others)
-    put_word place has = stored_as v place (place + code_length (into_code x.fn.passed hs (suc r) y)) (from_source (source_of hs y) refl place has)
+        (AtHolding w x outer (put_in v) (place + code_length (into_code x.fn.passed hs (suc r) y)) both)
+    put_word place has =
+        stored_as v place (place + code_length (into_code x.fn.passed hs (suc r) y)) both (from_source (source_of hs y) refl place has)
 
     -- and into one of a byte
     abbrev byte_lines : List Line
@@ -288,18 +311,16 @@ module _ (w : World) (order : IsInOrder w) (x : Waiting) (outer : List Waiting) 
         let from = operand_in hs 6 y in
         let last : List Line = Plain (instr.Andi (suc r) from (pos 255)) ∷ [] in
         let P : Maps → (ℕ → ℕ) → Type 0 = λ m registers. InOperand 6 from v m registers × Known m registers in
-        stored_as (low_byte v) place (place + code_length (first ++ last))
+        stored_as (low_byte v) place (place + code_length (first ++ last)) others
         (in_turn w (AtWith w x outer mem place Known) (λ p. AtWith w x outer mem p P) (λ p. AtWith w x outer (put_in (low_byte v)) p Left) place first last
         (brings w order x outer mem 5 y place hs named served refl (has_first w place first last has))
-        (one_more (low_byte v) P (place + code_length first) (instr.Andi (suc r) from (pos 255)) (λ registers. bit_and (registers from) (word (pos 255)))
-        (has_second w place first last has).0.0
+        (one_more (low_byte v) P Left (place + code_length first) (instr.Andi (suc r) from (pos 255))
+        (λ registers. bit_and (registers from) (word (pos 255))) (has_second w place first last has).0.0
         (λ registers b st n.
         let m = state_of (state_at (place + code_length first) registers b st) in
         ap (λ u. gives (suc r) (bit_and u (word (pos 255))) m) (register_is (place + code_length first) registers b st from (operand_some hs 5 y)))
         (λ _. tt)
         (λ m registers h.
-        let masked : bit_and (registers from) (word (pos 255)) ≡ registers from % 256 = and_mask (registers from) 8 in (
-          subst (λ n. Shows m (low_byte v) n) (sym masked) (low_shows m v (registers from) h.0.0.0),
-          omega (arith, masked),
-          h.1,
-        ))))
+        let masked : bit_and (registers from) (word (pos 255)) ≡ registers from % 256 = and_mask (registers from) 8 in
+        (subst (λ n. Shows m (low_byte v) n) (sym masked) (low_shows m v (registers from) h.0.0.0), omega (arith, masked)))
+        (λ m new old here kept h. there_without r hs x.config.temps m new old kept h.1)))

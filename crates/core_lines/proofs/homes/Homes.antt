@@ -1,5 +1,5 @@
 -- The locals that are in registers stay as they are, where registers that only prologues, returns and stores to such locals change do, and where memory grows.
-use Rattle.std.specs.Prelude.{nat_eq}
+use Rattle.std.specs.Prelude.{nat_eq, ◌||◌}
 use Rattle.std.proofs.Common.{◌≡◌, ℕ, suc, ◌≤◌, ◌<◌, ◌^◌, Bool, true, false, List, [], ◌∷◌, Some, None, refl, sym, ap, ◌∙◌, subst, arith}
 use Rattle.std.proofs.lemmas.Bool.{eqb-true, or_right}
 use Rattle.std.proofs.lemmas.Bool.Decides.{nat_tests}
@@ -12,7 +12,7 @@ use Rattle.core_lines.proofs.memory.Fitting.{shows_on, extends_self}
 
 -- ---- registers
 
--- the stack pointer and the homes are the same
+-- the stack pointer, x3 and the homes are the same
 abbrev pub Stays : (ℕ → ℕ) → (ℕ → ℕ) → Type 0
 Stays new old = (q : ℕ) → stays q ≡ true → new q ≡ old q
 
@@ -21,7 +21,7 @@ abbrev pub SameHomes : (ℕ → ℕ) → (ℕ → ℕ) → Type 0
 SameHomes new old = (q : ℕ) → is_home q ≡ true → new q ≡ old q
 
 pub homes_of : (new old : ℕ → ℕ) → Stays new old → SameHomes new old
-homes_of new old s q h = s q (or_right (nat_eq q 2) (is_home q) h)
+homes_of new old s q h = s q (or_right (nat_eq q 2) (nat_eq q 3 || is_home q) (or_right (nat_eq q 3) (is_home q) h))
 
 -- a register that stays isn't one that doesn't
 pub other_register : (to q : ℕ) → stays to ≡ false → stays q ≡ true → nat_eq q to ≡ false
@@ -47,6 +47,13 @@ other_home to q free kept = by (nat_eq q to) refl
   where
     by : (c : Bool) → nat_eq q to ≡ c → nat_eq q to ≡ false
     by true e = absurd (cc (free, kept, ap is_home (eqb-true q to e)))
+    by false e = e
+
+pub no_home : (q r : ℕ) → is_home q ≡ false → is_home r ≡ true → nat_eq q r ≡ false
+no_home q r free kept = by (nat_eq q r) refl
+  where
+    by : (c : Bool) → nat_eq q r ≡ c → nat_eq q r ≡ false
+    by true e = absurd (cc (free, kept, ap is_home (eqb-true q r e)))
     by false e = e
 
 -- those of arguments and results are free

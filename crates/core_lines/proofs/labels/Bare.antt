@@ -14,7 +14,7 @@ use Rattle.core_lines.specs.declared.line.Line.{Line}
 use Rattle.core_lines.specs.declared.line.Line.TheVariants.{Plain, Jump, CallTo}
 use Rattle.core_lines.specs.Comparisons.{inverse, branch_if, verdict_code}
 use Rattle.core_lines.specs.Lines.{code_length}
-use Rattle.core_lines.specs.Frames.{is_short, word_code, load_code, save_code, slot_of, environment_code, test_code, move_code, give_code}
+use Rattle.core_lines.specs.Frames.{is_short, word_code, load_code, save_code, slot_of, environment_code, frame_code, give_code}
 use Rattle.core_lines.specs.Frames.{saves_code, restores_code, leave_code, epilogue_code, raise_code}
 use Rattle.core_lines.specs.Checks.{Failure, Always, ByTest, failure_code, check_code}
 use Rattle.core_lines.specs.Homes.{flag_at}
@@ -26,6 +26,8 @@ use Rattle.core_lines.specs.Operands.{pass_code, result_code, call_code, values_
 use Rattle.core_lines.specs.Selected.{Surroundings, local_offset, local_home, nth, from_temp, to_temp, far_code, read_line, read_code, write_line, write_code}
 use Rattle.core_lines.specs.Selected.{binary_code, turned, immediate_code, immediate_for, address_code, further_code}
 use Rattle.core_lines.specs.Selected.{operand, has_operand, both_code, apply_code, keep_result, computed_kept, applied_kept, get_code, byte_code, put_code}
+use Rattle.core_lines.specs.Straight.{straight_operation, straight_code}
+use Rattle.core_meaning.specs.Core.{Statement, Do}
 use Rattle.core_lines.specs.Selected.{number_in, narrow_kept, exponent_of, times_code, element_code, copy_code, clear_code, bytes_in, bytes_code, operation_code}
 pub use Rattle.core_lines.proofs.labels.BareLines.{are_bare, bare_places, bare_targets, two, three, four, either, one, verdict_bare}
 
@@ -285,6 +287,15 @@ module _ (u : Surroundings) where
         kept_bare t (operand u 5 x ++ line) (two (operand u 5 x) line (of_bare 5 x) refl)
     narrow_bare t x (Some w) = number_kept_bare u.passed keeps t (w % 256)
 
+    straight_operation_bare : (home : ℕ) (o : Operation) → are_bare (straight_operation keeps u home o) ≡ true
+    straight_operation_bare home (Apply o t x y) =
+        two (apply_code u o home x y) (keep_code keeps u.passed home t) (apply_bare o home x y) (keep_bare u.passed keeps home t)
+    straight_operation_bare home o = refl
+
+    pub straight_bare : (home : ℕ) (s : Statement) → are_bare (straight_code keeps u home s) ≡ true
+    straight_bare home (Do operation) = straight_operation_bare home operation
+    straight_bare home s = refl
+
     pub operation_bare : (o : Operation) → are_bare (operation_code keeps u o) ≡ true
     operation_bare (Constant t w) = number_kept_bare u.passed keeps t (w % 2 ^ 32)
     operation_bare (NullPointer t) = keep_bare u.passed keeps 0 t
@@ -358,7 +369,6 @@ take_bare bytes passed start k (suc more) =
 pub prologue_bare : (bytes passed first : ℕ) (saved : List ℕ) (start : List Bool) (parameters : ℕ)
     → are_bare (prologue_code bytes passed first saved start parameters) ≡ true
 prologue_bare bytes passed first saved start parameters =
-    two (test_code bytes ++ move_code bytes ++ save_code 1 0 ++ saves_code first saved) (take_code bytes passed start 0 parameters)
-    (four (test_code bytes) (move_code bytes) (save_code 1 0) (saves_code first saved) refl (either (nat_lt bytes 2048) _ _ refl refl) (save_bare 1 0)
-    (saves_bare first saved))
+    two (frame_code bytes ++ save_code 1 0 ++ saves_code first saved) (take_code bytes passed start 0 parameters)
+    (three (frame_code bytes) (save_code 1 0) (saves_code first saved) (either (nat_lt bytes 2048) _ _ refl refl) (save_bare 1 0) (saves_bare first saved))
     (take_bare bytes passed start 0 parameters)

@@ -1,7 +1,7 @@
 -- Lines that place no label: those of operations and choices, of calls and returns, and the first and last ones of functions.
 use Rattle.std.proofs.Common.{◌≡◌, ℕ, Bool, true, false, List, [], ◌∷◌, ◌++◌, refl, ap, ◌∙◌}
 use Rattle.std.specs.Prelude.{if◌then◌else◌}
-use Rattle.core_meaning.specs.Core.{Operation}
+use Rattle.core_meaning.specs.Core.{Operation, Statement}
 use Rattle.core_lines.specs.declared.line.Line.{Line}
 use Rattle.core_lines.specs.declared.line.Line.TheVariants.{Plain, Label, Jump, JumpUnless, BranchUnless, CallTo}
 use Rattle.core_lines.specs.Lines.{labels_placed}
@@ -11,7 +11,9 @@ use Rattle.core_lines.specs.Operands.{test_in, test_ready, call_code, return_cod
 use Rattle.core_lines.specs.Choosing.{jump_unless, choice_code}
 use Rattle.core_lines.specs.Checks.{Failure, check_code}
 use Rattle.core_lines.specs.Selected.{Surroundings, operation_code}
-use Rattle.core_lines.proofs.labels.Bare.{bare_places, test_bare, operation_bare, check_bare, call_bare, return_bare, epilogue_bare, prologue_bare}
+use Rattle.core_lines.specs.Straight.{straight_code}
+use Rattle.core_lines.proofs.labels.Bare.{bare_places, test_bare, operation_bare, straight_bare, check_bare, call_bare, return_bare, epilogue_bare}
+use Rattle.core_lines.proofs.labels.Bare.{prologue_bare}
 
 pub labels_placed-append : (first second : List Line) → labels_placed (first ++ second) ≡ labels_placed first ++ labels_placed second
 labels_placed-append [] second = refl
@@ -24,6 +26,9 @@ labels_placed-append (CallTo label ∷ first) second = labels_placed-append firs
 
 pub operation_none : (keeps : Bool) (u : Surroundings) (o : Operation) → labels_placed (operation_code keeps u o) ≡ []
 operation_none keeps u o = bare_places (operation_code keeps u o) (operation_bare u keeps o)
+
+pub straight_none : (keeps : Bool) (u : Surroundings) (home : ℕ) (s : Statement) → labels_placed (straight_code keeps u home s) ≡ []
+straight_none keeps u home s = bare_places (straight_code keeps u home s) (straight_bare u keeps home s)
 
 pub choice_code_none : (wide : ℕ → Bool) (passed : ℕ) (hs : List Holding) (t label : ℕ) → labels_placed (choice_code wide passed hs t label) ≡ []
 choice_code_none wide passed hs t label =

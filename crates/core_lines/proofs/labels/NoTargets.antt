@@ -1,7 +1,7 @@
 -- Operations, calls, returns, first and last lines have no conditional jumps, and a choice has one.
 use Rattle.std.proofs.Common.{◌≡◌, ℕ, Bool, true, false, List, [], ◌∷◌, ◌++◌, refl, ap, ◌∙◌}
 use Rattle.std.specs.Prelude.{if◌then◌else◌}
-use Rattle.core_meaning.specs.Core.{Operation, Statements, NoStatements, MoreStatements}
+use Rattle.core_meaning.specs.Core.{Operation, Statement, Statements, NoStatements, MoreStatements}
 use Rattle.core_lines.specs.declared.line.Line.{Line}
 use Rattle.core_lines.specs.declared.line.Line.TheVariants.{Plain, Label, Jump, JumpUnless, BranchUnless, CallTo}
 use Rattle.core_lines.specs.Relaxed.{targets}
@@ -11,7 +11,9 @@ use Rattle.core_lines.specs.Operands.{test_in, test_ready, call_code, return_cod
 use Rattle.core_lines.specs.Choosing.{jump_unless, choice_code, between_code, behind_code}
 use Rattle.core_lines.specs.Checks.{Failure, check_code}
 use Rattle.core_lines.specs.Selected.{Surroundings, operation_code}
-use Rattle.core_lines.proofs.labels.Bare.{bare_targets, test_bare, operation_bare, check_bare, call_bare, return_bare, epilogue_bare, prologue_bare}
+use Rattle.core_lines.specs.Straight.{straight_code}
+use Rattle.core_lines.proofs.labels.Bare.{bare_targets, test_bare, operation_bare, straight_bare, check_bare, call_bare, return_bare, epilogue_bare}
+use Rattle.core_lines.proofs.labels.Bare.{prologue_bare}
 
 pub targets_append : (first second : List Line) → targets (first ++ second) ≡ targets first ++ targets second
 targets_append [] second = refl
@@ -24,6 +26,9 @@ targets_append (CallTo label ∷ first) second = targets_append first second
 
 pub operation_none : (keeps : Bool) (u : Surroundings) (o : Operation) → targets (operation_code keeps u o) ≡ []
 operation_none keeps u o = bare_targets (operation_code keeps u o) (operation_bare u keeps o)
+
+pub straight_none : (keeps : Bool) (u : Surroundings) (home : ℕ) (s : Statement) → targets (straight_code keeps u home s) ≡ []
+straight_none keeps u home s = bare_targets (straight_code keeps u home s) (straight_bare u keeps home s)
 
 pub test_none : (passed : ℕ) (hs : List Holding) (spare t : ℕ) → targets (test_ready passed hs spare t) ≡ []
 test_none passed hs spare t = bare_targets (test_ready passed hs spare t) (test_bare passed hs spare t)

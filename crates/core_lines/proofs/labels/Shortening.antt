@@ -5,7 +5,7 @@ use Rattle.std.specs.List.{All}
 use Rattle.std.proofs.Common.{◌≡◌, ℕ, zero, suc, ◌+◌, Bool, true, false, List, [], ◌∷◌, ◌++◌, Option, Some, None, refl, sym, ap, ◌∙◌, subst, arith}
 use Rattle.std.proofs.lemmas.Bool.{eq-eqb}
 use Rattle.std.proofs.lemmas.List.Elements.{All-head, All-tail}
-use Rattle.core_meaning.specs.Core.{Operation, Statement, Do, If, While, Block, Leave, Break, Continue, Call, Return, Raise, Statements, NoStatements}
+use Rattle.core_meaning.specs.Core.{Binary, Operation, Statement, Do, If, While, Block, Leave, Break, Continue, Call, Return, Raise, Statements, NoStatements}
 use Rattle.core_meaning.specs.Core.{MoreStatements, Function, Program}
 use Rattle.core_lines.specs.declared.line.Line.{Line}
 use Rattle.core_lines.specs.declared.line.Line.TheVariants.{Plain, Label, Jump, JumpUnless, BranchUnless, CallTo}
@@ -42,11 +42,11 @@ use Rattle.core_meaning.specs.Core.{
   KeyFree,
 }
 use Rattle.core_lines.specs.Lines.{AreOnce}
-use Rattle.core_lines.specs.Frames.{environment_code, raise_code, epilogue_code}
+use Rattle.core_lines.specs.Frames.{environment_code, raise_code, stack_start_code, epilogue_code}
 use Rattle.core_lines.specs.Homes.{saved_by, saved_slot, flag_at}
 use Rattle.core_lines.specs.Held.{Holding, held_behind, held_behind_all, source_of, result_register, same_as, comparison_of}
 use Rattle.core_lines.specs.declared.comparison.Comparison.{Comparison}
-use Rattle.core_lines.specs.Operands.{test_in, test_ready, call_code, return_code, prologue_code}
+use Rattle.core_lines.specs.Operands.{test_in, test_ready, keep_code, call_code, return_code, prologue_code}
 use Rattle.core_lines.specs.Checks.{Failure, check_of, check_code, checked_code}
 use Rattle.core_lines.specs.Choosing.{far, jump_unless, choice_code, between_code, behind_code}
 use Rattle.core_lines.specs.Completing.{can_complete, can_complete_all, ends_in_return_all}
@@ -54,7 +54,9 @@ use Rattle.core_lines.specs.Saved.{results_in, results_all, live_at_start, saves
 use Rattle.core_lines.specs.Selected.{Surroundings, frame_bytes, offsets_from, datum_locals, local_home, local_offset, immediate_for, has_operand, both_code}
 use Rattle.core_lines.specs.Selected.{number_in, keep_result, narrow_kept, applied_kept, get_code, put_code, operation_code, labels_in, labels_of}
 use Rattle.core_lines.specs.Selected.{labels_within, holding, naming, names_after, names_after_all, within_block, statement_code, statements_code, around}
-use Rattle.core_lines.specs.Selected.{ended_code, function_code, functions_code, program_code}
+use Rattle.core_lines.specs.Selected.{ended_code, function_code, functions_code, program_code, statements_behind, home_behind, first_code, later_code}
+use Rattle.core_lines.specs.Straight.{straight_operation, straight_code}
+use Rattle.core_lines.proofs.labels.NoTargets.{straight_none}
 use Rattle.core_meaning.specs.Selectable.{IsSelectable}
 use Rattle.core_lines.specs.Running.{DoesAsCore}
 use Rattle.core_lines.proofs.labels.NoTargets.{test_none, operation_none, check_none, between_none, behind_none, call_none, return_none}
@@ -176,6 +178,20 @@ operation_same f g keeps u (Put out local width x) = by (local_home u out local)
     by zero = refl
     by (suc h) = refl
 
+straight_same : (f g : ℕ → Bool) (keeps : Bool) (u : Surroundings) (home : ℕ) (s : Statement)
+    → straight_code keeps (with_wide f u) home s ≡ straight_code keeps (with_wide g u) home s
+straight_same f g keeps u home (Do operation) = by operation
+  where
+    of_both : (o : Binary) (x y : ℕ) (lines : Option (List Line))
+        → both_code (with_wide f u) o home x y lines ≡ both_code (with_wide g u) o home x y lines
+    of_both o x y None = refl
+    of_both o x y (Some lines) = refl
+
+    by : (operation : Operation) → straight_operation keeps (with_wide f u) home operation ≡ straight_operation keeps (with_wide g u) home operation
+    by (Apply o t x y) = ap (λ ls. ls ++ keep_code keeps u.passed home t) (of_both o x y (immediate_for o home (has_operand u 5 x) (source_of u.held y)))
+    by operation = refl
+straight_same f g keeps u home s = refl
+
 module _ (wide : ℕ → Bool) where
   both : (a b c d : List Line) → shortened_to wide a ≡ c → shortened_to wide b ≡ d → shortened_to wide (a ++ b) ≡ c ++ d
   both a b c d first second = append_short wide a b ∙ ap (λ ls. ls ++ shortened_to wide b) first ∙ ap (λ ls. c ++ ls) second
@@ -184,6 +200,18 @@ module _ (wide : ℕ → Bool) where
       → shortened_to wide (if reached then lines else []) ≡ (if reached then short else [])
   if_short true lines short is = is
   if_short false lines short is = refl
+
+  first_short : (home : ℕ) (keeps : Bool) (u : Surroundings) (s : Statement) (lines short : List Line) → shortened_to wide lines ≡ short
+      → shortened_to wide (first_code home keeps (with_wide far u) s lines) ≡ first_code home keeps (with_wide wide u) s short
+  first_short zero keeps u s lines short is = is
+  first_short (suc h) keeps u s lines short is =
+      no_targets_stay wide (straight_code keeps (with_wide far u) (suc h) s) (straight_none keeps (with_wide far u) (suc h) s)
+      ∙ straight_same far wide keeps u (suc h) s
+
+  later_short : (home : ℕ) (all all' others others' : List Line) → shortened_to wide all ≡ all' → shortened_to wide others ≡ others'
+      → shortened_to wide (later_code home all others) ≡ later_code home all' others'
+  later_short zero all all' others others' is other = is
+  later_short (suc h) all all' others others' is other = other
 
   choice_short : (passed : ℕ) (hs : List Holding) (t label : ℕ) → shortened_to wide (choice_code far passed hs t label) ≡ choice_code wide passed hs t label
   choice_short passed hs t label =
@@ -259,12 +287,29 @@ module _ (wide : ℕ → Bool) where
     statements_short flags u next out again (MoreStatements s ss) =
         let left = drop (results_in s) flags in
         let v = holding (held_behind u.homes u.statics u.held s) (naming (names_after s u.names) u) in
-        let others = statements_code left (with_wide far v) (next + labels_in s) out again ss in
-        let others' = statements_code left (with_wide wide v) (next + labels_in s) out again ss in
-        both (statement_code flags (with_wide far u) next out again s) (if can_complete s then others else [])
-        (statement_code flags (with_wide wide u) next out again s) (if can_complete s then others' else [])
-        (statement_short flags u next out again s)
-        (if_short (can_complete s) others others' (statements_short left v (next + labels_in s) out again ss))
+        let home = home_behind u.homes u.held s ss in
+        let keeps = flag_at flags 0 in
+        let one = statement_code flags (with_wide far u) next out again s in
+        let one' = statement_code flags (with_wide wide u) next out again s in
+        let all = statements_code left (with_wide far v) (next + labels_in s) out again ss in
+        let all' = statements_code left (with_wide wide v) (next + labels_in s) out again ss in
+        let others = statements_behind left (with_wide far v) (next + labels_in s) out again ss in
+        let others' = statements_behind left (with_wide wide v) (next + labels_in s) out again ss in
+        both (first_code home keeps (with_wide far u) s one) (if can_complete s then later_code home all others else [])
+        (first_code home keeps (with_wide wide u) s one') (if can_complete s then later_code home all' others' else [])
+        (first_short home keeps u s one one' (statement_short flags u next out again s))
+        (if_short (can_complete s) (later_code home all others) (later_code home all' others')
+        (later_short home all all' others others' (statements_short left v (next + labels_in s) out again ss)
+        (behind_short left v (next + labels_in s) out again ss)))
+
+    behind_short : (flags : List Bool) (u : Surroundings) (next out again : ℕ) (ss : Statements)
+        → shortened_to wide (statements_behind flags (with_wide far u) next out again ss) ≡ statements_behind flags (with_wide wide u) next out again ss
+    behind_short flags u next out again NoStatements = refl
+    behind_short flags u next out again (MoreStatements s ss) =
+        let left = drop (results_in s) flags in
+        let v = holding (held_behind u.homes u.statics u.held s) (naming (names_after s u.names) u) in
+        if_short (can_complete s) (statements_code left (with_wide far v) (next + labels_in s) out again ss)
+        (statements_code left (with_wide wide v) (next + labels_in s) out again ss) (statements_short left v (next + labels_in s) out again ss)
 
   function_short : (statics : List ℕ) (number next : ℕ) (f : Function)
       → shortened_to wide (function_code far statics number next f) ≡ function_code wide statics number next f
@@ -294,7 +339,7 @@ module _ (wide : ℕ → Bool) where
 
   program_short : (p : Program) → shortened_to wide (program_code far p) ≡ program_code wide p
   program_short p =
-      let stub : List Line = (CallTo p.main ∷ []) ++ environment_code 0 in
+      let stub : List Line = stack_start_code ++ (CallTo p.main ∷ []) ++ environment_code 0 in
       let statics = offsets_from 0 (datum_locals p.data_objects) in
       both stub (functions_code far statics 0 (length p.functions) p.functions) stub (functions_code wide statics 0 (length p.functions) p.functions) refl
       (functions_short statics 0 (length p.functions) p.functions)

@@ -21,6 +21,10 @@ use Rattle.core_lines.specs.Completing.{can_complete, can_complete_all, ends_in_
 use Rattle.core_lines.specs.Saved.{results_in, results_all, live_at_start, saves_at}
 use Rattle.core_lines.specs.Selected.{operation_code, labels_in, labels_of, labels_within, holding, naming, names_after, names_after_all, within_block}
 use Rattle.core_lines.specs.Selected.{statement_code, statements_code, around, ended_code, function_code, functions_code, program_code}
+use Rattle.core_lines.specs.Selected.{statements_behind, home_behind, later_code}
+use Rattle.core_lines.specs.Straight.{straight_code}
+use Rattle.core_lines.proofs.Straight.{first_either, later_either}
+use Rattle.core_lines.proofs.labels.NoTargets.{straight_none}
 use Rattle.core_lines.specs.Running.{data_offsets}
 use Rattle.core_lines.specs.Homes.{saved_by, saved_slot, flag_at}
 use Rattle.core_lines.proofs.labels.NoTargets.{check_none, targets_append, operation_none, choice_one, between_none, behind_none, call_none, return_none}
@@ -152,7 +156,25 @@ mutual
       let left = drop (results_in s) flags in
       let free = next + labels_in s in
       let v = holding (held_behind u.homes u.statics u.held s) (naming (names_after s u.names) u) in
-      join next (next + labels_of (MoreStatements s ss)) (statement_targets flags u next out again s)
+      let home = home_behind u.homes u.held s ss in
+      let keeps = flag_at flags 0 in
+      let all = statements_code left v free out again ss in
+      let others = statements_behind left v free out again ss in
+      join next (next + labels_of (MoreStatements s ss))
+      (first_either (TargetsFrom next free) home keeps u s (statement_code flags u next out again s) (statement_targets flags u next out again s)
+      (none_from next free (straight_code keeps u home s) (straight_none keeps u home s)))
+      (either_from free (free + labels_of ss) (can_complete s) (later_code home all others)
+      (later_either (TargetsFrom free (free + labels_of ss)) home all others (statements_targets left v free out again ss) (behind_targets left v free out again ss)))
+      (omega arith) (omega arith) (omega arith) (omega arith) (inl (omega arith))
+
+  behind_targets : (flags : List Bool) (u : Surroundings) (next out again : ℕ) (ss : Statements) → TargetsFrom next (next + labels_of ss)
+      (statements_behind flags u next out again ss)
+  behind_targets flags u next out again NoStatements = none_from next (next + 0) [] refl
+  behind_targets flags u next out again (MoreStatements s ss) =
+      let left = drop (results_in s) flags in
+      let free = next + labels_in s in
+      let v = holding (held_behind u.homes u.statics u.held s) (naming (names_after s u.names) u) in
+      join next (next + labels_of (MoreStatements s ss)) (none_from next next [] refl)
       (either_from free (free + labels_of ss) (can_complete s) (statements_code left v free out again ss) (statements_targets left v free out again ss))
       (omega arith) (omega arith) (omega arith) (omega arith) (inl (omega arith))
 

@@ -69,6 +69,7 @@ module _ (w : World) (order : IsInOrder w) (mem : Memory) (place : ℕ) (m : Map
     there = refl;
     aligned = aligned;
     pointer = stay 2 refl ∙ stands.pointer;
+    stack_start = stay 3 refl ∙ stands.stack_start;
     small = stands.small;
     kept = stands.kept;
     stacked = stands.stacked;
@@ -167,6 +168,7 @@ module _ (w : World) (order : IsInOrder w) (mem : Memory) (place : ℕ) (m : Map
           there = refl;
           aligned = behind place (save_code (suc r) k) stands.aligned;
           pointer = p.kept 2 refl refl ∙ stands.pointer;
+          stack_start = p.kept 3 refl refl ∙ stands.stack_start;
           small = writes.small stands.small;
           kept = λ q under. writes.outside q (inl (omega (arith, under, above))) ∙ stands.kept q under;
           stacked = (

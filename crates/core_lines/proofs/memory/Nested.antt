@@ -177,6 +177,7 @@ enters_block w order x outer p ls mem place s laid_out room nest tiny homes_fit 
           there = a.stands.there;
           aligned = a.stands.aligned;
           pointer = a.stands.pointer;
+          stack_start = a.stands.stack_start;
           small = a.stands.small;
           kept = a.stands.kept;
           stacked = (laid_homed a.sp zoned1 with1 fr.saves fr.callers l.stacked.0, l.stacked.1);

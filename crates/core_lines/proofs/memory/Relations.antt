@@ -6,7 +6,7 @@ use Rattle.cyc_words.specs.Events as events
 use Rattle.arena_laws.specs.Lawful.{Answer}
 use Rattle.arena_laws.specs.Counts.{block_limit}
 use Rattle.rv32_machine.specs.Arrays.{longest_stack}
-use Rattle.rv32_machine.specs.State.{Areas, Stop, Mode, Runs, Over, code_base, data_base}
+use Rattle.rv32_machine.specs.State.{Areas, Stop, Mode, Runs, Over, code_base, data_base, stack_base}
 use Rattle.rv32_machine.specs.Run.{Run, run_steps}
 use Rattle.rv32_machine.specs.Implements.{IsCut, IsRefused, HasNoFrame, active_after}
 use Rattle.rv32_machine.proofs.LongerRuns.{AreLawful}
@@ -86,11 +86,11 @@ pub record Led (w : World) (r : Run) (o : Outcome Event) : Type 0 where
   pub events : r.events ≡ visible (named w.names o.events)
   pub ends : IsAt o.ending r.state.mode
 
--- Or it is cut by two steps more, where these functions are active: a run that is refused the stack takes up to two more than one that enters a function.
+-- Or it is cut by three steps more, where these functions are active: a run that is refused the stack takes up to three more than one that enters a function.
 pub record Cut (w : World) (active : List (List ℕ)) (r : Run) (o : Outcome Event) : Type 0 where
   pub last : Run
-  pub soon : run_steps w.areas 2 r ≡ last
-  pub lawful : AreLawful w.areas 2 r
+  pub soon : run_steps w.areas 3 r ≡ last
+  pub lawful : AreLawful w.areas 3 r
   pub why : Cause
   pub over : last.state.mode ≡ Over (stop_of why)
   pub refused : last.refused ≡ refused_of why
@@ -263,12 +263,13 @@ StackShows w m [] (a ∷ fs) = ⊥
 StackShows w m (x ∷ xs) [] = ⊥
 StackShows w m (x ∷ xs) (a ∷ fs) = FrameShows w m x (back_of w xs) a × StackShows w m xs fs
 
--- the machine runs at a place, with its frames from `sp` on, and x2 here
+-- the machine runs at a place, with its frames from `sp` on, x2 here, and x3 at the stack's start
 pub record Stands (w : World) (mem : Memory) (place : ℕ) (m : Maps) (fs : List Activation) (sp x2 : ℕ) (s : Machine) : Type 0 where
   pub runs : s.mode ≡ Runs
   pub there : s.pc ≡ code_base + place
   pub aligned : place % 4 ≡ 0
   pub pointer : s.registers 2 ≡ x2
+  pub stack_start : s.registers 3 ≡ stack_base
   pub small : (q : ℕ) → s.bytes q < 256
   pub kept : (q : ℕ) → q < data_base → s.bytes q ≡ w.code q
   pub stacked : Stacked w.areas sp fs

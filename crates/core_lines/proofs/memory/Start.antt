@@ -1,12 +1,12 @@
 -- From the start to the end of a program: the machine calls `main`, and ends with what it returns.
 use Rattle.std.specs.Prelude.{slice_get, if◌then◌else◌}
-use Rattle.std.proofs.Common.{◌≡◌, ◌≢◌, ℕ, zero, suc, pos, ◌+◌, ◌%◌, ◌^◌, ◌<◌, ◌≤◌, ◌⊎◌, ⊎_elim, inl, true, false, length, List, [], ◌∷◌, Some, None, refl, sym, ap, ◌∙◌, subst, arith}
+use Rattle.std.proofs.Common.{◌≡◌, ◌≢◌, ℕ, zero, suc, pos, ◌+◌, ◌%◌, ◌^◌, ◌<◌, ◌≤◌, ◌⊎◌, ⊎_elim, inl, true, false, length, List, [], ◌∷◌, ◌++◌, Some, None, refl, sym, ap, ◌∙◌, subst, arith}
 use Rattle.std.proofs.lemmas.Bool.{ne_eqb, cases_lt}
 use Rattle.std.proofs.lemmas.Option.{none-some}
 use Rattle.cyc_words.specs.Words.{word, sum_of}
 use Rattle.cyc_words.specs.Events.{AreBytes, SourceEnding}
-use Rattle.rv32_isa.specs.declared.instruction.Instr.TheVariants.{Addi, Ecall, Jal}
-use Rattle.rv32_machine.specs.State.{Stop, Runs, Over, code_base, data_base, stack_end, set_register}
+use Rattle.rv32_isa.specs.declared.instruction.Instr.TheVariants.{Lui, Addi, Ecall, Jal}
+use Rattle.rv32_machine.specs.State.{Stop, Runs, Over, code_base, data_base, stack_base, stack_end, set_register}
 use Rattle.rv32_machine.specs.Run.{Run}
 use Rattle.rv32_machine.specs.Ledger.{Ledger, unborn}
 use Rattle.rv32_machine.specs.Implements.{Implements}
@@ -19,16 +19,18 @@ use Rattle.core_meaning.specs.Meaning.{first_memory, status_of, datum_parts}
 use Rattle.core_meaning.specs.Steps.{Step}
 use Rattle.core_lines.specs.declared.line.Line.TheVariants.{Plain, CallTo}
 use Rattle.core_lines.specs.Lines.{offset_to}
+use Rattle.core_lines.specs.Frames.{upper_of, stack_start_code}
 use Rattle.core_meaning.specs.Operations.{too_far}
 use Rattle.core_lines.specs.Homes.{is_home}
 use Rattle.core_lines.specs.Machines.{Machine, Store, state_of}
 use Rattle.core_lines.specs.Lies.{Shows, read, Name, Slot, Cell, same_name, Lies, Among, CellGround, Ground, Fits, Known, HoldsBlocks}
 use Rattle.core_lines.specs.Selected.{datum_locals}
 use Rattle.core_lines.specs.Running.{named, core_run, in_data, first_base, first_maps, ShowsData}
-use Rattle.core_lines.proofs.homes.Homes.{homes_of, set_stays}
+use Rattle.core_lines.proofs.homes.Homes.{other_home}
 use Rattle.core_lines.proofs.memory.Relations.{Moves, Has, World, IsInOrder, Goes, Calling, Back, invoke}
 use Rattle.core_lines.proofs.memory.Moving.{Reach, Comes, goes_from, goes_stuck, and_then, by_stop}
 use Rattle.core_lines.proofs.memory.Words.{offset_joined}
+use Rattle.core_lines.proofs.memory.Slots.{set_there}
 use Rattle.core_lines.proofs.Steps.{state_at, goes_to, gives_value, step_is, is_lawful}
 use Rattle.core_lines.proofs.memory.Access.{written_out}
 use Rattle.core_lines.proofs.memory.Fitting.{width_some}
@@ -49,10 +51,10 @@ pub record IsStart (w : World) (main : ℕ) (ds : List Datum) (offsets : List �
   pub fresh : s.store.ledger ≡ unborn
   pub no_numbers : (h : ℕ) → s.store.holdings.standing h ≡ None
   pub has_pages : s.store.holdings.pages ≡ w.areas.pages
-  pub stub : Has w 0 (CallTo main ∷ Plain (Addi 17 0 (pos 0)) ∷ Plain Ecall ∷ [])
+  pub stub : Has w 0 (stack_start_code ++ CallTo main ∷ Plain (Addi 17 0 (pos 0)) ∷ Plain Ecall ∷ [])
   pub shows_data : ShowsData ds offsets s.bytes
 
-module _ (w : World) (order : IsInOrder w) (four : w.stub ≡ 4) (main : ℕ)
+module _ (w : World) (order : IsInOrder w) (eight : w.stub ≡ 8) (main : ℕ)
     (each : (f : ℕ) (fn : Function) → slice_get w.functions f ≡ Some fn → FunctionDoes w order f fn)
     (ds : List Datum) (offsets : List ℕ) (high : ℕ) (laid : LaidOut (datum_locals ds) offsets 0 high) (room : high ≤ w.areas.statics)
     (same : w.data_offsets ≡ offsets) where
@@ -176,10 +178,10 @@ module _ (w : World) (order : IsInOrder w) (four : w.stub ≡ 4) (main : ℕ)
     blocks = λ b among. absurd (subst (λ (l : Ledger). Among b l.blocks) start.fresh among);
   }
 
-  -- `main` is called
+  -- the stack's start comes into x3, and `main` is called
   calls_main : Comes w (IsStart w main ds offsets) (Calling w main [] memory [])
   calls_main = record {
-    count = 1;
+    count = 2;
     by = λ s start.
         let to = w.places main in
         let is_place = order.labels main in
@@ -193,14 +195,18 @@ module _ (w : World) (order : IsInOrder w) (four : w.stub ≡ 4) (main : ℕ)
               s.store;
           mode = start.runs i;
         }) in
-        let new = set_register 1 (code_base + (0 + 4)) s.registers in
+        let first = set_register 3 stack_base s.registers in
+        let s1 = state_at (0 + 4) first s.bytes s.store in
+        let m1 = gives_value w.areas w.code order.code_within s.store 0 s.registers s.bytes start.kept (Lui 3 (upper_of stack_base)) start.stub.0.0 3
+        stack_base (λ answer. refl) tt in
+        let new = set_register 1 (code_base + (0 + 4 + 4)) first in
         let next = state_at to new s.bytes s.store in
+        let m2 = goes_to w.areas w.code order.code_within s.store (0 + 4) first s.bytes start.kept (Jal 1 (offset_to to (0 + 4))) start.stub.2.0.0 1
+        (sum_of (code_base + (0 + 4)) (word (offset_to to (0 + 4)))) to (offset_joined code_base to (0 + 4) (omega arith) (omega (arith, within)))
+        is_place.aligned (λ answer. refl) tt in
         record {
           next = next;
-          moves = subst (λ (t : Machine). Moves w.areas 1 t next) (sym at_zero)
-              (goes_to w.areas w.code order.code_within s.store 0 s.registers s.bytes start.kept (Jal 1 (offset_to to 0)) start.stub.0.0 1
-              (sum_of (code_base + 0) (word (offset_to to 0))) to (offset_joined code_base to 0 (omega arith) (omega (arith, within))) is_place.aligned
-              (λ answer. refl) tt);
+          moves = subst (λ (t : Machine). Moves w.areas 2 t next) (sym at_zero) (and_then w.areas _ s1 next 1 1 m1 m2);
           there = record {
             maps = first_maps offsets;
             frames = [];
@@ -210,17 +216,20 @@ module _ (w : World) (order : IsInOrder w) (four : w.stub ≡ 4) (main : ℕ)
               there = refl;
               aligned = is_place.aligned;
               pointer = start.pointer;
+              stack_start = refl;
               small = start.small;
               kept = start.kept;
               stacked = refl;
               fits = first_fits s.bytes s.store start.shows_data;
-              homes = λ q is. subst (λ v. v < 2 ^ 32) (sym (homes_of new s.registers (set_stays 0 (code_base + (0 + 4)) s.registers refl) q is)) (start.words q is);
+              homes = λ q is. subst (λ v. v < 2 ^ 32)
+                  (sym (set_there 1 (code_base + (0 + 4 + 4)) q first (other_home 1 q refl is) ∙ set_there 3 stack_base q s.registers (other_home 3 q refl is)))
+                  (start.words q is);
               known = first_known s start;
               holds_blocks = first_blocks s start;
               data_based = λ o y e. ap in_data (ap (λ os. slice_get os o) (sym same) ∙ e);
             };
             stack = tt;
-            back = ap (λ k. code_base + k) (sym four);
+            back = ap (λ k. code_base + k) (sym eight);
             back_place = order.stub_place;
             passed = tt;
           };
@@ -228,7 +237,7 @@ module _ (w : World) (order : IsInOrder w) (four : w.stub ≡ 4) (main : ℕ)
   }
 
   -- and the run ends with what it returned
-  module _ (has : Has w 4 (Plain (Addi 17 0 (pos 0)) ∷ Plain Ecall ∷ [])) where
+  module _ (has : Has w 8 (Plain (Addi 17 0 (pos 0)) ∷ Plain Ecall ∷ [])) where
     ended : (most n : ℕ) (m : Memory) → Goes w most (Stops (SourceEnding.Ended n)) (Back w [] m (Word n ∷ [])) []
     ended most n m = record {
       at = λ fuel within input bytes. record {
@@ -244,22 +253,22 @@ module _ (w : World) (order : IsInOrder w) (four : w.stub ≡ 4) (main : ℕ)
       where
         exits : (s : Machine) → Back w [] m (Word n ∷ []) s → Reach w.areas 2 (λ t. t.mode ≡ Over (Stop.Ended n)) s
         exits s b =
-            let at_four : s ≡ state_at 4 s.registers s.bytes s.store =
-            written_out w order m w.stub b.maps b.frames b.sp s b.stands ∙ ap (λ p. state_at p s.registers s.bytes s.store) four in
+            let at_eight : s ≡ state_at 8 s.registers s.bytes s.store =
+            written_out w order m w.stub b.maps b.frames b.sp s b.stands ∙ ap (λ p. state_at p s.registers s.bytes s.store) eight in
             let e : (0 + 0 % 2 ^ 32) % 2 ^ 32 ≡ 0 = refl in
             let new = set_register 17 0 s.registers in
-            let s1 = state_at (4 + 4) new s.bytes s.store in
-            let m1 = gives_value w.areas w.code order.code_within s.store 4 s.registers s.bytes b.stands.kept (Addi 17 0 (pos 0)) has.0.0 17 0
+            let s1 = state_at (8 + 4) new s.bytes s.store in
+            let m1 = gives_value w.areas w.code order.code_within s.store 8 s.registers s.bytes b.stands.kept (Addi 17 0 (pos 0)) has.0.0 17 0
             (λ answer. refl) tt in
             let why = Stop.Ended (s.registers 10) in
             let last = record s1 { mode = Over why } in
             let m2 : Moves w.areas 1 s1 last =
             by_stop w.areas s1 last refl why (λ answer. step_is w.areas w.code order.code_within s.store
-            (4 + 4) new s.bytes b.stands.kept Ecall has.2.0.0 answer)
-            (is_lawful w.areas w.code order.code_within s.store (4 + 4) new s.bytes b.stands.kept Ecall has.2.0.0 tt) in
+            (8 + 4) new s.bytes b.stands.kept Ecall has.2.0.0 answer)
+            (is_lawful w.areas w.code order.code_within s.store (8 + 4) new s.bytes b.stands.kept Ecall has.2.0.0 tt) in
             record {
               next = last;
-              moves = subst (λ (t : Machine). Moves w.areas 2 t last) (sym at_four) (and_then w.areas _ s1 last 1 1 m1 m2);
+              moves = subst (λ (t : Machine). Moves w.areas 2 t last) (sym at_eight) (and_then w.areas _ s1 last 1 1 m1 m2);
               there = ap (λ k. Over (Stop.Ended k)) b.results.0;
             }
 
@@ -287,7 +296,7 @@ module _ (w : World) (order : IsInOrder w) (four : w.stub ≡ 4) (main : ℕ)
         ending = λ fuel. (core_run w.functions fuel program input).ending;
       })
   program_does s start input bytes sound =
-      let has = start.stub.2 in
+      let has = start.stub.2.2 in
       implements w s input bytes program (IsStart w main ds offsets) start
       (λ k. goes_from w (IsStart w main ds offsets) [] k program (Calling w main [] memory []) calls_main
       (bodies_go w order each k main [] status_of memory [] (λ values m. status_goes has k values m))) sound start.fresh

@@ -8,7 +8,7 @@ use Rattle.core_meaning.specs.Operations.{too_far, low_byte}
 use Rattle.core_meaning.proofs.Spots.{spot_same}
 use Rattle.core_lines.specs.Machines.{Store}
 use Rattle.core_lines.specs.Lies.{Maps, Shows, Known}
-use Rattle.core_lines.proofs.memory.Fitting.{Writes, writes_word, writes_byte, store_fits, part_change, allowed, IsWidth, if_split}
+use Rattle.core_lines.proofs.memory.Fitting.{if_split}
 
 pub live_lasts : (t : Standing) → is_live t ≡ true → t ≡ Dead → ⊥
 live_lasts t live dead = cc (live, ap is_live dead)

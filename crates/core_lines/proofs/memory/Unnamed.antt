@@ -62,6 +62,7 @@ owned_at w order x outer offsets high mem place held s nest blocks laid room non
         there = a.stands.there;
         aligned = a.stands.aligned;
         pointer = a.stands.pointer;
+        stack_start = a.stands.stack_start;
         small = a.stands.small;
         kept = a.stands.kept;
         stacked = l.stacked;

@@ -79,6 +79,7 @@ module _ (w : World) (order : IsInOrder w) (x : Waiting) (outer : List Waiting) 
               there = refl;
               aligned = omega (arith, aligned);
               pointer = pointer;
+              stack_start = stands.stack_start;
               small = writes.small stands.small;
               kept = λ q under. writes.outside q (inl (omega (arith, under, above))) ∙ stands.kept q under;
               stacked = (

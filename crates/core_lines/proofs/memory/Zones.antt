@@ -150,6 +150,7 @@ leaves w x outer m p ps k ks mem place frame others sp x2 s nest blocks differ s
             there = stands.there;
             aligned = stands.aligned;
             pointer = stands.pointer;
+            stack_start = stands.stack_start;
             small = stands.small;
             kept = stands.kept;
             stacked = (

@@ -43,7 +43,6 @@ use Rattle.core_lines.specs.declared.comparison.Condition.{Condition}
 use Rattle.core_lines.specs.declared.comparison.Condition.TheVariants as condition
 use Rattle.core_lines.specs.declared.comparison.Comparison.{Comparison}
 use Rattle.core_lines.specs.Comparisons.{holds}
-use Rattle.core_lines.specs.declared.line.Line.{Line}
 use Rattle.core_lines.specs.Lines.{code_length}
 use Rattle.core_lines.specs.Machines.{Machine}
 use Rattle.core_lines.specs.Lies.{Maps, Shows}
@@ -66,10 +65,9 @@ use Rattle.core_lines.specs.Held.{
   comparison_of,
 }
 use Rattle.core_lines.specs.Operands.{operand_in}
-use Rattle.core_lines.specs.Selected.{Surroundings, binary_code, immediate_code, immediate_for, both_code, apply_code, applied_kept, keep_result}
+use Rattle.core_lines.specs.Selected.{Surroundings, immediate_for, apply_code, applied_kept, keep_result}
 use Rattle.core_lines.proofs.memory.Relations.{World, IsInOrder, Has, Waiting, Follows, keeping}
 use Rattle.core_lines.proofs.memory.Moving.{Comes}
-use Rattle.core_lines.proofs.frames.Passing.{has_first, has_second}
 use Rattle.core_lines.proofs.operations.Judging.{verdict_into}
 use Rattle.core_lines.proofs.operations.Registers.{
   reads,
@@ -80,21 +78,18 @@ use Rattle.core_lines.proofs.operations.Registers.{
   AtHolding,
   with_there,
   InRegister,
-  InOperand,
   IsThere,
   AreThere,
   IsServed,
-  in_turn,
   there_found,
   there_without,
-  operand_some,
   result_stays,
   Alone,
-  brings,
-  operands_into,
   result_into,
 }
-use Rattle.core_lines.proofs.operations.Operations.{operand, never, word_few, move}
+use Rattle.core_lines.proofs.operations.Operations.{never, word_few, move}
+use Rattle.core_lines.proofs.operations.Computing.{Operands}
+use Rattle.core_lines.proofs.operations.Computing as computing
 use Rattle.core_lines.proofs.operations.Values.{computes, same_truth, not_less}
 use Rattle.core_lines.proofs.operations.Immediates.{immediate_computes}
 
@@ -164,73 +159,29 @@ module _ (w : World) (order : IsInOrder w) (x : Waiting) (outer : List Waiting) 
   Result m registers = InRegister (result_register t) (Word (two o a b)) m registers
       × AreThere (without_register (result_register t) hs) x.config.temps m registers
 
-  abbrev Resulting : Option (List Line) → Type 0
-  Resulting found = Has w place (both_code here o (result_register t) y z found)
+  -- the code that leaves it there
+  resulting : Has w place (apply_code here o (result_register t) y z)
       → Comes w (AtWith w x outer mem place (AreThere hs x.config.temps))
-      (AtWith w x outer mem (place + code_length (both_code here o (result_register t) y z found)) Result)
-
-  abbrev Operands : ℕ → ℕ → Maps → (ℕ → ℕ) → Type 0
-  Operands left right m registers = InOperand 5 left (x.config.temps y) m registers × InOperand 6 right (x.config.temps z) m registers
-      × AreThere hs x.config.temps m registers
-
-  -- both words in registers
-  by_registers : (middle left right l q : ℕ) → left ≡ suc l → right ≡ suc q → Has w middle (binary_code o (result_register t) left right)
-      → Comes w (AtWith w x outer mem middle (Operands left right))
-      (AtWith w x outer mem (middle + code_length (binary_code o (result_register t) left right)) Result)
-  by_registers middle zero right l q e e' has = absurd (omega (arith, e))
-  by_registers middle (suc k) zero l q e e' has = absurd (omega (arith, e'))
-  by_registers middle (suc k) (suc j) l q e e' has =
-      computes w order x outer mem (result_index t) k j a b middle (Operands (suc k) (suc j)) Result (result_stays t)
+      (AtWith w x outer mem (place + code_length (apply_code here o (result_register t) y z)) Result)
+  resulting has = computing.resulting w order x outer mem y z hs named' named'' served served' u o (result_register t) place mem Result
+      (λ middle k j has. computes w order x outer mem (result_index t) k j a b middle (Operands w order x outer mem y z hs (suc k) (suc j)) Result
+      (result_stays t)
       (λ m registers h. (
         subst (λ v. InRegister (suc k) v m registers) is h.0.0,
         subst (λ v. InRegister (suc j) v m registers) is' h.1.0,
-      )) o (λ m new old result same h. (result, there_without (result_index t) hs x.config.temps m new old same h.2)) has
-
-  both : Resulting None
-  both has =
-      let first = operand w order x outer mem hs 5 y ++ operand w order x outer mem hs 6 z in
-      let last = binary_code o (result_register t) (operand_in hs 5 y) (operand_in hs 6 z) in
-      let left = operand_some hs 4 y in
-      let right = operand_some hs 5 z in
-      in_turn w _ (λ p. AtWith w x outer mem p (Operands (operand_in hs 5 y) (operand_in hs 6 z))) (λ p. AtWith w x outer mem p Result) place first last
-      (operands_into w order x outer mem y z place hs named' named'' served served' (has_first w place first last has))
-      (by_registers (place + code_length first) (operand_in hs 5 y) (operand_in hs 6 z) left.0 right.0 left.1 right.1 (has_second w place first last has))
-
-  -- the second one as a number
-  by_number : (n : ℕ) (lines : List Line) → source_of hs z ≡ Some (Number n) → (middle left l : ℕ) → left ≡ suc l
-      → immediate_code o (result_register t) left n ≡ Some lines → Has w middle lines
-      → Comes w (AtWith w x outer mem middle (Alone w order x outer mem 5 left y hs))
-      (AtWith w x outer mem (middle + code_length lines) Result)
-  by_number n lines at middle zero l e some has = absurd (omega (arith, e))
-  by_number n lines at middle (suc k) l e some has =
-      immediate_computes w order x outer mem (result_index t) k a b middle (Alone w order x outer mem 5 (suc k) y hs) Result
-      (result_stays t) o n lines some
+      )) o (λ m new old result same h. (result, there_without (result_index t) hs x.config.temps m new old same h.2)) has)
+      (λ n lines at middle k some has.
+      immediate_computes w order x outer mem (result_index t) k a b middle (Alone w order x outer mem 5 (suc k) y hs) Result (result_stays t) o n lines some
       (λ m registers h. (
         subst (λ v. InRegister (suc k) v m registers) is h.0.0,
         subst (λ v. IsThere (Number n) v m registers) is' (there_found hs z (Number n) x.config.temps m registers h.1 at),
-      )) (λ m new old result same h. (result, there_without (result_index t) hs x.config.temps m new old same h.1)) has
-
-  by_source : (lines : List Line) (s : Option Source) → source_of hs z ≡ s → immediate_for o (result_register t) (operand_in hs 5 y) s ≡ Some lines
-      → Resulting (Some lines)
-  by_source lines None at some has = absurd (cc)
-  by_source lines (Some (Register r)) at some has = absurd (cc)
-  by_source lines (Some (Compared c)) at some has = absurd (cc)
-  by_source lines (Some (Number n)) at some has =
-      let first = operand w order x outer mem hs 5 y in
-      let left = operand_some hs 4 y in
-      in_turn w _ (λ p. AtWith w x outer mem p (Alone w order x outer mem 5 (operand_in hs 5 y) y hs)) (λ p. AtWith w x outer mem p Result) place first lines
-      (brings w order x outer mem 4 y place hs named' served refl (has_first w place first lines has))
-      (by_number n lines at (place + code_length first) (operand_in hs 5 y) left.0 left.1 some (has_second w place first lines has))
-
-  resulting : (found : Option (List Line)) → immediate_for o (result_register t) (operand_in hs 5 y) (source_of hs z) ≡ found → Resulting found
-  resulting None e = both
-  resulting (Some lines) e = by_source lines (source_of hs z) refl e
+      )) (λ m new old result same h. (result, there_without (result_index t) hs x.config.temps m new old same h.1)) has)
+      (immediate_for o (result_register t) (operand_in hs 5 y) (source_of hs z)) refl has
 
   apply : Has w place (apply_code here o (result_register t) y z ++ keep_result keeps here t)
       → Comes w (AtHolding w x outer mem place hs) (AtHolding w (with_value (two o a b)) outer mem
       (place + code_length (apply_code here o (result_register t) y z ++ keep_result keeps here t)) (with_result t hs))
-  apply has = result_into w order x outer mem keeps after t place (Word (two o a b)) hs (apply_code here o (result_register t) y z) named follows has
-      (resulting (immediate_for o (result_register t) (operand_in hs 5 y) (source_of hs z)) refl)
+  apply has = result_into w order x outer mem keeps after t place (Word (two o a b)) hs (apply_code here o (result_register t) y z) named follows has resulting
 
   -- ---- sums with 0
 

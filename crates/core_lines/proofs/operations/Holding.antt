@@ -47,6 +47,8 @@ use Rattle.core_lines.specs.Held.{
   without_register,
   without_temporary,
   with_source,
+  with_result,
+  result_index,
   result_register,
 }
 use Rattle.core_lines.specs.Homes.{flag_at, stays}
@@ -276,6 +278,52 @@ there_source t v s hs temps m registers here a = (
   subst (λ u. IsThere s u m registers) (sym (ap (λ c. if c then v else temps t) (eq-eqb t t refl))) here,
   there_first 31 (without_temporary t hs) (set_temp t v temps) m registers (there_set t v hs temps m registers a),
 )
+
+-- what is known of other temporaries goes on being so
+there_others : (t : ℕ) (hs : List Holding) (temps : ℕ → Content) (m : Maps) (registers : ℕ → ℕ) → AreThere hs temps m registers
+    → AreThere (without_temporary t hs) temps m registers
+there_others t [] temps m registers a = tt
+there_others t (h ∷ hs) temps m registers a = by (nat_eq h.temporary t) (there_others t hs temps m registers a.1)
+  where
+    by : (c : Bool) → AreThere (without_temporary t hs) temps m registers
+        → AreThere (if c then without_temporary t hs else h ∷ without_temporary t hs) temps m registers
+    by true rest = rest
+    by false rest = (a.0, rest)
+
+-- a temporary's word is also known to be there
+pub there_also : (t : ℕ) (s : Source) (hs : List Holding) (temps : ℕ → Content) (m : Maps) (registers : ℕ → ℕ) → IsThere s (temps t) m registers
+    → AreThere hs temps m registers → AreThere (with_source t s hs) temps m registers
+there_also t s hs temps m registers here a =
+    (here, there_first 31 (without_temporary t hs) temps m registers (there_others t hs temps m registers a))
+
+-- where a temporary gets another source, it doesn't matter which one it had
+had_another : (t r : ℕ) (s : Source) (hs : List Holding)
+    → without_temporary t (without_register r (record { temporary = t; source = s } ∷ hs)) ≡ without_temporary t (without_register r hs)
+had_another t r s hs = by (is_in r s)
+  where
+    others : List Holding
+    others = without_register r hs
+
+    by : (c : Bool) → without_temporary t (if c then others else record { temporary = t; source = s } ∷ others) ≡ without_temporary t others
+    by true = refl
+    by false = ap (λ c. if c then without_temporary t others else record { temporary = t; source = s } ∷ without_temporary t others) (eq-eqb t t refl)
+
+-- a temporary's word is in another register than that of its results
+pub there_elsewhere : (t r : ℕ) (v : Content) (hs : List Holding) (temps : ℕ → Content) (m : Maps) (new old : ℕ → ℕ) → InRegister (suc r) v m new
+    → is_spare (suc r) ≡ false → Kept (suc r) new old → AreThere hs temps m old
+    → AreThere (with_source t (Register (suc r)) (without_register (suc r) (with_result t hs))) (set_temp t v temps) m new
+there_elsewhere t r v hs temps m new old here free kept a =
+    let s = Register (result_register t) in
+    let set = set_temp t v temps in
+    let own = without_register (result_register t) hs in
+    let others = take 31 (without_temporary t own) in
+    let before : AreThere others set m old = there_first 31 (without_temporary t own) set m old
+    (there_set t v own temps m old (there_without (result_index t) hs temps m old old (λ q a b. refl) a)) in
+    let after = there_others t (without_register (suc r) others) set m new (there_without r others set m new old kept before) in (
+      subst (λ u. IsThere (Register (suc r)) u m new) (sym (ap (λ c. if c then v else temps t) (eq-eqb t t refl))) (here, free),
+      there_first 31 (without_temporary t (without_register (suc r) (with_result t hs))) set m new
+          (subst (λ ls. AreThere ls set m new) (sym (had_another t (suc r) s others)) after),
+    )
 
 -- ---- what is saved
 

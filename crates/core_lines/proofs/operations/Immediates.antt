@@ -62,7 +62,7 @@ use Rattle.core_lines.proofs.operations.Values.{same_truth, is_zero, is_some, tw
 -- ---- the numbers
 
 -- lines that a test lets through are these
-let_through : (c : Bool) (lines some : List Line) → (if c then Some lines else None) ≡ Some some → (c ≡ true) × (lines ≡ some)
+pub let_through : (c : Bool) (lines some : List Line) → (if c then Some lines else None) ≡ Some some → (c ≡ true) × (lines ≡ some)
 let_through true lines some e = let same : lines ≡ some = cc in (refl, same)
 let_through false lines some e = absurd (cc)
 
@@ -70,10 +70,10 @@ let_through false lines some e = absurd (cc)
 turned_added : (a n : ℕ) → n < 2 ^ 32 → sum_of a (turned n) ≡ difference_of a n
 turned_added a n few = omega arith
 
-short_is : (n : ℕ) → is_short n ≡ true → n < 2 ^ 32 → word (lower_of n) ≡ n
+pub short_is : (n : ℕ) → is_short n ≡ true → n < 2 ^ 32 → word (lower_of n) ≡ n
 short_is n short few = short_word n short few
 
-turned_is : (a n : ℕ) → is_short (turned n) ≡ true → n < 2 ^ 32 → sum_of a (word (lower_of (turned n))) ≡ difference_of a n
+pub turned_is : (a n : ℕ) → is_short (turned n) ≡ true → n < 2 ^ 32 → sum_of a (word (lower_of (turned n))) ≡ difference_of a n
 turned_is a n short few = ap (sum_of a) (short_word (turned n) short (omega arith)) ∙ turned_added a n few
 
 below_one : (a : ℕ) → nat_lt a 1 ≡ nat_eq a 0

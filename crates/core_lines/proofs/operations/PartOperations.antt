@@ -8,7 +8,7 @@ use Rattle.core_meaning.specs.Operations.{reaches, local_spot, low_byte, fitting
 use Rattle.core_lines.specs.declared.line.Line.{Line}
 use Rattle.core_lines.specs.Machines.{Machine}
 use Rattle.core_lines.specs.Lines.{code_length}
-use Rattle.core_lines.specs.Held.{Holding, result_register, with_result, with_local, without_local, without_register}
+use Rattle.core_lines.specs.Held.{Holding, result_register, with_result, with_local, with_put, with_source, without_register, Register}
 use Rattle.core_lines.specs.Operands.{operand_in, operand_code, into_code, keep_code}
 use Rattle.core_lines.specs.Selected.{Surroundings, nth, nth_block, read_code, write_code, get_code, byte_code, put_code}
 use Rattle.core_lines.specs.Homes.{is_home}
@@ -54,7 +54,7 @@ scoped w x ns =
     record { temporaries = x.fn.temporaries; passed = x.fn.passed; blocks = ns; unnamed = length x.unnamed; data_objects = length w.data_offsets }
 
 -- what is known of temporaries doesn't speak of the memory in a configuration
-with_memory_holding : (w : World) (x : Waiting) (outer : List Waiting) (c : Config) (m : Memory) (place : ℕ) (hs : List Holding) (s : Machine)
+pub with_memory_holding : (w : World) (x : Waiting) (outer : List Waiting) (c : Config) (m : Memory) (place : ℕ) (hs : List Holding) (s : Machine)
     → AtHolding w (with_config x c) outer m place hs s → AtHolding w (with_config x (with_memory m c)) outer m place hs s
 with_memory_holding w x outer c m place hs s a =
     let b = with_there w (with_config x c) outer m place hs s a in
@@ -179,7 +179,7 @@ module _ (w : World) (order : IsInOrder w) (x : Waiting) (outer : List Waiting) 
       u = surrounding w x oss hss names low held
 
       -- and in which register
-      local_home_is : (c : Config) (out local k r : ℕ) → home_of (nth_block hss out) local ≡ Some r → slice_get c.blocks out ≡ Some k
+      pub local_home_is : (c : Config) (out local k r : ℕ) → home_of (nth_block hss out) local ≡ Some r → slice_get c.blocks out ≡ Some k
           → (m : Maps) (a : Activation) → FrameShows w m (with_config x c) (back_of w outer) a → a.homes k local ≡ Some r
       local_home_is c out local k r home block m a f =
           home_found ns x.nest oss hss c.blocks a.homes out local k r are (subst (λ (q : Phase). AreHomes q x.nest c.blocks a.homes) inside f.homes).0 block
@@ -235,7 +235,8 @@ module _ (w : World) (order : IsInOrder w) (x : Waiting) (outer : List Waiting) 
       pub put_either : (c : Config) (y out local k width h : ℕ) → IsIn x c → y < x.fn.temporaries → IsServed w x held y → IsLocal ns out local
           → nth (nth_block hss out) local ≡ h → slice_get c.blocks out ≡ Some k
           → (part : Part) → c.memory.parts (local_spot k local) 0 ≡ Some part → is_live (c.memory.standing (Frame k)) ≡ true → part.offset ≡ 0
-          → part.width ≡ width → Has w place (put_code u h width (lies_at out local) y) → Ends (without_local h held) (put_code u h width (lies_at out local) y)
+          → part.width ≡ width → Has w place (put_code u h width (lies_at out local) y)
+          → Ends (with_put (nat_eq width 1) y h held) (put_code u h width (lies_at out local) y)
           → Goes w fuel (next (with_memory (local_with c k local part (fitting width (c.temps y))) c)) (At_first c) active
       put_either c y out local k width zero is named served has_local home block part part_is live offset wide has ends =
           put_goes c y out local k is named served has_local (ap as_home home) block part part_is live offset width wide has ends
@@ -248,11 +249,11 @@ module _ (w : World) (order : IsInOrder w) (x : Waiting) (outer : List Waiting) 
           there = local_home_is c out local k (suc r) (ap as_home home) block
 
           by : (one : Bool) → Has w place (if one then byte_code u (suc r) y else into_code x.fn.passed held (suc r) y)
-              → Ends (without_register (suc r) held) (if one then byte_code u (suc r) y else into_code x.fn.passed held (suc r) y)
+              → Ends (with_put one y (suc r) held) (if one then byte_code u (suc r) y else into_code x.fn.passed held (suc r) y)
               → Goes w fuel (next (with_memory (local_with c k local part (if one then low_byte (c.temps y) else c.temps y)) c)) (At_first c) active
           by true has ends = puts_part c (local_with c k local part (low_byte (c.temps y))) (without_register (suc r) held)
               (byte_code u (suc r) y) is
               (put_byte w order (with_config x c) outer c.memory held k local r register part part_is there y named served place has) ends
-          by false has ends = puts_part c (local_with c k local part (c.temps y)) (without_register (suc r) held)
+          by false has ends = puts_part c (local_with c k local part (c.temps y)) (with_source y (Register (suc r)) (without_register (suc r) held))
               (into_code x.fn.passed held (suc r) y) is
               (put_word w order (with_config x c) outer c.memory held k local r register part part_is there y named served place has) ends

@@ -172,6 +172,7 @@ module _ (w : World) (order : IsInOrder w) (x : Waiting) (outer : List Waiting) 
           there = refl;
           aligned = aligned;
           pointer = stay 2 refl ∙ a.stands.pointer;
+          stack_start = stay 3 refl ∙ a.stands.stack_start;
           small = small;
           kept = kept;
           stacked = a.stands.stacked;

@@ -57,6 +57,8 @@ pub use Rattle.core_lines.proofs.operations.Holding.{
   there_without,
   there_set,
   there_source,
+  there_also,
+  there_elsewhere,
   IsServed,
   served_first,
   served_others,

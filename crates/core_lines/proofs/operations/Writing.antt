@@ -68,6 +68,7 @@ module _ (w : World) (order : IsInOrder w) (x : Waiting) (outer : List Waiting) 
                   there = refl;
                   aligned = omega (arith, aligned);
                   pointer = a.stands.pointer;
+                  stack_start = a.stands.stack_start;
                   small = writes.small a.stands.small;
                   kept = λ q under. writes.outside q (inl (let above = ac.may.above in omega (arith, under, above))) ∙ a.stands.kept q under;
                   stacked = a.stands.stacked;

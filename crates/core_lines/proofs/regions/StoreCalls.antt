@@ -83,6 +83,7 @@ module _ (w : World) (order : IsInOrder w) (x : Waiting) (outer : List Waiting) 
       there = refl;
       aligned = (let even = a.stands.aligned in omega (arith, even));
       pointer = stay 2 refl ∙ a.stands.pointer;
+      stack_start = stay 3 refl ∙ a.stands.stack_start;
       small = a.stands.small;
       kept = a.stands.kept;
       stacked = a.stands.stacked;

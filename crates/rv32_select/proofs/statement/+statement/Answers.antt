@@ -1,5 +1,5 @@
 use Rattle.std.proofs.Common.{◌≡◌, ◌∙◌, ◌+◌, ◌++◌, ℕ, Bool, true, false, List, [], ◌∷◌, arith, rules, sym, ap, ap₂, subst, drop, map, reverse}
-use Rattle.std.specs.Prelude.{IfOk, OnOk, Result, take, ◌&&◌, if◌then◌else◌}
+use Rattle.std.specs.Prelude.{IfOk, OnOk, Result, take, nat_eq, not, ◌&&◌, if◌then◌else◌}
 use Rattle.std.specs.declared.alloc.AllocError.{AllocError}
 use Rattle.std.specs.declared.alloc.Global.{Global}
 use Rattle.std.specs.declared.vec.Vec.{Vec}
@@ -16,14 +16,16 @@ use Rattle.core_lines.specs.Choosing.{between_code}
 use Rattle.core_lines.specs.Completing.{can_complete}
 use Rattle.core_lines.specs.Saved.{results_in, results_all}
 use Rattle.core_lines.specs.Selected.{Surroundings, statement_code, statements_code, labels_in, labels_of, homes_after, holding, naming, names_after}
-use Rattle.core_lines.specs.Selected.{names_after_all}
+use Rattle.core_lines.specs.Selected.{names_after_all, home_behind}
+use Rattle.core_lines.specs.Homes.{flag_at}
 use Rattle.rv32_select.specs.Places.{surroundings, saves_left}
 use Rattle.rv32_select.proofs.Coding.{choice_lines, leave_lines, loop_lines}
 use Rattle.cyc_core.proofs.Forms.{block_tree, call_tree, do_tree, if_tree, leave_tree, return_tree, while_tree}
 use Rattle.rv32_select.proofs.Sizes.{statement_size, statements_size}
-use Rattle.rv32_select.proofs.Stepping.{same_behind, names_behind, held_there, flags_left, code_behind}
+use Rattle.rv32_select.proofs.Stepping.{same_behind, names_behind, held_there, flags_left, code_left, code_behind, straight_first}
 use Rattle.rv32_select.proofs.statement.+statement.Goals as goal
 use Rattle.rv32_select.proofs.statement.+statement.Goals.{put_statements-then-reached, put_statements-else-reached}
+use Rattle.rv32_select.proofs.statement.+statement.Goals.{put_statements-then-reached-2, put_statements-else-reached-2}
 use Rattle.rv32_select.proofs.statement.+statement.Goals.{put_statement-in-Break+in_ok-put_lines-in-Break, put_statement-in-Clear+in_ok-put_clear-in-Clear}
 use Rattle.rv32_select.proofs.statement.+statement.Goals.{put_statement-in-Continue+in_ok-put_lines-in-Continue, put_statement-in-Copy+in_ok-put_copy-in-Copy}
 use Rattle.rv32_select.proofs.statement.+statement.Goals.{put_statement-in-Raise+in_ok-put_raise-in-Raise}
@@ -75,8 +77,14 @@ put_statements-each-preserved n c =
     let e : drop i xs ≡ x ∷ drop (i + 1) xs = drop_more xs i x c.each-test.true ∙ ap (λ y. y ∷ drop (i + 1) xs) (sym c.statement-item.is) in
     let start = surroundings c.args.place.now in
     let before = surroundings c.each.place in
-    let behind = surroundings c.put_statement.new.place in
+    let behind = surroundings c.put_first.new.place in
     let rest = body_tree (drop (i + 1) xs) in
+    let left : c.behind_first-behind.result.now ≡ drop (i + 1) xs =
+    c.behind_first-behind.ensures ∙ ap (drop 1) c.each.invariant.behind ∙ drop-drop 1 i xs in
+    let home = c.home_behind-home.result in
+    let home_is : home ≡ (if c.each.placed then 0 else home_behind before.homes before.held (statement_tree x) rest) =
+    c.home_behind-home.ensures
+    ∙ ap (λ ss. if c.each.placed then 0 else home_behind before.homes before.held (statement_tree x) (body_tree ss)) left in
     let here = body_tree (drop i xs) in
     let is = ap body_tree e in
     let same = c.each.invariant.same in
@@ -85,26 +93,45 @@ put_statements-each-preserved n c =
     let fewer = c.each.invariant.size in
     let labels = ap (λ ss. labels_of (body_tree ss)) e in
     let more = c.each.invariant.free in
-    let appended = c.put_statement.new.lines.items in
-    let kept = c.keep_reached.ensures ∙ ap (λ n. if c.each.reached then appended else take n appended) (c.len-kept.ensures ∙ c.each.lines.ok.0) in
-    let completes = can_complete (statement_tree x) in
-    let goes_on : c.if-reached.reached ≡ (c.each.reached && completes) =
+    let appended = c.put_first.new.lines.items in
+    let keeps : c.if-reached.keep_reached ≡ (c.each.reached && not c.each.placed) =
     elim c.if-reached.branch [
-      | put_statements-then-reached w ↦ w.reached-is ∙ w.can_complete-reached.ensures ∙ ap (λ b. b && completes) (sym w.if-reached.true)
-      | put_statements-else-reached w ↦ w.reached-is ∙ w.if-reached.false ∙ ap (λ b. b && completes) (sym w.if-reached.false)
+      | put_statements-then-reached w ↦ w.keep_reached-is ∙ ap (λ b. b && not c.each.placed) (sym w.if-reached.true)
+      | put_statements-else-reached w ↦ w.keep_reached-is ∙ w.if-reached.false ∙ ap (λ b. b && not c.each.placed) (sym w.if-reached.false)
     ] in
-    let others = statements_code (saves_left c.put_statement.new.place) behind c.in_ok-free.free c.args.ways.out c.args.ways.again rest in
+    let start_length = c.len-kept.ensures ∙ c.each.lines.ok.0 in
+    let kept = c.keep_reached.ensures ∙ (λ i. if keeps i then appended else take (start_length i) appended) in
+    let completes = can_complete (statement_tree x) in
+    let goes_on : c.if-reached-2.reached ≡ (c.each.reached && completes) =
+    elim c.if-reached-2.branch [
+      | put_statements-then-reached-2 w ↦ w.reached-is ∙ w.can_complete-reached.ensures ∙ ap (λ b. b && completes) (sym w.if-reached-2.true)
+      | put_statements-else-reached-2 w ↦ w.reached-is ∙ w.if-reached-2.false ∙ ap (λ b. b && completes) (sym w.if-reached-2.false)
+    ] in
+    let others = λ (home : ℕ). code_left (not (nat_eq home 0)) (saves_left c.put_first.new.place) behind c.in_ok-free.free c.args.ways.out
+    c.args.ways.again rest in
     record {
-      code = ap (λ b. c.keep_reached.new.lines.items ++ (if b then others else [])) goes_on
-          ∙ code_behind start before behind (statement_tree x) rest here same put.same is c.each.reached c.each.lines.items _ _ (saves_left c.each.place) _
-          c.each.free _ c.args.ways.out c.args.ways.again put.code kept put.saves put.free ∙ c.each.invariant.code;
+      code = (λ i. c.keep_reached.new.lines.items ++ (if goes_on i then others (c.number-placed.ensures.value i) else []))
+          ∙ code_behind start before behind (statement_tree x) rest here same put.same is c.each.reached c.each.placed home c.each.lines.items _ _
+          (saves_left c.each.place) _ c.each.free _ c.args.ways.out c.args.ways.again home_is put.code kept put.saves put.free ∙ c.each.invariant.code;
       free = omega (arith, put.free, labels, more);
       same = same_behind start before behind (statement_tree x) rest here same put.same is;
       names = names_behind start before behind (statement_tree x) rest here same put.same is ∙ c.each.invariant.names;
       held = held_there start before behind (statement_tree x) rest here same put.same is ∙ c.each.invariant.held;
       saves = flags_left start before behind (statement_tree x) rest here same put.same is (saves_left c.each.place) _ put.saves ∙ c.each.invariant.saves;
+      behind = left;
       size = omega (arith, size, fewer);
     }
+
+pub put_first-returns-clause-code : goal.put_first-returns-clause-code
+put_first-returns-clause-code t c =
+    let a = c.args in
+    let u = surroundings a.place.now in
+    let kept = saves_left a.place.now in
+    let s = statement_tree a.statement.now in
+    let put = c.put_statement.new.lines.items in
+    straight_first a.home (flag_at kept 0) u s a.lines.now.items c.put_straight.new.lines.items put c.keep_reached.new.lines.items
+    (statement_code kept u a.next a.ways.out a.ways.again s) c.in_ok-put_straight.ensures c.in_ok-free.ensures.code
+    (c.keep_reached.ensures ∙ (λ i. if nat_eq (c.number.ensures.value i) 0 then put else take ((c.len-kept.ensures ∙ c.put_straight.new.lines.ok.0) i) put))
 
 -- ---- a statement
 
@@ -311,12 +338,13 @@ put_statement-returns t c =
 
 -- ---- statements
 
-nothing_left : (reached : Bool) (lines : List Line) → lines ++ (if reached then [] else []) ≡ lines
-nothing_left true lines = append-nil lines
-nothing_left false lines = append-nil lines
+nothing_left : (reached placed : Bool) (lines : List Line) → lines ++ (if reached then (if placed then [] else []) else []) ≡ lines
+nothing_left true true lines = append-nil lines
+nothing_left true false lines = append-nil lines
+nothing_left false placed lines = append-nil lines
 
-pub put_statements-put_statement-requires : goal.put_statements-put_statement-requires
-put_statements-put_statement-requires t c =
+pub put_statements-put_first-requires : goal.put_statements-put_first-requires
+put_statements-put_first-requires t c =
     let xs = c.args.statements.now in
     let i = c.each.statement-index in
     let x = c.statement-item.result in
@@ -337,8 +365,8 @@ put_statements-returns t c =
     let names = ap (λ xs. names_after_all (body_tree xs) place.names) (sym none) ∙ before.names in
     record {
       code =
-          sym (nothing_left c.each.reached lines) ∙ ap (λ xs. lines ++ (if c.each.reached then
-          statements_code left place c.each.free ways.out ways.again (body_tree xs) else [])) (sym none) ∙ before.code;
+          sym (nothing_left c.each.reached c.each.placed lines) ∙ ap (λ xs. lines ++ (if c.each.reached then
+          code_left c.each.placed left place c.each.free ways.out ways.again (body_tree xs) else [])) (sym none) ∙ before.code;
       free = none_more c.each.free ∙ ap (λ xs. c.each.free + labels_of (body_tree xs)) (sym none) ∙ before.free;
       same = before.same ∙ (λ i. holding (held i) (naming (names i) start));
       saves = ap (λ xs. drop (results_all (body_tree xs)) left) (sym none) ∙ before.saves;

@@ -5,10 +5,14 @@ use Rattle.core_lines.specs.Selected.{statements_code, labels_of, names_after_al
 use Rattle.core_lines.specs.Saved.{results_all}
 use Rattle.rv32_select.specs.Places.{surroundings, saves_left}
 use Rattle.rv32_select.proofs.Sizes.{statement_size, statements_size}
+use Rattle.rv32_select.proofs.Stepping.{code_left}
 use Rattle.rv32_select.proofs.statement.+statement.Given as goal
 
 abbrev pub decreases-put_statement : goal.decreases-put_statement
 decreases-put_statement l = 2 * statement_size (statement_tree l.statement.now)
+
+abbrev pub decreases-put_first : goal.decreases-put_first
+decreases-put_first l = 2 * statement_size (statement_tree l.statement.now) + 1
 
 abbrev pub decreases-put_statements : goal.decreases-put_statements
 decreases-put_statements l = 2 * statements_size (body_tree l.statements.now)
@@ -32,7 +36,7 @@ decreases-put_leavable l = 2 * statements_size (body_tree l.body.now) + 1
 abbrev pub invariant-put_statements-each : goal.invariant-put_statements-each
 invariant-put_statements-each l = record {
   code : l.lines.items ++ (if l.reached then
-      statements_code (saves_left l.place) (surroundings l.place) l.free l.ways.out l.ways.again (body_tree (drop l.statement-index l.statements)) else []) ≡
+      code_left l.placed (saves_left l.place) (surroundings l.place) l.free l.ways.out l.ways.again (body_tree (drop l.statement-index l.statements)) else []) ≡
       l.initial.lines.items ++
       statements_code (saves_left l.initial.place) (surroundings l.initial.place) l.next l.ways.out l.ways.again (body_tree l.statements);
   free : l.free + labels_of (body_tree (drop l.statement-index l.statements)) ≡ l.next + labels_of (body_tree l.statements);
@@ -44,5 +48,6 @@ invariant-put_statements-each l = record {
       held_behind_all (surroundings l.initial.place).homes (surroundings l.initial.place).statics (surroundings l.initial.place).held (body_tree l.statements);
   saves : drop (results_all (body_tree (drop l.statement-index l.statements))) (saves_left l.place) ≡
       drop (results_all (body_tree l.statements)) (saves_left l.initial.place);
+  behind : l.behind ≡ drop l.statement-index l.statements;
   size : statements_size (body_tree (drop l.statement-index l.statements)) ≤ statements_size (body_tree l.statements);
 }

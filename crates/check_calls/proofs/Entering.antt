@@ -1,13 +1,17 @@
 -- Calls of functions whose arguments fit.
 use Rattle.std.specs.Prelude.{nat_le, ◌&&◌, ◌+◌, ◌*◌, ◌++◌, if◌then◌else◌}
-use Rattle.std.proofs.Common.{◌≡◌, ◌∙◌, ℕ, Bool, true, false, refl, sym, ap, arith}
+use Rattle.std.specs.List.{list_all}
+use Rattle.std.proofs.Common.{◌≡◌, ◌∙◌, ℕ, Bool, true, false, List, [], ◌∷◌, refl, sym, ap, arith}
 use Rattle.std.proofs.lemmas.Bool.Decides.{nat_tests}
+use Rattle.source_typing.specs.Calls.{all_ordered}
 use Rattle.source_typing.specs.Faults.{effect_rule, fault, outlives_rule, test}
 use Rattle.source_typing.proofs.Converting.{id_is}
 use Rattle.source_typing.specs.Regions.{Region, same_id}
 use Rattle.source_typing.specs.Scope.{Env, outlives}
+use Rattle.source_typing.specs.Tables.{argument}
 use Rattle.source_typing.specs.Verdicts.{Verdict, unless_faulty}
 use Rattle.check_faults.specs.Verdicts.{Short, Wrong, shortened}
+use Rattle.check_regions.specs.Once.{HaveSame}
 
 -- by both tests: Outlives is the earlier rule
 abbrev pub entered_by : {A : Type 0} → Bool → Bool → ℕ → Verdict A → Short A
@@ -25,6 +29,15 @@ tests_entered false false at v =
     ap (λ (b : Bool). Wrong (if b then fault effect_rule at else fault outlives_rule at)) later
 
 -- ---- bounds
+
+all_of : (g : Env) (rs : List Region) (bs : List (Region × Region))
+    → all_ordered g rs bs ≡ list_all (λ b. outlives g (argument rs b.0) (argument rs b.1)) bs
+all_of g rs [] = refl
+all_of g rs ((a, b) ∷ bs) = ap (λ t. outlives g (argument rs a) (argument rs b) && t) (all_of g rs bs)
+
+-- each of them is asked once
+pub once_ordered : (g : Env) (rs : List Region) (once bs : List (Region × Region)) → HaveSame once bs → all_ordered g rs once ≡ all_ordered g rs bs
+once_ordered g rs once bs h = all_of g rs once ∙ h.all (λ b. outlives g (argument rs b.0) (argument rs b.1)) ∙ sym (all_of g rs bs)
 
 -- the same is asked again
 pub same_asked : (g : Env) (a b c d : Region) → same_id a c && same_id b d ≡ true → outlives g a b ≡ true → true ≡ outlives g c d

@@ -27,6 +27,7 @@ use crate::making::struct_called;
 use crate::target::Target;
 use check_faults::{Fault, FaultKind, Verdict};
 use check_operators::{Seat, Value, argument, renamed_type};
+use check_regions::DeclaredBounds;
 use check_scopes::{Scope, Signature};
 use cyc_types::{BaseType, CType, RegionId};
 use std::alloc::{AllocError, Global};
@@ -95,6 +96,18 @@ fn are_ordered(
     Ok(true)
 }
 
+/// Whether the bounds that a function declares are in order, where its variables stand for these: each of them is asked once. Fails only
+/// where no host memory is left.
+fn are_kept(
+    scope: &Scope,
+    regions: &[RegionId],
+    bounds: &DeclaredBounds,
+) -> Result<bool, AllocError>
+    ensures { (g : Env) → Sees scope.now g → IfOk result (λ b. b ≡ all_ordered g (regions_of regions.now) bounds.now) }
+{
+    are_ordered(scope, regions, bounds.once())
+}
+
 /// The value that a call has, where its type is known.
 fn given_if<'p>(at: u32, of: Option<CType<'p>>) -> Verdict<Value<'p>>
     ensures { short_of value_of result ≡ shortened (given_of at (option_map static_type of.entry)) }
@@ -155,7 +168,7 @@ fn call_entered<'p>(
         → IfOk result (λ v. short_of value_of v ≡ shortened (call_entered g at (signature_of signature.now) (regions_of regions.now))) }
 {
     let are_live = are_live(scope, regions, signature.effect.as_slice());
-    let are_ordered = are_ordered(scope, regions, signature.bounds.as_slice())?;
+    let are_ordered = are_kept(scope, regions, &signature.bounds)?;
     let of = renamed_result(regions, &signature.result)?;
     Ok(entered(at, are_live, are_ordered, of))
 }

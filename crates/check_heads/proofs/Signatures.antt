@@ -17,7 +17,7 @@ use Rattle.check_heads.specs.declared.head.Head as found
 use Rattle.cyc_tree.specs.Tree as tree
 
 same_signature : (s : head.Signature) (t : Signature) → s.regions ≡ t.regions → map (option_map static_type) s.parameters.items ≡ t.parameters
-    → option_map static_type s.result ≡ t.result → regions_of s.effect.items ≡ t.effect → map pair_of s.bounds.items ≡ t.bounds → true ≡ t.sound
+    → option_map static_type s.result ≡ t.result → regions_of s.effect.items ≡ t.effect → s.bounds ≡ t.bounds → true ≡ t.sound
     → signature_of s ≡ t
 same_signature s t a b c d e k = λ i. record { regions = a i; parameters = b i; result = c i; effect = d i; bounds = e i; sound = k i }
 
@@ -35,11 +35,11 @@ module _ (c : found.Head) (f : tree.Function) (h : rules.Head) (is : IsHead c f 
 
   pub sound_means : (s : head.Signature) → c.fault ≡ None → s.regions ≡ c.variables.count
       → map (option_map static_type) s.parameters.items ≡ types_of c.parameters.items → option_map static_type s.result ≡ known_static c.result
-      → s.effect ≡ c.effect → s.bounds ≡ c.bounds
+      → s.effect ≡ c.effect → s.bounds ≡ map pair_of c.bounds.items
       → Means (Some (OfFunction h.signature)) (Some (code.Function s))
   sound_means s none regions parameters result effect bounds =
       subst (λ (t : Signature). Means (Some (OfFunction t)) (Some (code.Function s)))
       (same_signature s h.signature (regions ∙ is.count) (parameters ∙ is.types)
       (result ∙ is.result)
-      (ap (λ rs. regions_of rs.items) effect ∙ is.effect) (ap (λ bs. map pair_of bs.items) bounds ∙ is.bounds) (sym (ap is_none none) ∙ is.sound))
+      (ap (λ rs. regions_of rs.items) effect ∙ is.effect) (bounds ∙ is.bounds) (sym (ap is_none none) ∙ is.sound))
       (means.Means.Function s)

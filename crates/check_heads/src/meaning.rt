@@ -11,6 +11,7 @@ ghost use Rattle.check_heads.specs.Heads.{IsHead, known_static};
 
 use crate::head::{Head, Parameter};
 use check_faults::Verdict;
+use check_regions::DeclaredBounds;
 use check_scopes::{Meaning, Signature};
 use cyc_types::CType;
 use std::alloc::{AllocError, Global};
@@ -60,11 +61,12 @@ pub fn head_meaning<'p>(alloc: Global, head: Head<'p>) -> Result<Meaning<'p>, Al
     let regions = head.variables.count();
     let parameters = known_types(alloc, head.parameters.as_slice())?;
     let result = known_clone(&head.result)?;
+    let bounds = DeclaredBounds::of(alloc, head.bounds)?;
     Ok(Meaning::Function(Signature {
         regions,
         parameters,
         result,
         effect: head.effect,
-        bounds: head.bounds,
+        bounds,
     }))
 }

@@ -1,6 +1,8 @@
 pub mod Entering
 pub mod Extending
+pub mod Leading
 pub mod Naming
+pub mod Once
 pub mod Rounds
 pub mod Rows
 pub mod Ruled

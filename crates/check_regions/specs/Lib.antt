@@ -1,8 +1,10 @@
 pub mod Fields
 pub mod Marks
 pub mod Names
+pub mod Once
 pub mod Reached
 pub mod Begun
 pub mod Entered
 pub mod Scopes
 pub mod Walked
+pub mod Ways

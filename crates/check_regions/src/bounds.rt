@@ -1,15 +1,16 @@
 // The bounds of a function, and the regions that reach others by them.
 
-ghost use Rattle.std.specs.Prelude.{◌≡◌, ◌≤◌, ◌<◌, IfOk, OnOk, [], length, map};
+ghost use Rattle.std.specs.Prelude.{◌≡◌, ◌≤◌, ◌<◌, IfOk, OnOk, [], false, length, map, true};
 ghost use Rattle.cyc_types.specs.Regions.{region_of, regions_of};
 ghost use Rattle.source_typing.specs.Named.{Below, BoundsBelow};
-ghost use Rattle.source_typing.specs.Regions.{Region};
+ghost use Rattle.source_typing.specs.Regions.{Region, is_heap, same_id};
 ghost use Rattle.check_regions.specs.Fields.{pair_of};
 ghost use Rattle.check_regions.specs.Reached.{has, most, outlives_by, past, reaches_any};
 ghost use Rattle.check_regions.specs.Walked.{AreRows, ends_in, no_rows, rows_of, with_bound, with_bounds, with_region};
 
 use crate::marks::{is_marked, past};
 use crate::walk::Walk;
+use crate::ways::{Way, all_fall, depth, leads, ways_of};
 use cyc_types::RegionId;
 use std::alloc::{AllocError, Global};
 use std::marker::Model;
@@ -22,6 +23,10 @@ pub(crate) struct Bounds {
     given: Vec<Bound>,
     /// By how many marks there are up to a region: those that outlive it by one bound.
     rows: Vec<Vec<RegionId>>,
+    /// The way of each region, by how many marks there are up to it.
+    ways: Vec<Option<Way>>,
+    /// Whether each bound is between a deeper region and one that is less deep.
+    falls: bool,
 }
 
 // Written out, so that a caller's proof sees one call and not the drop of each field.
@@ -30,6 +35,8 @@ impl Drop for Bounds {
         let Bounds {
             given: _given,
             rows: _rows,
+            ways: _ways,
+            falls: _,
         } = self;
     }
 }
@@ -38,13 +45,14 @@ impl Model for Bounds {
     ghost use Rattle.std.specs.Prelude.{List, map};
     ghost use Rattle.source_typing.specs.Regions.{Region};
     ghost use Rattle.check_regions.specs.Fields.{pair_of};
-    ghost use Rattle.check_regions.specs.Walked.{AreRows, rows_of};
+    ghost use Rattle.check_regions.specs.Walked.{rows_of};
+    ghost use Rattle.check_regions.specs.Ways.{AreKept};
 
     ghost Value = { List (Region × Region) };
 
     ghost view = { λ s. map pair_of s.given.items };
 
-    ghost invariant = { λ s. AreRows (rows_of s.rows.items) (map pair_of s.given.items) };
+    ghost invariant = { λ s. AreKept (map pair_of s.given.items) (rows_of s.rows.items) s.ways.items s.falls };
 }
 
 /// How many marks serve all regions of the bounds.
@@ -121,6 +129,8 @@ impl Bounds {
         Bounds {
             given: Vec::new(alloc),
             rows: Vec::new(alloc),
+            ways: Vec::new(alloc),
+            falls: true,
         }
     }
 
@@ -129,8 +139,15 @@ impl Bounds {
         ensures { IfOk result (λ b. b ≡ map pair_of bounds.now) }
     {
         let rows = rows_of(alloc, bounds)?;
+        let ways = ways_of(alloc, bounds, rows.as_slice())?;
+        let falls = all_fall(ways.as_slice(), bounds);
         let given = Vec::from_slice(alloc, bounds)?;
-        Ok(Bounds { given, rows })
+        Ok(Bounds {
+            given,
+            rows,
+            ways,
+            falls,
+        })
     }
 
     /// How many marks serve all regions of the bounds, at least so many.
@@ -156,6 +173,23 @@ impl Bounds {
         Ok(walk.marks())
     }
 
+    /// Whether the way of a region leads to another one, or to the heap.
+    fn leads(&self, one: RegionId, other: RegionId) -> bool
+        ensures { result ≡ true → outlives_by self.now (region_of one) (region_of other) ≡ true }
+    {
+        let (ways, most) = (self.ways.as_slice(), self.given.len());
+        leads(ways, most, one, other) || leads(ways, most, one, RegionId::Heap)
+    }
+
+    /// Whether it is known of a region that it isn't deeper than another one, so that no bounds lead there.
+    fn is_no_deeper(&self, one: RegionId, other: RegionId) -> bool
+        ensures { result ≡ true → is_heap (region_of one) ≡ false → same_id (region_of one) (region_of other) ≡ false
+            → outlives_by self.now (region_of one) (region_of other) ≡ false }
+    {
+        let ways = self.ways.as_slice();
+        self.falls && depth(ways, one) <= depth(ways, other)
+    }
+
     /// Whether a region outlives another by bounds. Fails only where no host memory is left.
     pub(crate) fn outlives(
         &self,
@@ -169,6 +203,12 @@ impl Bounds {
             return Ok(true);
         }
         if self.given.is_empty() {
+            return Ok(false);
+        }
+        if self.leads(one, other) {
+            return Ok(true);
+        }
+        if self.is_no_deeper(one, other) {
             return Ok(false);
         }
         let size = self.size(past(one));

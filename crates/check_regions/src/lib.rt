@@ -6,12 +6,15 @@
 
 mod begun;
 mod bounds;
+mod declared;
 mod entry;
 mod marks;
 mod names;
 mod scope;
 mod walk;
+mod ways;
 
 pub use begun::Begun;
+pub use declared::DeclaredBounds;
 pub use names::RegionNames;
 pub use scope::{RegionMark, RegionScope};

@@ -37,7 +37,7 @@ impl Model for Walk {
 }
 
 /// Those that outlive a region by one bound.
-fn row_of(rows: &[Vec<RegionId>], region: RegionId) -> &[RegionId]
+pub(crate) fn row_of(rows: &[Vec<RegionId>], region: RegionId) -> &[RegionId]
     ensures { regions_of result.now ≡ row_of (rows_of rows.now) (region_of region) }
 {
     match rows.get(past(region)) {

@@ -4,7 +4,6 @@ use Rattle.cyc_types.specs.Regions.{region_of, regions_of}
 use Rattle.cyc_types.specs.Types.{static_type}
 use Rattle.source_typing.specs.Tables.{Arrayed, Counter, Entry, OfBuiltin, OfFunction, OfTag, OfValue, Signature, Stored, Tag, Unknown}
 use Rattle.source_typing.specs.Tables as rules
-use Rattle.check_regions.specs.Fields.{pair_of}
 use Rattle.check_scopes.specs.declared.locals.What.{What}
 use Rattle.check_scopes.specs.declared.locals.What.TheVariants as local
 use Rattle.check_scopes.specs.declared.meaning.Meaning.{Meaning}
@@ -22,7 +21,7 @@ signature_of s = record {
   parameters = map (option_map static_type) s.parameters.items;
   result = option_map static_type s.result;
   effect = regions_of s.effect.items;
-  bounds = map pair_of s.bounds.items;
+  bounds = s.bounds;
   sound = true;
 }
 

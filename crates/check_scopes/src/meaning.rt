@@ -1,5 +1,6 @@
 // What a name means.
 
+use check_regions::DeclaredBounds;
 use cyc_types::{CType, RegionId};
 
 /// A function whose head has no fault: what it takes and gives, by its region variables, which are the first levels.
@@ -12,8 +13,8 @@ pub struct Signature<'p> {
     pub result: Option<CType<'p>>,
     /// The regions that have to be live where it is called.
     pub effect: Vec<RegionId>,
-    /// Pairs of regions of which the first one outlives the other.
-    pub bounds: Vec<(RegionId, RegionId)>,
+    /// Which region outlives which.
+    pub bounds: DeclaredBounds,
 }
 
 // Written out, so that a caller's proof sees one call and not the drop of each field.

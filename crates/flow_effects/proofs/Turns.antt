@@ -1,14 +1,14 @@
 -- Passages one after another: it doesn't matter how they are grouped.
-use Rattle.std.proofs.Common.{Option, Some, None, ap, ap₂, refl, sym, ℕ, ◌∙◌, ◌≡◌}
+use Rattle.std.proofs.Common.{Option, Some, None, ap, refl, sym, ◌∙◌, ◌≡◌}
 use Rattle.source_typing.specs.States.{Gone, Held, Plain, State}
 use Rattle.check_faults.specs.Faults.{sooner_found}
 use Rattle.flow_summaries.proofs.Effects.{becomes_then}
 use Rattle.check_faults.specs.declared.fault.Fault.{Fault}
 use Rattle.flow_summaries.proofs.Passages.{after_by, both_by, no_cause_by}
 use Rattle.flow_summaries.proofs.Sooner.{none_later, sooner_joined}
-use Rattle.flow_summaries.specs.Effects.{Effect, Effects, Holds, Keeps, Loses, MayLose, becomes, then_effect, then_effects, then_way}
+use Rattle.flow_summaries.specs.Effects.{Effect, Effects, Holds, Keeps, Loses, MayLose, becomes, then_effect, then_way}
 use Rattle.flow_summaries.specs.Exits.{Exits, with_passage}
-use Rattle.flow_summaries.specs.Passages.{Caused, Faults, Passage, both_caused, both_faults, caused_after, caused_by, faults_after, in_turn, no_cause, unchanged}
+use Rattle.flow_summaries.specs.Passages.{Caused, Passage, both_caused, caused_after, caused_by, in_turn, no_cause, unchanged}
 
 -- ---- effects
 

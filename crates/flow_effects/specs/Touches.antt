@@ -38,6 +38,8 @@ abbrev pub joined : How → Touch → Touch → Touch
 joined how.Turn s t = record { effect = then_effect s.effect t.effect; caused = both_caused s.caused (caused_after s.effect t.caused) }
 joined how.After s t = record { effect = then_effect s.effect t.effect; caused = caused_after s.effect t.caused }
 joined how.Meet s t = record { effect = met_effect s.effect t.effect; caused = t.caused }
+joined how.MetBy s t = record { effect = met_effect t.effect s.effect; caused = t.caused }
+joined how.Before s t = record { effect = then_effect t.effect s.effect; caused = t.caused }
 joined how.EachWay s t = record { effect = met_effect s.effect t.effect; caused = both_caused s.caused t.caused }
 joined how.FirstWay s t = record { effect = s.effect; caused = both_caused s.caused t.caused }
 joined how.LastWay s t = record { effect = t.effect; caused = both_caused s.caused t.caused }

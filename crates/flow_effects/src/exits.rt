@@ -1,6 +1,6 @@
 // What a statement does on each way out of it.
 
-ghost use Rattle.std.specs.Prelude.{◌≡◌, ◌+◌, IfOk, None, Some, length};
+ghost use Rattle.std.specs.Prelude.{◌≡◌, ◌+◌, IfOk, None, Some, length, true};
 ghost use Rattle.cyc_tree.specs.Tree as tree;
 ghost use Rattle.flow_summaries.specs.Effects.{met_ways, no_effects, to_head};
 ghost use Rattle.flow_summaries.specs.Exits.{either_exits, ends, ends_after, entered, exits, exits_in_sequence, lent_in, loop_exits, looped, no_exits};
@@ -170,26 +170,32 @@ impl Exits {
         }
     }
 
-    /// The effects with which the head of a loop is reached, of which this is a turn. Fails only where no host memory is left.
-    fn head(&self, alloc: Global) -> Result<Table, AllocError>
-        ensures { IfOk result (λ t. effects_in (table_at t) ≡ to_head (met_ways (exits_of self.now).falls (exits_of self.now).continues)) }
+    /// This turn of a loop whose end is reached, as the loop, where its condition has these effects. All but its other ways stays in
+    /// place. Fails only where no host memory is left.
+    fn come_round(self, alloc: Global, condition: Table) -> Result<Exits, AllocError>
+        ensures { (p : rules.Passage) → p.effects ≡ effects_in (table_at condition) → self.falls ≡ true
+            → IfOk result (λ w. exits_of w ≡ looped p (exits_of self)) }
     {
-        let head = match (&self.continues, self.falls) {
-            (None, false) => return Ok(Table::nothing()),
-            (None, true) => effects_of(alloc, &self.whole.table)?,
-            (Some(continues), false) => effects_of(alloc, continues)?,
-            (Some(continues), true) => {
-                effects_of(alloc, continues)?.joined(alloc, How::Meet, &self.whole.table)?
-            }
-        };
-        Ok(head.joined_to_nothing(How::Meet))
+        let Exits {
+            whole,
+            breaks,
+            continues,
+            ..
+        } = self;
+        let left = left_by(alloc, condition, breaks)?;
+        let turn = whole.met_by(alloc, continues)?;
+        let round = turn.looped(alloc, &left)?;
+        Ok(Exits::ends_after(round))
     }
 
     /// This turn of a loop, as the loop, where its condition has these effects. Fails only where no host memory is left.
     fn looped(self, alloc: Global, condition: Table) -> Result<Exits, AllocError>
         ensures { (p : rules.Passage) → p.effects ≡ effects_in (table_at condition) → IfOk result (λ w. exits_of w ≡ looped p (exits_of self)) }
     {
-        let head = self.head(alloc)?;
+        if self.falls {
+            return self.come_round(alloc, condition);
+        }
+        let head = head_by(alloc, &self.continues)?;
         let Exits { whole, breaks, .. } = self;
         let left = left_by(alloc, condition, breaks)?.joined(alloc, How::After, &head)?;
         let turn = whole.after_effects(alloc, &head)?;
@@ -252,6 +258,20 @@ fn met_by(one: bool, other: bool) -> How
         (true, true) => How::EachWay,
         (true, false) => How::FirstWay,
         (false, _) => How::LastWay,
+    }
+}
+
+/// The effects with which the head of a loop is reached whose turns come back by a `continue` alone, where one is reached. Fails only
+/// where no host memory is left.
+fn head_by(alloc: Global, continues: &Option<Table>) -> Result<Table, AllocError>
+    ensures { IfOk result (λ t. effects_in (table_at t) ≡ to_head (way_of continues.now)) }
+{
+    match continues {
+        None => Ok(Table::nothing()),
+        Some(way) => {
+            let head = effects_of(alloc, way)?;
+            Ok(head.joined_to_nothing(How::Meet))
+        }
     }
 }
 

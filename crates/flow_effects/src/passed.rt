@@ -5,8 +5,8 @@ ghost use Rattle.flow_summaries.specs.Exits.{lent_from};
 ghost use Rattle.flow_summaries.specs.Passages as rules;
 ghost use Rattle.flow_summaries.specs.Passages.{caused_by, copied_if, faults_after, found_in, in_turn, in_turn_or_not, repeated, unchanged, used};
 ghost use Rattle.check_faults.specs.Faults.{sooner_found};
-ghost use Rattle.flow_effects.specs.Passed.{added_of, left_after, lent_within, passage_of, state_of};
-ghost use Rattle.flow_effects.specs.Tables.{effects_in, passage_in, table_at};
+ghost use Rattle.flow_effects.specs.Passed.{IsMetBy, added_of, left_after, lent_within, looped_from, passage_of, state_of};
+ghost use Rattle.flow_effects.specs.Tables.{effects_in, passage_in, table_at, way_of};
 ghost use Rattle.flow_effects.specs.Touches.{caused_of, effect_of, joined};
 
 use crate::table::Table;
@@ -174,6 +174,34 @@ impl Passed {
         ensures { IfOk result (λ p. (passage_of p).faults ≡ faults_after (effects_in (table_at first.now)) (passage_of self).faults) }
     {
         let table = self.table.joined(alloc, How::After, first)?;
+        Ok(Passed {
+            table,
+            always: self.always,
+        })
+    }
+
+    /// This, whose effects meet those of another way, where that one is reached. Fails only where no host memory is left.
+    pub fn met_by(self, alloc: Global, way: Option<Table>) -> Result<Passed, AllocError>
+        ensures { IfOk result (λ p. IsMetBy (passage_of self) (way_of way) (passage_of p)) }
+    {
+        match way {
+            None => Ok(self),
+            Some(way) => {
+                let table = self.table.joined(alloc, How::MetBy, &way)?;
+                Ok(Passed {
+                    table,
+                    always: self.always,
+                })
+            }
+        }
+    }
+
+    /// This turn of a loop as the loop, which is left from its head with these effects. Fails only where no host memory is left.
+    pub fn looped(self, alloc: Global, left: &Table) -> Result<Passed, AllocError>
+        ensures { IfOk result (λ p. passage_of p ≡ looped_from (passage_of self) (effects_in (table_at left.now))) }
+    {
+        let head = self.table.joined_to_nothing(How::Head);
+        let table = head.joined(alloc, How::Before, left)?;
         Ok(Passed {
             table,
             always: self.always,

@@ -44,6 +44,10 @@ pub enum How {
     After,
     /// The effects meet; the faults are those of the second one.
     Meet,
+    /// The effect of the second one meets that of the first one; the faults are those of the second one.
+    MetBy,
+    /// The effect of the second one, and then that of the first one; the faults are those of the second one.
+    Before,
     /// Two ways that are both reached.
     EachWay,
     /// Two ways, of which the first one is reached.
@@ -161,6 +165,14 @@ impl How {
             },
             How::Meet => Touch {
                 effect: first.effect.met(next.effect),
+                caused: next.caused,
+            },
+            How::MetBy => Touch {
+                effect: next.effect.met(first.effect),
+                caused: next.caused,
+            },
+            How::Before => Touch {
+                effect: next.effect.then(first.effect),
                 caused: next.caused,
             },
             How::EachWay => Touch {

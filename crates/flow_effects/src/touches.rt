@@ -59,8 +59,9 @@ pub fn join_nothing(how: How, next: &mut Touches)
     ensures { (i : ℕ) → touch_at next.new i ≡ joined how idle_touch (touch_at next.old i) }
 {
     match how {
-        How::Turn | How::After | How::LastWay => {}
-        How::Meet | How::EachWay | How::FirstWay | How::Pair | How::Head => each_joined(how, next),
+        How::Turn | How::After | How::Before | How::LastWay => {}
+        How::Meet | How::MetBy | How::EachWay | How::FirstWay | How::Pair | How::Head =>
+            each_joined(how, next),
     }
 }
 

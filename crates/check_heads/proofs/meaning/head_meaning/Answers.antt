@@ -11,4 +11,4 @@ returns c f h is =
     let none = none_at_fault c.args.head.fault (sym c.is_some.ensures ∙ c.if-is_some.false) in
     sound_means c.args.head f h is _ none c.count-regions.ensures
     (c.in_ok-parameters.ensures ∙ ap (λ ps. types_of ps) c.as_slice.ensures.value)
-    c.in_ok-result.ensures refl refl
+    c.in_ok-result.ensures refl c.in_ok-bounds.ensures

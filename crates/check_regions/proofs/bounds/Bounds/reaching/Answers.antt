@@ -24,5 +24,5 @@ returns c =
     c.in_ok-walk-2.ensures ∙ (λ j. levels (rows_of (c.as_slice.ensures.value j)) (c.in_ok-walk.ensures j) (count j)) in
     λ a l.
     ap (λ m. has m a) (c.marks.ensures ∙ ap (λ w. w.marks) walked)
-    ∙ all_levels c.args.size targets bs below (rows_of c.self.inside.rows.items) c.self.invariant a l
+    ∙ all_levels c.args.size targets bs below (rows_of c.self.inside.rows.items) c.self.invariant.rows_are a l
     ∙ ap (λ b. reaches_any targets b a) c.self.view_is

@@ -15,4 +15,4 @@ returns-clause-all c =
     let o = rows.ok.0 in
     let l = length-map rows.items (λ r. regions_of r.items) in
     omega (arith, e, m, o, l) in
-    subst (λ bs. BoundsBelow c.max.result bs) c.self.view_is (bounds_up (length (rows_of rows.items)) c.max.result _ long c.self.invariant.enough)
+    subst (λ bs. BoundsBelow c.max.result bs) c.self.view_is (bounds_up (length (rows_of rows.items)) c.max.result _ long c.self.invariant.rows_are.enough)

@@ -1,0 +1,7 @@
+use Rattle.std.proofs.Common.{List}
+use Rattle.source_typing.specs.Regions.{Region}
+use Rattle.check_regions.specs.Ways.{AreWays}
+use Rattle.check_regions.proofs.ways.Ways.end_each.Given as goal
+
+abbrev pub invariant-each : goal.invariant-each
+invariant-each l = (bs : List (Region × Region)) → AreWays bs l.fn.self → AreWays bs l.self

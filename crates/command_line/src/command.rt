@@ -52,6 +52,7 @@ pub enum Command<'a> {
     Check {
         input: &'a str,
         shows_why: bool,
+        shows_all: bool,
     },
     /// Writes a source's image.
     Compile {

@@ -84,7 +84,14 @@ const ENDING: Choice = Choice {
 /// Whether a refusal is told in more than its line.
 const WHY: Choice = Choice {
     name: "why",
-    help: "Shows the source's line of a fault, with a mark below the column, and what the fault means",
+    help: "Shows the source's line of a fault, with a mark below the column, what the fault means, what was found and what was wanted",
+    takes: Takes::Nothing,
+};
+
+/// Whether all faults are told.
+const ALL: Choice = Choice {
+    name: "all",
+    help: "Says one fault of each function and global: first the one that is said without it",
     takes: Takes::Nothing,
 };
 
@@ -123,7 +130,7 @@ pub const COMMANDS: [Words; 7] = [
         name: "check",
         about: "Says whether a source is accepted",
         below: SOURCE_FAULTS,
-        choices: &[SOURCE, WHY],
+        choices: &[SOURCE, WHY, ALL],
     },
     Words {
         name: "compile",

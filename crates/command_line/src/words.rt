@@ -122,6 +122,7 @@ fn read<'a>(name: &str, matches: &ArgMatches<'a>) -> Option<Command<'a>> {
         "check" => Some(Command::Check {
             input,
             shows_why: matches.get_flag("why"),
+            shows_all: matches.get_flag("all"),
         }),
         "dump" => Some(Command::Dump { input }),
         "compile" => compile(input, matches),

@@ -53,10 +53,11 @@ pub enum Command<'a> {
         input: &'a str,
         shows_why: bool,
     },
-    /// Writes a source's image.
+    /// Writes a source's image, and its map where there is a path for it.
     Compile {
         input: &'a str,
         output: &'a str,
+        map: Option<&'a str>,
         pages: Pages,
         stack_pages: Pages,
         shows_why: bool,
@@ -84,6 +85,8 @@ pub enum Command<'a> {
         input: &'a str,
         steps: u64,
         shows_ending: bool,
+        shows_where: bool,
+        shows_stats: bool,
     },
     /// Prints an image.
     Dump {

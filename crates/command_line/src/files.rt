@@ -16,19 +16,19 @@ pub fn is_same_file<F: Files>(files: &F, path: &str, other: &str) -> bool {
     }
 }
 
-/// Whether a file begins with the four bytes with which an image begins.
-fn begins_as<F: Files>(files: &F, path: &str, image: &[u8]) -> io::Result<bool> {
+/// Whether a file begins with the same four bytes as these bytes.
+fn begins_as<F: Files>(files: &F, path: &str, bytes: &[u8]) -> io::Result<bool> {
     let mut first = [0u8; 4];
     File::open(files, path)?.read_exact(&mut first)?;
-    Ok(image.get(..4) == Some(first.as_slice()))
+    Ok(bytes.get(..4) == Some(first.as_slice()))
 }
 
-/// Whether an image may be written over what a path leads to: nothing, no regular file, an empty one, or another image. So a
-/// source that stands in the place of OUT is kept.
-pub fn is_replaceable<F: Files>(files: &F, path: &str, image: &[u8]) -> bool {
+/// Whether bytes may be written over what a path leads to: nothing, no regular file, an empty one, or one that begins with the same four
+/// bytes. So a source that stands in the place of an image or of a map is kept.
+pub fn is_replaceable<F: Files>(files: &F, path: &str, bytes: &[u8]) -> bool {
     match metadata(files, path) {
         Ok(found) if found.is_file() && found.len() > 0 => {
-            begins_as(files, path, image).unwrap_or(false)
+            begins_as(files, path, bytes).unwrap_or(false)
         }
         _ => true,
     }

@@ -6,7 +6,7 @@
 
 use command_line::status::{FILE_FAULT, MEMORY, SUCCESS, usage_status};
 use command_line::{
-    Command, command_of, is_replaceable, is_same_file, shown, shown_error, words_of,
+    Command, command_of, is_replaceable, is_same_entry, is_same_file, shown, shown_error, words_of,
 };
 use cyc_words::Counted;
 use cycc_answer::{longest_file, printed};
@@ -64,9 +64,9 @@ impl Written<'_> {
         !is_same_file(rt, input, self.path) && is_replaceable(rt, self.path, self.bytes)
     }
 
-    /// Whether it is the same file as another one.
+    /// Whether it is the same file as another one, or would be.
     fn is_same(self, rt: &HostRuntime, other: &str) -> bool {
-        self.path == other || is_same_file(rt, self.path, other)
+        is_same_entry(rt, self.path, other) || is_same_file(rt, self.path, other)
     }
 
     /// Writes it, and answers the status.
@@ -96,7 +96,7 @@ fn put_both(rt: &HostRuntime, input: &str, image: Written<'_>, map: Written<'_>)
     if status != SUCCESS {
         return status;
     }
-    // two paths that lead to nothing may lead to one file once that is written
+    // a link to nothing may lead to the file that was just written
     if map.is_same(rt, image.path) {
         return refused(rt, "write", map.path);
     }

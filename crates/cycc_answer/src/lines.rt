@@ -78,8 +78,15 @@ impl<'a> Told<'a> {
                 shows_why,
                 ..little
             },
-            Command::Exec { shows_ending, .. } => Told {
+            Command::Exec {
                 shows_ending,
+                shows_where,
+                shows_stats,
+                ..
+            } => Told {
+                shows_ending,
+                shows_where,
+                shows_stats,
                 ..little
             },
             Command::Dump { .. } | Command::Explain { .. } => little,

@@ -63,7 +63,7 @@ fn pages_of(image: &[u8]) -> Option<u32> {
     Some(u32::from_le_bytes(*bytes))
 }
 
-/// What `cycc` answers to a command.
+/// What `cycc` answers to a command; a map counts as written.
 fn answered(
     alloc: Global,
     command: &Command<'_>,
@@ -78,7 +78,11 @@ fn answered(
         Some(image) => pages_of(image),
         None => None,
     };
-    found_between(answer.status, pages, reader, writer, said)
+    let mut found = found_between(answer.status, pages, reader, writer, said)?;
+    if let Some(map) = &answer.map {
+        found.written.extend_from_slice(map.as_bytes())?;
+    }
+    Ok(found)
 }
 
 /// What `cycc` answers to the words of its command line.

@@ -98,6 +98,8 @@ pub fn run_over_plain(
         Command::Exec {
             steps,
             shows_ending,
+            shows_where: false,
+            shows_stats: false,
             ..
         } => bytes_run(alloc, source, given, Told::of_exec(steps, shows_ending)),
         _ => Ok(None),

@@ -1,7 +1,7 @@
 // Which paths lead to one file, and what an image may be written over.
 
 use crate::texts::{parted, refuse};
-use command_line::{is_replaceable, is_same_file};
+use command_line::{is_replaceable, is_same_entry, is_same_file};
 use std::test::Fail;
 
 /// Whether the paths of a row lead to one file, or not, as it says.
@@ -26,6 +26,36 @@ const PATHS: &str = "\
 fn links_lead_to_one_file(rt: HostRuntime) -> Result<(), Fail> {
     for row in PATHS.lines() {
         if !is_so(&rt, row) {
+            return refuse(Some(row));
+        }
+    }
+    Ok(())
+}
+
+/// Whether the paths of a row end in one name of one folder, or not, as it says.
+fn is_so_of_entries(rt: &HostRuntime, row: &str) -> bool {
+    let (path, rest) = parted(row);
+    let (other, answer) = parted(rest);
+    is_same_entry(rt, path, other) == (answer == "one")
+}
+
+// Two paths with nothing there, and whether a file written to the one would stand at the other: spellings of one path, a folder behind a link, the
+// folder of the run, another name, another folder, and folders that there aren't.
+const ENTRIES: &str = "\
+/proc/self/nothing /proc/self/nothing one
+/proc/self/nothing /proc//self/./nothing one
+/tmp/nothing /tmp/../tmp/nothing one
+/tmp/nothing /proc/self/root/tmp/nothing one
+nothing ./nothing one
+/nothing /proc/../nothing one
+/tmp/nothing /tmp/other two
+/tmp/nothing /proc/nothing two
+/nowhere/nothing /nowhere/nothing two";
+
+#[test]
+fn spellings_of_a_path_are_one_entry(rt: HostRuntime) -> Result<(), Fail> {
+    for row in ENTRIES.lines() {
+        if !is_so_of_entries(&rt, row) {
             return refuse(Some(row));
         }
     }

@@ -52,11 +52,13 @@ pub enum Command<'a> {
     Check {
         input: &'a str,
         shows_why: bool,
+        shows_all: bool,
     },
-    /// Writes a source's image.
+    /// Writes a source's image, and its map where there is a path for it.
     Compile {
         input: &'a str,
         output: &'a str,
+        map: Option<&'a str>,
         pages: Pages,
         stack_pages: Pages,
         shows_why: bool,
@@ -84,6 +86,8 @@ pub enum Command<'a> {
         input: &'a str,
         steps: u64,
         shows_ending: bool,
+        shows_where: bool,
+        shows_stats: bool,
     },
     /// Prints an image.
     Dump {

@@ -9,6 +9,8 @@ use explanations::NAMES;
 pub enum Takes {
     /// A path, which has to be given; help calls it so.
     Path(&'static str),
+    /// A path, which may be left out; help calls it so.
+    OptionalPath(&'static str),
     /// Words, of which one at least has to be given; help calls them so.
     Several(&'static str),
     /// A number of such a form, and the one where none is given.
@@ -44,6 +46,13 @@ const OUTPUT: Choice = Choice {
     name: "output",
     help: "The image file, written only if the source is accepted; of existing files only an empty one or an image is replaced",
     takes: Takes::Path("OUT"),
+};
+
+/// The file of the map.
+const MAP: Choice = Choice {
+    name: "map",
+    help: "Writes the addresses of each function, check and call as a text; of existing files only an empty one or a map is replaced",
+    takes: Takes::OptionalPath("FILE"),
 };
 
 /// The arena's pages.
@@ -84,7 +93,14 @@ const ENDING: Choice = Choice {
 /// Whether a refusal is told in more than its line.
 const WHY: Choice = Choice {
     name: "why",
-    help: "Shows the source's line of a fault, with a mark below the column, and what the fault means",
+    help: "Shows the source's line of a fault, with a mark below the column, what the fault means, what was found and what was wanted",
+    takes: Takes::Nothing,
+};
+
+/// Whether all faults are told.
+const ALL: Choice = Choice {
+    name: "all",
+    help: "Says one fault of each function and global: first the one that is said without it",
     takes: Takes::Nothing,
 };
 
@@ -98,7 +114,7 @@ const WHERE: Choice = Choice {
 /// Whether it is told what a run took.
 const STATS: Choice = Choice {
     name: "stats",
-    help: "Says what the run executed, called, requested and took of the stack; the run is several times slower",
+    help: "Says what the run executed, called, requested and took of the stack and the arena; the run is several times slower",
     takes: Takes::Nothing,
 };
 
@@ -123,13 +139,13 @@ pub const COMMANDS: [Words; 7] = [
         name: "check",
         about: "Says whether a source is accepted",
         below: SOURCE_FAULTS,
-        choices: &[SOURCE, WHY],
+        choices: &[SOURCE, WHY, ALL],
     },
     Words {
         name: "compile",
         about: "Writes the image of a source",
         below: SOURCE_FAULTS,
-        choices: &[SOURCE, OUTPUT, PAGES, STACK_PAGES, WHY],
+        choices: &[SOURCE, OUTPUT, MAP, PAGES, STACK_PAGES, WHY],
     },
     Words {
         name: "run",
@@ -147,7 +163,7 @@ pub const COMMANDS: [Words; 7] = [
         name: "exec",
         about: "Runs an image",
         below: IMAGE_FAULTS,
-        choices: &[IMAGE, STEPS, ENDING],
+        choices: &[IMAGE, STEPS, ENDING, WHERE, STATS],
     },
     Words {
         name: "dump",

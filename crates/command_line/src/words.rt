@@ -24,6 +24,7 @@ fn arg_of<'a>(alloc: Global, choice: &Choice) -> Arg<'a> {
     let arg = Arg::new(alloc, choice.name).help(choice.help);
     match choice.takes {
         Takes::Path(name) => arg.required(true).value_name(name),
+        Takes::OptionalPath(name) => arg.long(choice.name).value_name(name),
         Takes::Several(name) => arg.required(true).value_name(name).num_args(1..),
         Takes::Number(form, default) => number(arg, choice.name, form, default),
         Takes::Nothing => arg.long(choice.name).action(ArgAction::SetTrue),
@@ -78,6 +79,7 @@ fn compile<'a>(input: &'a str, matches: &ArgMatches<'a>) -> Option<Command<'a>> 
     Some(Command::Compile {
         input,
         output,
+        map: matches.get_str("map"),
         pages: pages_of(matches, "pages")?,
         stack_pages: pages_of(matches, "stack-pages")?,
         shows_why: matches.get_flag("why"),
@@ -110,6 +112,8 @@ fn bounded<'a>(name: &str, input: &'a str, matches: &ArgMatches<'a>) -> Option<C
             input,
             steps,
             shows_ending,
+            shows_where: matches.get_flag("where"),
+            shows_stats: matches.get_flag("stats"),
         }),
         _ => None,
     }
@@ -122,6 +126,7 @@ fn read<'a>(name: &str, matches: &ArgMatches<'a>) -> Option<Command<'a>> {
         "check" => Some(Command::Check {
             input,
             shows_why: matches.get_flag("why"),
+            shows_all: matches.get_flag("all"),
         }),
         "dump" => Some(Command::Dump { input }),
         "compile" => compile(input, matches),

@@ -9,6 +9,7 @@
 
 mod ending;
 mod pace;
+mod pages;
 mod running;
 mod transfer;
 mod watch;

@@ -114,7 +114,8 @@ pub fn run<S: BlockStore, R: Input, W: Output>(
     run_at(&mut Gliding, machine, reader, writer, steps)
 }
 
-/// Runs a machine as `run` does, one step at a time, and takes in each instruction before it is executed. The watch is of the machine's code.
+/// Runs a machine as `run` does, and takes in each instruction before it is executed, one step at a time. The watch is of the machine's code, or
+/// sees nothing: then this is `run`.
 pub fn run_watched<S: BlockStore, R: Input, W: Output>(
     machine: &mut Machine<S>,
     watch: &mut Watch,

@@ -1,6 +1,7 @@
-// What is seen of a run: counts of what it executed, and its active calls.
+// What is seen of a run: counts of what it executed, its active calls, and the pages of its arena.
 
 use crate::pace::Pace;
+use crate::pages::Pages;
 use cyc_arena::BlockStore;
 use rv32_machine::{CODE_BASE, Machine};
 use std::alloc::{AllocError, Global};
@@ -18,7 +19,7 @@ const REQUEST: u32 = 0x0000_0073;
 const REQUESTS: usize = 14;
 
 /// An instruction, and what the registers held before it was executed.
-#[derive(Clone, Copy, Debug)]
+#[derive(Clone, Copy)]
 pub struct Seen {
     /// Its address.
     pub pc: u32,
@@ -60,6 +61,7 @@ fn word_at(code: &[u8], address: u32) -> u32 {
 /// What was seen of a run. Each count stays at the greatest u64.
 #[derive(Drop)]
 pub struct Watch {
+    sees: bool,
     code: Vec<u8>,
     steps: u64,
     calls: u64,
@@ -68,14 +70,16 @@ pub struct Watch {
     lowest: u32,
     active: Vec<u32>,
     unkept: u64,
+    pages: Pages,
     last: Seen,
 }
 
 impl Watch {
-    /// Nothing of a run of this code was seen.
-    pub fn new(alloc: Global, code: &[u8]) -> Result<Watch, AllocError> {
-        Ok(Watch {
-            code: Vec::from_slice(alloc, code)?,
+    /// One that sees nothing, of a run that isn't watched.
+    pub fn idle(alloc: Global) -> Watch {
+        Watch {
+            sees: false,
+            code: Vec::new(alloc),
             steps: 0,
             calls: 0,
             requests: [0; REQUESTS],
@@ -83,6 +87,7 @@ impl Watch {
             lowest: u32::MAX,
             active: Vec::new(alloc),
             unkept: 0,
+            pages: Pages::none(alloc),
             last: Seen {
                 pc: CODE_BASE,
                 word: 0,
@@ -90,7 +95,16 @@ impl Watch {
                 number: 0,
                 arguments: (0, 0),
             },
-        })
+        }
+    }
+
+    /// Nothing of a run of this code was seen.
+    pub fn new(alloc: Global, code: &[u8]) -> Result<Watch, AllocError> {
+        let mut watch = Watch::idle(alloc);
+        watch.sees = true;
+        watch.pages = Pages::new(alloc)?;
+        watch.code.extend_from_slice(code)?;
+        Ok(watch)
     }
 
     /// The code.
@@ -131,6 +145,11 @@ impl Watch {
         self.unkept
     }
 
+    /// The most pages of the arena that were taken at once, by the requests before the last instruction.
+    pub fn most_pages(&self) -> u32 {
+        self.pages.most()
+    }
+
     /// The last instruction.
     pub fn last(&self) -> Seen {
         self.last
@@ -163,6 +182,11 @@ impl Watch {
     /// Takes in an instruction that is to be executed.
     fn see(&mut self, seen: Seen) {
         self.steps = self.steps.saturating_add(1);
+        if self.last.word == REQUEST {
+            let (answer, _) = seen.arguments;
+            let last = self.last;
+            self.pages.grant(last.number, last.arguments, answer);
+        }
         self.highest = self.highest.max(seen.stack);
         self.lowest = self.lowest.min(seen.stack);
         match seen.word {
@@ -176,8 +200,11 @@ impl Watch {
 }
 
 impl Pace for Watch {
-    /// Takes in the next instruction, and goes no step ahead.
-    fn advance<S: BlockStore>(&mut self, machine: &mut Machine<S>, _limit: u64) -> u64 {
+    /// Takes in the next instruction, and goes no step ahead; or goes ahead as far as it can, and sees nothing.
+    fn advance<S: BlockStore>(&mut self, machine: &mut Machine<S>, limit: u64) -> u64 {
+        if !self.sees {
+            return machine.glide(limit);
+        }
         let seen = Seen::of(machine, &self.code);
         self.see(seen);
         0

@@ -41,7 +41,7 @@ pub fn longest_file(command: &Command<'_>) -> u64
 }
 
 /// Answers a command on the bytes of its file: what is written, what is said on standard error, the exit status, and the
-/// bytes for OUT. An Err is want of memory, of which nothing was said: status 7.
+/// bytes for OUT with the map. An Err is want of memory, of which nothing was said: status 7.
 pub fn answer<R: Input, W: Output, E: Write>(
     alloc: Global,
     command: &Command<'_>,
@@ -64,10 +64,14 @@ pub fn answer<R: Input, W: Output, E: Write>(
     match *command {
         Command::Check { .. } => Ok(Answer::plain(checked(alloc, told, file, writer, faults)?)),
         Command::Compile {
+            map,
             pages,
             stack_pages,
             ..
-        } => compiled(alloc, told, pages, stack_pages, file, faults),
+        } => {
+            let has_map = map.is_some();
+            compiled(alloc, told, pages, stack_pages, has_map, file, faults)
+        }
         Command::Run {
             pages,
             stack_pages,

@@ -5,10 +5,11 @@ ghost use Rattle.cyc_image.specs.Format.{IsImage};
 ghost use Rattle.cycc_answer.specs.Answers.{IsExec, IsDumped, IsNoImageFor};
 ghost use Rattle.cycc_answer.specs.Devices.{AreCounted};
 
-use crate::lines::{Told, ended, printed, unloaded};
+use crate::lines::{Told, printed, unloaded};
+use crate::watching::{Ran, told_of, watch_of};
 use byteorder::{ByteOrder, LittleEndian};
 use cyc_arena::PagedStore;
-use cyc_host::{GATHERED_BYTES, run};
+use cyc_host::{GATHERED_BYTES, run_watched};
 use cyc_image::{BLOCK_LIMIT, Image, ImageFault, load};
 use cyc_words::{Input, Output};
 use raw_pages::PagesFault;
@@ -25,7 +26,7 @@ fn loaded(alloc: Global, file: &[u8]) -> Result<Image, ImageFault>
     load(alloc, file)
 }
 
-/// Runs an image between a reader and a writer, and answers the status.
+/// Runs an image between a reader and a writer, says what is asked for of the run, and answers the status.
 pub fn exec<R: Input, W: Output, E: Write>(
     alloc: Global,
     told: Told<'_>,
@@ -47,6 +48,7 @@ pub fn exec<R: Input, W: Output, E: Write>(
         Ok(image) => image,
         Err(fault) => return unloaded(alloc, told.input, fault, faults),
     };
+    let mut watch = watch_of(alloc, told, image.code())?;
     let store = match PagedStore::new(alloc, image.pages()) {
         Ok(store) => store,
         Err(PagesFault::Memory) => return Err(AllocError),
@@ -55,8 +57,9 @@ pub fn exec<R: Input, W: Output, E: Write>(
     let Ok(mut machine) = Machine::new(alloc, &image, store) else {
         return Err(AllocError);
     };
-    let ending = run(&mut machine, reader, writer, steps);
-    ended(alloc, ending, Some(machine.pc()), told.shows_ending, faults)
+    let ending = run_watched(&mut machine, &mut watch, reader, writer, steps);
+    let ran = Ran::Image(machine.pc());
+    told_of(alloc, told, ran, ending, &watch, faults)
 }
 
 /// Prints an image's header and its code, and answers the status.

@@ -14,13 +14,14 @@ use cycc_driver::CompileFault;
 use std::alloc::{AllocError, Global};
 use std::io::Write;
 
-/// What lines tell of a command: the path of its file, whether a run's ending is told, whether a refusal is told in more than its line, and
-/// whether it is told where a run stopped and what it took.
+/// What lines tell of a command: the path of its file, whether a run's ending is told, whether a refusal is told in more than its line and
+/// whether those behind the first are told, and whether it is told where a run stopped and what it took.
 #[derive(Clone, Copy)]
 pub struct Told<'a> {
     pub input: &'a str,
     pub shows_ending: bool,
     pub shows_why: bool,
+    pub shows_all: bool,
     pub shows_where: bool,
     pub shows_stats: bool,
 }
@@ -32,6 +33,7 @@ impl<'a> Told<'a> {
             input,
             shows_ending: false,
             shows_why: false,
+            shows_all: false,
             shows_where: false,
             shows_stats: false,
         }
@@ -41,7 +43,16 @@ impl<'a> Told<'a> {
     pub fn of(command: &Command<'a>) -> Told<'a> {
         let little = Told::little(command.input().unwrap_or(""));
         match *command {
-            Command::Check { shows_why, .. } | Command::Compile { shows_why, .. } => Told {
+            Command::Check {
+                shows_why,
+                shows_all,
+                ..
+            } => Told {
+                shows_why,
+                shows_all,
+                ..little
+            },
+            Command::Compile { shows_why, .. } => Told {
                 shows_why,
                 ..little
             },
@@ -52,11 +63,11 @@ impl<'a> Told<'a> {
                 shows_stats,
                 ..
             } => Told {
-                input: little.input,
                 shows_ending,
                 shows_why,
                 shows_where,
                 shows_stats,
+                ..little
             },
             Command::Eval {
                 shows_ending,
@@ -67,8 +78,15 @@ impl<'a> Told<'a> {
                 shows_why,
                 ..little
             },
-            Command::Exec { shows_ending, .. } => Told {
+            Command::Exec {
                 shows_ending,
+                shows_where,
+                shows_stats,
+                ..
+            } => Told {
+                shows_ending,
+                shows_where,
+                shows_stats,
                 ..little
             },
             Command::Dump { .. } | Command::Explain { .. } => little,

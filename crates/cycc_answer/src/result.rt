@@ -2,11 +2,12 @@
 
 ghost use Rattle.std.specs.Prelude.{◌≡◌, None};
 
-/// The exit status, and the bytes for OUT where a `compile` succeeded.
+/// The exit status; and where a `compile` succeeded, the bytes for OUT, and the map if one is asked for.
 #[derive(Drop)]
 pub struct Answer {
     pub status: u8,
     pub image: Option<Vec<u8>>,
+    pub map: Option<String>,
 }
 
 impl Answer {
@@ -18,6 +19,7 @@ impl Answer {
         Answer {
             status,
             image: None,
+            map: None,
         }
     }
 }

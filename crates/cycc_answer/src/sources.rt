@@ -10,10 +10,12 @@ use crate::result::Answer;
 use crate::why::refused_in;
 use command_line::Pages;
 use command_line::status::SUCCESS;
+use cyc_image::load;
 use cyc_words::{Input, Output};
 use cycc_driver::{Limits, check, compile, evaluate, execute};
 use std::alloc::{AllocError, Global};
 use std::io::Write;
+use traces::map;
 
 /// Says whether a source is accepted, and answers the status.
 pub fn checked<W: Output, E: Write>(
@@ -36,12 +38,29 @@ pub fn checked<W: Output, E: Write>(
     }
 }
 
-/// Compiles a source, and answers with its image.
+/// The map of a source with this image, if it is asked for.
+fn map_of(
+    alloc: Global,
+    has_map: bool,
+    file: &[u8],
+    image: &[u8],
+) -> Result<Option<String>, AllocError> {
+    if !has_map {
+        return Ok(None);
+    }
+    let Ok(image) = load(alloc, image) else {
+        return Err(AllocError);
+    };
+    Ok(Some(map(alloc, file, image.code())?))
+}
+
+/// Compiles a source, and answers with its image, and its map if it is asked for.
 pub fn compiled<E: Write>(
     alloc: Global,
     told: Told<'_>,
     pages: Pages,
     stack_pages: Pages,
+    has_map: bool,
     file: &[u8],
     faults: &mut E,
 ) -> Result<Answer, AllocError>
@@ -50,6 +69,7 @@ pub fn compiled<E: Write>(
     match compile(alloc, file, pages.number(), stack_pages.number()) {
         Ok(image) => Ok(Answer {
             status: SUCCESS,
+            map: map_of(alloc, has_map, file, &image)?,
             image: Some(image),
         }),
         Err(fault) => Ok(Answer::plain(refused_in(alloc, told, file, fault, faults)?)),

@@ -1,11 +1,11 @@
-// Runs of sources that are watched, and what is said of them.
+// Runs that are watched, and what is said of them.
 
 ghost use Rattle.std.specs.Prelude.{◌≡◌, ◌≤◌, IfOk};
 ghost use Rattle.cycc_answer.specs.Answers.{IsRun};
 ghost use Rattle.cycc_answer.specs.Devices.{AreCounted};
 ghost use Rattle.cycc_answer.specs.Statuses.{status_of};
 
-use crate::lines::{Told, ended};
+use crate::lines::{Told, ended, say};
 use crate::why::refused_in;
 use cyc_host::{Ending, Watch};
 use cyc_words::{Input, Output};
@@ -16,7 +16,7 @@ use rv32_machine::{
 };
 use std::alloc::{AllocError, Global};
 use std::io::Write;
-use traces::trace;
+use traces::{image_trace, trace};
 
 /// The requests that are counted, by their numbers and names.
 const REQUESTS: [(u32, &str); 11] = [
@@ -33,12 +33,16 @@ const REQUESTS: [(u32, &str); 11] = [
     (KEY_FREE, "key_free"),
 ];
 
-/// The lines of `--stats`: instructions, calls, the bytes of the stack at its deepest, and each request that was made, with how often.
+/// The lines of `--stats`: instructions, calls, the bytes of the stack at its deepest, the most pages of the arena at once, and each request that
+/// was made, with how often.
 fn stats_of(alloc: Global, watch: &Watch) -> Result<String, AllocError> {
     let steps = watch.steps();
     let calls = watch.calls();
     let stack = watch.deepest();
-    let mut lines = format!(in alloc; "instructions {steps}\ncalls {calls}\nstack {stack}\n")?;
+    let pages = watch.most_pages();
+    let mut lines = format!(in alloc;
+        "instructions {steps}\ncalls {calls}\nstack {stack}\npages {pages}\n"
+    )?;
     for (number, name) in REQUESTS {
         let count = watch.requests(number);
         if count > 0 {
@@ -49,17 +53,48 @@ fn stats_of(alloc: Global, watch: &Watch) -> Result<String, AllocError> {
     Ok(lines)
 }
 
+/// What was run: a text, or an image whose machine then stands at this address.
+#[derive(Clone, Copy)]
+pub enum Ran<'a> {
+    Text(&'a [u8]),
+    Image(u32),
+}
+
+impl Ran<'_> {
+    /// The address at which a machine fault is told.
+    fn address(self) -> Option<u32> {
+        match self {
+            Ran::Text(_) => None,
+            Ran::Image(pc) => Some(pc),
+        }
+    }
+}
+
+/// The lines that say where a run stopped.
+fn where_of(
+    alloc: Global,
+    told: Told<'_>,
+    ran: Ran<'_>,
+    ending: Ending,
+    watch: &Watch,
+) -> Result<String, AllocError> {
+    match ran {
+        Ran::Text(text) => trace(alloc, told.input, text, watch, ending),
+        Ran::Image(pc) => image_trace(alloc, told.input, watch, pc, ending),
+    }
+}
+
 /// What is said of a run behind its ending: where it stopped, and what it took.
 fn shown_of(
     alloc: Global,
     told: Told<'_>,
-    file: &[u8],
+    ran: Ran<'_>,
     ending: Ending,
     watch: &Watch,
 ) -> Result<String, AllocError> {
     let mut shown = String::new(alloc);
     if told.shows_where {
-        let lines = trace(alloc, told.input, file, watch, ending)?;
+        let lines = where_of(alloc, told, ran, ending, watch)?;
         shown.push_str(lines.as_str())?;
     }
     if told.shows_stats {
@@ -69,21 +104,46 @@ fn shown_of(
     Ok(shown)
 }
 
-/// Says how a run ended, and what is asked for of it, and answers the status.
-fn told_of<E: Write>(
+/// Says what is asked for of a run behind its ending, or that no host memory is left for it.
+fn show<E: Write>(
     alloc: Global,
     told: Told<'_>,
-    file: &[u8],
+    ran: Ran<'_>,
+    ending: Ending,
+    watch: &Watch,
+    faults: &mut E,
+) {
+    match shown_of(alloc, told, ran, ending, watch) {
+        Ok(shown) => {
+            let _ = faults.write_all(shown.as_bytes());
+        }
+        Err(_) => say(faults, "no memory to say more of the run"),
+    }
+}
+
+/// Says how a run ended, and what is asked for of it, and answers the status.
+pub fn told_of<E: Write>(
+    alloc: Global,
+    told: Told<'_>,
+    ran: Ran<'_>,
     ending: Ending,
     watch: &Watch,
     faults: &mut E,
 ) -> Result<u8, AllocError>
     ensures { IfOk result (λ status. status ≡ status_of ending) }
 {
-    let shown = shown_of(alloc, told, file, ending, watch)?;
-    let status = ended(alloc, ending, None, told.shows_ending, faults)?;
-    let _ = faults.write_all(shown.as_bytes());
+    let status = ended(alloc, ending, ran.address(), told.shows_ending, faults)?;
+    show(alloc, told, ran, ending, watch, faults);
     Ok(status)
+}
+
+/// A watch of a run of this code, for what is told of the run; one that sees nothing where that needs none.
+pub fn watch_of(alloc: Global, told: Told<'_>, code: &[u8]) -> Result<Watch, AllocError> {
+    if told.is_watched() {
+        Watch::new(alloc, code)
+    } else {
+        Ok(Watch::idle(alloc))
+    }
 }
 
 /// Compiles a source and runs its image between a reader and a writer, says what is asked for of the run, and answers the status.
@@ -109,7 +169,10 @@ pub fn ran_watched<R: Input, W: Output, E: Write>(
         (R.fault_count reader.old) (R.fault_count reader.new) (W.fault_count writer.old) (W.fault_count writer.new)) }
 {
     match execute_watched(alloc, file, reader, writer, limits) {
-        Ok(watched) => told_of(alloc, told, file, watched.ending, &watched.watch, faults),
+        Ok(watched) => {
+            let ran = Ran::Text(file);
+            told_of(alloc, told, ran, watched.ending, &watched.watch, faults)
+        }
         Err(fault) => refused_in(alloc, told, file, fault, faults),
     }
 }

@@ -8,12 +8,12 @@ ghost use Rattle.cycc_driver.specs.Outcome.{IsTextRun};
 use crate::compiling::compile;
 use crate::fault::CompileFault;
 use cyc_arena::PagedStore;
-use cyc_host::{Ending, run};
+use cyc_host::{Ending, Watch, run_watched};
 use cyc_image::{ImageFault, load};
 use cyc_words::{Input, Output};
 use raw_pages::PagesFault;
 use rv32_machine::Machine;
-use std::alloc::Global;
+use std::alloc::{AllocError, Global};
 
 /// What a run may use.
 #[derive(Clone, Copy)]
@@ -24,6 +24,68 @@ pub struct Limits {
     pub steps: u64,
     /// The pages of the stack, of 4,096 bytes each.
     pub stack_pages: u32,
+}
+
+/// How a run ended, and what was seen of it.
+#[derive(Drop)]
+pub struct Watched {
+    pub ending: Ending,
+    pub watch: Watch,
+}
+
+/// A watch of a run of this code; one that sees nothing where the run isn't watched.
+fn watch_of(alloc: Global, is_watched: bool, code: &[u8]) -> Result<Watch, AllocError> {
+    if is_watched {
+        Watch::new(alloc, code)
+    } else {
+        Ok(Watch::idle(alloc))
+    }
+}
+
+/// Compiles a text and runs its image, watched or not.
+fn executed<R: Input, W: Output>(
+    alloc: Global,
+    text: &[u8],
+    is_watched: bool,
+    reader: &mut R,
+    writer: &mut W,
+    limits: Limits,
+) -> Result<Watched, CompileFault>
+    requires some { 1 ≤ limits.pages }
+    requires within { limits.pages ≤ 4096 }
+    requires some_stack { 1 ≤ limits.stack_pages }
+    requires stack_within { limits.stack_pages ≤ 4096 }
+    // what is written is the program's output on the bytes that the reader gave, and the ending is its; or the run was stopped after a beginning of it
+    ensures run { IfOk result (λ watched. IsTextRun text.now limits.pages limits.stack_pages limits.steps watched.ending
+        (R.remaining reader.old) (R.remaining reader.new) (W.contents writer.old) (W.contents writer.new)) }
+    // a run that has begun lacks no host memory
+    ensures memory { IfOk result (λ watched. watched.ending ≢ Ending.HostMemory) }
+    // a device's fault comes where just one call of that device failed, and any other ending where none did
+    ensures reads { IfOk result (λ watched. R.fault_count reader.new ≡ reads_failed watched.ending (R.fault_count reader.old)) }
+    ensures writes { IfOk result (λ watched. W.fault_count writer.new ≡ writes_failed watched.ending (W.fault_count writer.old)) }
+    // the fault is that of `compile`, and nothing was read or written
+    ensures refused { IfErr result (λ fault. HasNoImageFor fault text.now) }
+    ensures untouched { IfErr result (λ _. (reader.new ≡ reader.old) × (writer.new ≡ writer.old)) }
+{
+    let bytes = compile(alloc, text, limits.pages, limits.stack_pages)?;
+    let image = match load(alloc, &bytes) {
+        Ok(image) => image,
+        Err(ImageFault::Memory) => return Err(CompileFault::Memory),
+        Err(_) => unreachable!(),
+    };
+    let store = match PagedStore::new(alloc, limits.pages) {
+        Ok(store) => store,
+        Err(PagesFault::Memory) => return Err(CompileFault::Memory),
+        Err(PagesFault::Pages) => unreachable!(),
+    };
+    let Ok(mut machine) = Machine::new(alloc, &image, store) else {
+        return Err(CompileFault::Memory);
+    };
+    let Ok(mut watch) = watch_of(alloc, is_watched, image.code()) else {
+        return Err(CompileFault::Memory);
+    };
+    let ending = run_watched(&mut machine, &mut watch, reader, writer, limits.steps);
+    Ok(Watched { ending, watch })
 }
 
 /// Compiles a text and runs its image.
@@ -54,19 +116,34 @@ pub fn execute<R: Input, W: Output>(
     ensures refused { IfErr result (λ fault. HasNoImageFor fault text.now) }
     ensures untouched { IfErr result (λ _. (reader.new ≡ reader.old) × (writer.new ≡ writer.old)) }
 {
-    let bytes = compile(alloc, text, limits.pages, limits.stack_pages)?;
-    let image = match load(alloc, &bytes) {
-        Ok(image) => image,
-        Err(ImageFault::Memory) => return Err(CompileFault::Memory),
-        Err(_) => unreachable!(),
-    };
-    let store = match PagedStore::new(alloc, limits.pages) {
-        Ok(store) => store,
-        Err(PagesFault::Memory) => return Err(CompileFault::Memory),
-        Err(PagesFault::Pages) => unreachable!(),
-    };
-    let Ok(mut machine) = Machine::new(alloc, &image, store) else {
-        return Err(CompileFault::Memory);
-    };
-    Ok(run(&mut machine, reader, writer, limits.steps))
+    let watched = executed(alloc, text, false, reader, writer, limits)?;
+    Ok(watched.ending)
+}
+
+/// Compiles a text and runs its image as `execute` does, one step at a time, and says what was seen of the run. Takes memory for the watch
+/// also while it runs; where none is left for the address of a call, only that address is lost.
+pub fn execute_watched<R: Input, W: Output>(
+    alloc: Global,
+    text: &[u8],
+    reader: &mut R,
+    writer: &mut W,
+    limits: Limits,
+) -> Result<Watched, CompileFault>
+    requires some { 1 ≤ limits.pages }
+    requires within { limits.pages ≤ 4096 }
+    requires some_stack { 1 ≤ limits.stack_pages }
+    requires stack_within { limits.stack_pages ≤ 4096 }
+    // what is written is the program's output on the bytes that the reader gave, and the ending is its; or the run was stopped after a beginning of it
+    ensures run { IfOk result (λ watched. IsTextRun text.now limits.pages limits.stack_pages limits.steps watched.ending
+        (R.remaining reader.old) (R.remaining reader.new) (W.contents writer.old) (W.contents writer.new)) }
+    // a run that has begun lacks no host memory
+    ensures memory { IfOk result (λ watched. watched.ending ≢ Ending.HostMemory) }
+    // a device's fault comes where just one call of that device failed, and any other ending where none did
+    ensures reads { IfOk result (λ watched. R.fault_count reader.new ≡ reads_failed watched.ending (R.fault_count reader.old)) }
+    ensures writes { IfOk result (λ watched. W.fault_count writer.new ≡ writes_failed watched.ending (W.fault_count writer.old)) }
+    // the fault is that of `compile`, and nothing was read or written
+    ensures refused { IfErr result (λ fault. HasNoImageFor fault text.now) }
+    ensures untouched { IfErr result (λ _. (reader.new ≡ reader.old) × (writer.new ≡ writer.old)) }
+{
+    executed(alloc, text, true, reader, writer, limits)
 }

@@ -11,10 +11,8 @@ mod compiling;
 mod evaluating;
 mod executing;
 mod fault;
-mod watching;
 
 pub use compiling::{accepted_or_refused, check, compile, front, one_fault};
 pub use evaluating::evaluate;
-pub use executing::{Limits, execute};
+pub use executing::{Limits, Watched, execute, execute_watched};
 pub use fault::{CompileFault, Place};
-pub use watching::{Watched, execute_watched};

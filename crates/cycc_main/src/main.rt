@@ -1,12 +1,12 @@
 //! `cycc`: checks, compiles and runs a source file, runs and prints an image, and says what a fault means.
 //!
-//! `main` reads the words, the file and the standard streams, and writes OUT. All else is in `answer` of `cycc_answer`:
+//! `main` reads the words, the file and the standard streams, and writes OUT and the map. All else is in `answer` of `cycc_answer`:
 //! what is printed, and the exit status. The words are read by `command_line`.
 #![tactic(auto)]
 
 use command_line::status::{FILE_FAULT, MEMORY, SUCCESS, usage_status};
 use command_line::{
-    Command, command_of, is_replaceable, is_same_file, shown, shown_error, words_of,
+    Command, command_of, is_replaceable, is_same_entry, is_same_file, shown, shown_error, words_of,
 };
 use cyc_words::Counted;
 use cycc_answer::{longest_file, printed};
@@ -51,18 +51,86 @@ fn file_fault(rt: &HostRuntime, what: &str, path: &str, error: &io::Error) -> u8
     }
 }
 
-/// Writes OUT, and answers the status. Where OUT is the source's file, or another one that is no image, nothing is written.
-fn written(rt: &HostRuntime, input: &str, output: &str, image: &[u8]) -> u8 {
-    if is_same_file(rt, input, output) || !is_replaceable(rt, output, image) {
-        return refused(rt, "write", output);
+/// A file that a `compile` writes: its path, and the bytes for it.
+#[derive(Clone, Copy)]
+struct Written<'a> {
+    path: &'a str,
+    bytes: &'a [u8],
+}
+
+impl Written<'_> {
+    /// Whether it may be written: it isn't the source's file, and replaces no file of another kind.
+    fn is_allowed(self, rt: &HostRuntime, input: &str) -> bool {
+        !is_same_file(rt, input, self.path) && is_replaceable(rt, self.path, self.bytes)
     }
-    match fs::write(rt, output, image) {
-        Ok(()) => SUCCESS,
-        Err(error) => file_fault(rt, "write", output, &error),
+
+    /// Whether it is the same file as another one, or would be.
+    fn is_same(self, rt: &HostRuntime, other: &str) -> bool {
+        is_same_entry(rt, self.path, other) || is_same_file(rt, self.path, other)
+    }
+
+    /// Writes it, and answers the status.
+    fn put(self, rt: &HostRuntime) -> u8 {
+        match fs::write(rt, self.path, self.bytes) {
+            Ok(()) => SUCCESS,
+            Err(error) => file_fault(rt, "write", self.path, &error),
+        }
     }
 }
 
-/// Answers a command on a file that was read, and writes OUT where there is an image for it.
+/// Writes OUT, and answers the status. Where it may not be written, nothing is.
+fn put_image(rt: &HostRuntime, input: &str, image: Written<'_>) -> u8 {
+    if image.is_allowed(rt, input) {
+        image.put(rt)
+    } else {
+        refused(rt, "write", image.path)
+    }
+}
+
+/// Writes OUT and the map, and answers the status. Where one of them may not be written, or both are one file, nothing is.
+fn put_both(rt: &HostRuntime, input: &str, image: Written<'_>, map: Written<'_>) -> u8 {
+    if !map.is_allowed(rt, input) || map.is_same(rt, image.path) {
+        return refused(rt, "write", map.path);
+    }
+    let status = put_image(rt, input, image);
+    if status != SUCCESS {
+        return status;
+    }
+    // a link to nothing may lead to the file that was just written
+    if map.is_same(rt, image.path) {
+        return refused(rt, "write", map.path);
+    }
+    map.put(rt)
+}
+
+/// Writes what a command has for files, and answers the status.
+fn kept(rt: &HostRuntime, command: &Command<'_>, answer: &Answer) -> u8 {
+    let Command::Compile {
+        input,
+        output,
+        map,
+        ..
+    } = *command
+    else {
+        return answer.status;
+    };
+    let Some(image) = &answer.image else {
+        return answer.status;
+    };
+    let image = Written {
+        path: output,
+        bytes: image.as_slice(),
+    };
+    match (map, &answer.map) {
+        (Some(path), Some(text)) => {
+            let bytes = text.as_bytes();
+            put_both(rt, input, image, Written { path, bytes })
+        }
+        _ => put_image(rt, input, image),
+    }
+}
+
+/// Answers a command on a file that was read, and writes OUT and the map where there are such.
 fn answered(rt: &HostRuntime, command: &Command<'_>, file: &[u8]) -> u8 {
     let mut reader = Counted::new(rt.stdin());
     let mut writer = Counted::new(rt.stdout());
@@ -75,14 +143,9 @@ fn answered(rt: &HostRuntime, command: &Command<'_>, file: &[u8]) -> u8 {
         &mut writer,
         &mut faults,
     );
-    let Ok(answer) = answer else {
-        return out_of_memory(rt);
-    };
-    match (&answer.image, command) {
-        (Some(image), Command::Compile { input, output, .. }) => {
-            written(rt, input, output, image.as_slice())
-        }
-        _ => answer.status,
+    match answer {
+        Ok(answer) => kept(rt, command, &answer),
+        Err(AllocError) => out_of_memory(rt),
     }
 }
 

@@ -1,5 +1,6 @@
 // The lines that say where a run stopped.
 
+use crate::points::Sight;
 use crate::program::{Active, Traced};
 use cyc_host::{Ending, Watch};
 use cyc_words::Kind;
@@ -9,7 +10,64 @@ use std::alloc::{AllocError, Global};
 /// How many active calls are shown where there are more.
 const SHOWN_CALLS: usize = 64;
 
-/// The request that had no room.
+/// A text that was run, and the names of its functions.
+#[derive(Clone, Copy)]
+struct Source<'a> {
+    traced: &'a Traced,
+    names: &'a [&'a str],
+}
+
+impl<'a> Source<'a> {
+    /// The name of a function.
+    fn name(self, function: usize) -> &'a str {
+        self.names.get(function).copied().unwrap_or("")
+    }
+}
+
+/// A run that was watched: the path of its file, what was seen of it, the address where it stopped, and its text; none of an image alone,
+/// of which addresses are told.
+#[derive(Clone, Copy)]
+struct Run<'a> {
+    input: &'a str,
+    watch: &'a Watch,
+    pc: u32,
+    source: Option<Source<'a>>,
+}
+
+impl<'a> Run<'a> {
+    /// The innermost active function of a text, where its call is known.
+    fn innermost(self, source: Source<'a>) -> Option<Active> {
+        if self.watch.unkept() > 0 {
+            return None;
+        }
+        source.traced.called(*self.watch.active().last()?)
+    }
+
+    /// The addresses of the active calls that have a line, the innermost last. The first call of a text is that of `main`, which has none.
+    fn calls(self) -> &'a [u32] {
+        let active = self.watch.active();
+        if self.source.is_some() {
+            active.get(1..).unwrap_or(&[])
+        } else {
+            active
+        }
+    }
+}
+
+/// Says where a run stopped behind what is said of it: in which function of its text, where that is known, or at which address.
+fn inside_of(alloc: Global, run: Run<'_>) -> Result<String, AllocError> {
+    let Some(source) = run.source else {
+        let pc = run.pc;
+        return format!(in alloc; " at 0x{pc:08x}");
+    };
+    let Some(active) = run.innermost(source) else {
+        return Ok(String::new(alloc));
+    };
+    let function = source.name(active.function);
+    format!(in alloc; " in {function}")
+}
+
+/// The request that had no space.
 fn exhausted(alloc: Global, watch: &Watch, inside: &str) -> Result<String, AllocError> {
     let last = watch.last();
     let (first, second) = last.arguments;
@@ -23,15 +81,14 @@ fn exhausted(alloc: Global, watch: &Watch, inside: &str) -> Result<String, Alloc
     }
 }
 
-/// The line of a raise, with its position.
-fn raised(
-    alloc: Global,
-    input: &str,
-    traced: &Traced<'_>,
-    watch: &Watch,
-    kind: Kind,
-) -> Result<String, AllocError> {
-    let Some(place) = traced.raise(watch.last().pc) else {
+/// The line of a raise, with its position or its address.
+fn raised(alloc: Global, run: Run<'_>, kind: Kind) -> Result<String, AllocError> {
+    let input = run.input;
+    let pc = run.pc;
+    let Some(source) = run.source else {
+        return format!(in alloc; "{input}:0x{pc:08x}: {kind}\n");
+    };
+    let Some(place) = source.traced.raise(pc) else {
         return Ok(String::new(alloc));
     };
     let line = place.line;
@@ -39,51 +96,28 @@ fn raised(
     format!(in alloc; "{input}:{line}:{column}: {kind}\n")
 }
 
-/// The first line: where a raise stands, what had no room, or where the steps ended. Of another ending there is none.
-fn stop_of(
-    alloc: Global,
-    input: &str,
-    traced: &Traced<'_>,
-    watch: &Watch,
-    ending: Ending,
-) -> Result<String, AllocError> {
+/// The first line: where a raise is, what had no space, or where the steps ended. Of another ending there is none.
+fn stop_of(alloc: Global, run: Run<'_>, ending: Ending) -> Result<String, AllocError> {
     if let Ending::Raised(kind) = ending {
-        return raised(alloc, input, traced, watch, kind);
+        return raised(alloc, run, kind);
     }
-    let inside = inside_of(alloc, traced, watch)?;
+    let inside = inside_of(alloc, run)?;
     let inside = inside.as_str();
     match ending {
-        Ending::Exhausted => exhausted(alloc, watch, inside),
+        Ending::Exhausted => exhausted(alloc, run.watch, inside),
         Ending::StepLimit => format!(in alloc; "step limit{inside}\n"),
         _ => Ok(String::new(alloc)),
     }
 }
 
-/// Says in which function a run stopped, where that is known.
-fn inside_of(alloc: Global, traced: &Traced<'_>, watch: &Watch) -> Result<String, AllocError> {
-    let Some(active) = innermost(traced, watch) else {
-        return Ok(String::new(alloc));
-    };
-    let function = traced.name(active.function);
-    format!(in alloc; " in {function}")
-}
-
-/// The innermost active function, where its call is known.
-fn innermost(traced: &Traced<'_>, watch: &Watch) -> Option<Active> {
-    if watch.unkept() > 0 {
-        return None;
-    }
-    traced.called(*watch.active().last()?)
-}
-
-/// The line of an active function, with the position of its call; none of `main`.
-fn line_of(
+/// The line of an active function of a text, with the position of its call; none of `main`.
+fn call_in(
     alloc: Global,
     input: &str,
-    traced: &Traced<'_>,
+    source: Source<'_>,
     address: u32,
 ) -> Result<String, AllocError> {
-    let Some(active) = traced.called(address) else {
+    let Some(active) = source.traced.called(address) else {
         return Ok(String::new(alloc));
     };
     let Some(place) = active.call else {
@@ -91,8 +125,22 @@ fn line_of(
     };
     let line = place.line;
     let column = place.column;
-    let function = traced.name(active.function);
+    let function = source.name(active.function);
     format!(in alloc; "{input}:{line}:{column}: call of {function}\n")
+}
+
+/// The line of an active call, with its position, or with its address and the one that it calls.
+fn call_of(alloc: Global, run: Run<'_>, address: u32) -> Result<String, AllocError> {
+    let input = run.input;
+    if let Some(source) = run.source {
+        return call_in(alloc, input, source, address);
+    }
+    match Sight::at(run.watch.code(), address) {
+        Some(Sight::Call(target)) => {
+            format!(in alloc; "{input}:0x{address:08x}: call of 0x{target:08x}\n")
+        }
+        _ => Ok(String::new(alloc)),
+    }
 }
 
 /// Appends how many calls aren't shown, if there are any.
@@ -104,18 +152,12 @@ fn push_count(alloc: Global, lines: &mut String, count: u64) -> Result<(), Alloc
     lines.push_str(line.as_str())
 }
 
-/// Appends the lines of the active functions, the innermost first. The first call is that of `main`, which has no position.
-fn push_calls(
-    alloc: Global,
-    input: &str,
-    traced: &Traced<'_>,
-    watch: &Watch,
-    lines: &mut String,
-) -> Result<(), AllocError> {
-    push_count(alloc, lines, watch.unkept())?;
-    let calls = watch.active().get(1..).unwrap_or(&[]);
+/// Appends the lines of the active calls, the innermost first.
+fn push_calls(alloc: Global, run: Run<'_>, lines: &mut String) -> Result<(), AllocError> {
+    push_count(alloc, lines, run.watch.unkept())?;
+    let calls = run.calls();
     for address in calls.iter().rev().take(SHOWN_CALLS) {
-        let line = line_of(alloc, input, traced, *address)?;
+        let line = call_of(alloc, run, *address)?;
         lines.push_str(line.as_str())?;
     }
     let more = calls.len().saturating_sub(SHOWN_CALLS);
@@ -126,11 +168,31 @@ fn push_calls(
 fn is_told(ending: Ending) -> bool {
     matches!(
         ending,
-        Ending::Raised(_) | Ending::Exhausted | Ending::StepLimit
+        Ending::Raised(_) | Ending::Exhausted | Ending::StepLimit | Ending::Fault(_)
     )
 }
 
-/// The lines that say where the run of an accepted text stopped: the position of what raised, what had no room, or in which function the
+/// The lines of a run whose ending is told.
+fn lines_of<'a>(
+    alloc: Global,
+    input: &'a str,
+    watch: &'a Watch,
+    pc: u32,
+    source: Option<Source<'a>>,
+    ending: Ending,
+) -> Result<String, AllocError> {
+    let run = Run {
+        input,
+        watch,
+        pc,
+        source,
+    };
+    let mut lines = stop_of(alloc, run, ending)?;
+    push_calls(alloc, run, &mut lines)?;
+    Ok(lines)
+}
+
+/// The lines that say where the run of an accepted text stopped: the position of what raised, what had no space, or in which function the
 /// steps ended; and behind it the active functions, the innermost first, each with the position of its call. Of another ending nothing.
 pub fn trace(
     alloc: Global,
@@ -145,7 +207,25 @@ pub fn trace(
     let Some(traced) = Traced::of(alloc, text, watch.code())? else {
         return Ok(String::new(alloc));
     };
-    let mut lines = stop_of(alloc, input, &traced, watch, ending)?;
-    push_calls(alloc, input, &traced, watch, &mut lines)?;
-    Ok(lines)
+    let names = traced.names(alloc)?;
+    let source = Source {
+        traced: &traced,
+        names: &names,
+    };
+    lines_of(alloc, input, watch, watch.last().pc, Some(source), ending)
+}
+
+/// The lines that say where the run of an image stopped, whose source isn't at hand: the same by addresses of the code, with the address where
+/// the machine stands. Of a machine fault they are the active calls alone.
+pub fn image_trace(
+    alloc: Global,
+    input: &str,
+    watch: &Watch,
+    pc: u32,
+    ending: Ending,
+) -> Result<String, AllocError> {
+    if !is_told(ending) {
+        return Ok(String::new(alloc));
+    }
+    lines_of(alloc, input, watch, pc, None, ending)
 }

@@ -1,50 +1,173 @@
-// Where in the code raises and calls are.
+// Where in the code functions begin, and where raises and calls are.
 
-use byteorder::{ByteOrder, LittleEndian};
-use rv32_machine::CODE_BASE;
+use rv32_isa::{Instr, Register, decode};
+use rv32_machine::{CODE_BASE, RAISE, STACK_REFUSED};
 use std::alloc::{AllocError, Global};
 
-/// The lowest twelve bits of `jal x1`, which calls.
-const CALL: u32 = 0x0ef;
+/// How many bytes of a function stand before the ECALL of its test of the stack.
+const BEFORE_TEST: u32 = 24;
 
-/// The word of `addi x17, x0, 3`, before the ECALL of a raise.
-const RAISE: u32 = 0x0030_0893;
+/// What is at an address of the code.
+#[derive(Clone, Copy)]
+pub enum Sight {
+    /// The ECALL of a function's test of the stack, for a frame of so many bytes.
+    Test(u32),
+    /// An ECALL that raises.
+    Raise,
+    /// A call of this address.
+    Call(u32),
+}
 
-/// The word of ECALL.
-const REQUEST: u32 = 0x0000_0073;
+impl Sight {
+    /// What is at an address of the code; none at another instruction.
+    pub fn at(code: &[u8], address: u32) -> Option<Sight> {
+        let instruction = instruction_at(code, address)?;
+        match instruction {
+            Instr::Ecall => Sight::of_request(code, address),
+            Instr::Jal(to, offset) => {
+                let is_call = to.number() == Register::RETURN_ADDRESS.number();
+                is_call.then_some(Sight::Call(address.wrapping_add_signed(offset.value())))
+            }
+            _ => None,
+        }
+    }
 
-/// The addresses of the ECALLs that raise, and of the calls, in the order of the code.
+    /// What an ECALL is, by the number that is put into x17 before it.
+    fn of_request(code: &[u8], address: u32) -> Option<Sight> {
+        match added_before(code, address, 4, Register::ARGUMENT_7)? {
+            RAISE => Some(Sight::Raise),
+            STACK_REFUSED => Some(Sight::Test(frame_before(code, address)?)),
+            _ => None,
+        }
+    }
+}
+
+/// The instruction at an address of the code.
+fn instruction_at(code: &[u8], address: u32) -> Option<Instr> {
+    let offset = address.checked_sub(CODE_BASE)? as usize;
+    let (bytes, _) = code.get(offset..)?.split_first_chunk::<4>()?;
+    decode(u32::from_le_bytes(*bytes))
+}
+
+/// The number, as a word, that the ADDI to a register adds which stands so many bytes before an address.
+fn added_before(code: &[u8], address: u32, distance: u32, register: Register) -> Option<u32> {
+    match instruction_at(code, address.wrapping_sub(distance))? {
+        Instr::Addi(to, _, number) if to.number() == register.number() => {
+            Some(0u32.wrapping_add_signed(number.value()))
+        }
+        _ => None,
+    }
+}
+
+/// The bytes of a frame, which a test of the stack puts into x10 before its ECALL: by LUI and ADDI.
+fn frame_before(code: &[u8], address: u32) -> Option<u32> {
+    let lower = added_before(code, address, 8, Register::ARGUMENT_0)?;
+    match instruction_at(code, address.wrapping_sub(12))? {
+        Instr::Lui(_, upper) => Some(upper.bits().wrapping_mul(4096).wrapping_add(lower)),
+        _ => None,
+    }
+}
+
+/// An address of the code at which a function is tested, or a raise or a call is, and how many of its kind stand before it.
+#[derive(Clone, Copy)]
+pub struct Point {
+    pub address: u32,
+    pub sight: Sight,
+    pub number: usize,
+}
+
+impl Point {
+    /// Where its function begins, of a test of the stack.
+    pub fn start(self) -> u32 {
+        self.address.wrapping_sub(BEFORE_TEST)
+    }
+
+    /// Whether it is a function's test of the stack.
+    pub fn is_test(self) -> bool {
+        matches!(self.sight, Sight::Test(_))
+    }
+}
+
+/// How many functions, raises and calls there are.
+#[derive(Clone, Copy)]
+pub struct Counts {
+    pub functions: usize,
+    pub raises: usize,
+    pub calls: usize,
+}
+
+impl Counts {
+    /// Counts one more, and says how many of its kind there were.
+    fn add(&mut self, sight: Sight) -> usize {
+        match sight {
+            Sight::Test(_) => next(&mut self.functions),
+            Sight::Raise => next(&mut self.raises),
+            Sight::Call(_) => next(&mut self.calls),
+        }
+    }
+
+    /// Whether there are as many of each kind.
+    pub fn is_same(self, other: Counts) -> bool {
+        self.functions == other.functions
+            && self.raises == other.raises
+            && self.calls == other.calls
+    }
+}
+
+/// Counts one more, and says how many there were.
+fn next(count: &mut usize) -> usize {
+    let number = *count;
+    *count = number.saturating_add(1);
+    number
+}
+
+/// The functions, raises and calls of code, in its order.
 #[derive(Drop)]
 pub struct Points {
-    pub raises: Vec<u32>,
-    pub calls: Vec<u32>,
+    pub all: Vec<Point>,
+    pub counts: Counts,
+    /// The address behind the code.
+    pub end: u32,
 }
 
 impl Points {
     /// Those of this code.
     pub fn of(alloc: Global, code: &[u8]) -> Result<Points, AllocError> {
         let mut points = Points {
-            raises: Vec::new(alloc),
-            calls: Vec::new(alloc),
+            all: Vec::new(alloc),
+            counts: Counts {
+                functions: 0,
+                raises: 0,
+                calls: 0,
+            },
+            end: CODE_BASE,
         };
-        let mut before = 0;
-        let mut address = CODE_BASE;
-        for bytes in code.chunks_exact(4) {
-            let word = LittleEndian::read_u32(bytes);
-            points.add(before, word, address)?;
-            before = word;
-            address = address.wrapping_add(4);
+        for _word in code.chunks_exact(4) {
+            points.add(code)?;
         }
         Ok(points)
     }
 
-    /// Appends the address of a word, behind another one, if it raises or calls.
-    fn add(&mut self, before: u32, word: u32, address: u32) -> Result<(), AllocError> {
-        if word == REQUEST && before == RAISE {
-            self.raises.push(address)?;
-        } else if word & 0xfff == CALL {
-            self.calls.push(address)?;
+    /// Takes in the next word of the code.
+    fn add(&mut self, code: &[u8]) -> Result<(), AllocError> {
+        let address = self.end;
+        self.end = address.wrapping_add(4);
+        if let Some(sight) = Sight::at(code, address) {
+            let number = self.counts.add(sight);
+            self.all.push(Point {
+                address,
+                sight,
+                number,
+            })?;
         }
         Ok(())
+    }
+
+    /// The point at an address.
+    pub fn at(&self, address: u32) -> Option<Point> {
+        self.all
+            .iter()
+            .find(|point| point.address == address)
+            .copied()
     }
 }

@@ -1,9 +1,9 @@
 // A text with where its raises and calls are in it and in its code.
 
-use crate::points::Points;
-use crate::sites::Sites;
+use crate::points::{Counts, Point, Points, Sight};
+use crate::positions::Positions;
+use crate::sites::{Call, Raise, Sites};
 use accepted_programs::Checked;
-use cyc_core::Origin;
 use cyc_tree::Item;
 use cycc_driver::{CompileFault, Place, front};
 use lower_checks::lower;
@@ -18,21 +18,18 @@ pub struct Active {
 
 /// An accepted text with the positions of its raises and calls.
 #[derive(Drop)]
-pub struct Traced<'t> {
-    text: &'t [u8],
+pub struct Traced {
     checked: Checked,
     main: usize,
+    functions: usize,
+    positions: Positions,
     sites: Sites,
     points: Points,
 }
 
-impl<'t> Traced<'t> {
-    /// A text with its code. None where the text isn't accepted, or the code has other numbers of raises or calls than the program.
-    pub fn of(
-        alloc: Global,
-        text: &'t [u8],
-        code: &[u8],
-    ) -> Result<Option<Traced<'t>>, AllocError> {
+impl Traced {
+    /// A text with its code. None where the text isn't accepted, or the code has other numbers of functions, raises or calls than the program.
+    pub fn of(alloc: Global, text: &[u8], code: &[u8]) -> Result<Option<Traced>, AllocError> {
         let checked = match front(alloc, text) {
             Ok(checked) => checked,
             Err(CompileFault::Memory) => return Err(AllocError),
@@ -40,8 +37,9 @@ impl<'t> Traced<'t> {
         };
         let core = lower(alloc, &checked)?;
         let traced = Traced {
-            text,
             main: core.main,
+            functions: core.functions.len(),
+            positions: Positions::of(alloc, text)?,
             sites: Sites::of(alloc, &core)?,
             points: Points::of(alloc, code)?,
             checked,
@@ -49,57 +47,74 @@ impl<'t> Traced<'t> {
         Ok(if traced.agrees() { Some(traced) } else { None })
     }
 
-    /// Whether the code has a raise for each of the program, and a call for each, with the one of `main` before them.
+    /// Whether the code has a function and a raise for each of the program, and a call for each, with the one of `main` before them.
     fn agrees(&self) -> bool {
-        let calls = self.sites.calls.len();
-        self.points.raises.len() == self.sites.raises.len()
-            && self.points.calls.len().checked_sub(1) == Some(calls)
+        self.points.counts.is_same(Counts {
+            functions: self.functions,
+            raises: self.sites.raises.len(),
+            calls: self.sites.calls.len().saturating_add(1),
+        })
     }
 
-    /// The position of an offset of the text.
-    fn place(&self, origin: Origin) -> Place {
-        Place::at(self.text, origin.0)
+    /// The functions, raises and calls of the code, in its order.
+    pub fn points(&self) -> &[Point] {
+        &self.points.all
+    }
+
+    /// The address behind the code.
+    pub fn end(&self) -> u32 {
+        self.points.end
+    }
+
+    /// The raise with this number.
+    pub fn site_of_raise(&self, number: usize) -> Option<(Raise, Place)> {
+        let raise = self.sites.raises.get(number)?;
+        Some((*raise, self.positions.place(raise.origin)))
+    }
+
+    /// The call with this number, where 0 is the one of `main`, which the text doesn't have.
+    pub fn site_of_call(&self, number: usize) -> Option<(Call, Place)> {
+        let call = self.sites.calls.get(number.checked_sub(1)?)?;
+        Some((*call, self.positions.place(call.origin)))
     }
 
     /// Where the raise at an address of the code stands.
     pub fn raise(&self, address: u32) -> Option<Place> {
-        let number = number_of(&self.points.raises, address)?;
-        let origin = self.sites.raises.get(number)?;
-        Some(self.place(*origin))
+        let point = self.points.at(address)?;
+        let Sight::Raise = point.sight else {
+            return None;
+        };
+        let (_, place) = self.site_of_raise(point.number)?;
+        Some(place)
     }
 
     /// The function that the call at an address of the code makes active.
     pub fn called(&self, address: u32) -> Option<Active> {
-        let number = number_of(&self.points.calls, address)?;
-        let Some(before) = number.checked_sub(1) else {
+        let point = self.points.at(address)?;
+        let Sight::Call(_) = point.sight else {
+            return None;
+        };
+        if point.number == 0 {
             return Some(Active {
                 function: self.main,
                 call: None,
             });
-        };
-        let call = self.sites.calls.get(before)?;
+        }
+        let (call, place) = self.site_of_call(point.number)?;
         Some(Active {
             function: call.function,
-            call: Some(self.place(call.origin)),
+            call: Some(place),
         })
     }
 
-    /// The name of the function with this number.
-    pub fn name(&self, function: usize) -> &str {
-        let mut number = 0usize;
+    /// The names of the functions, by their numbers.
+    pub fn names(&self, alloc: Global) -> Result<Vec<&str>, AllocError> {
+        let mut names = Vec::new(alloc);
         for item in self.checked.program().items() {
             if let Item::Function(declared) = item {
-                if number == function {
-                    return std::str::from_utf8(&declared.name.text).unwrap_or("");
-                }
-                number = number.saturating_add(1);
+                names.push(std::str::from_utf8(&declared.name.text).unwrap_or(""))?;
             }
         }
-        ""
+        Ok(names)
     }
-}
-
-/// Which of the addresses this one is, from 0 on.
-fn number_of(addresses: &[u32], address: u32) -> Option<usize> {
-    addresses.iter().position(|at| *at == address)
 }

@@ -1,7 +1,15 @@
 // The raises and calls of a program of Core that have code.
 
 use cyc_core::{Origin, Program, Statement};
+use cyc_words::Kind;
 use std::alloc::{AllocError, Global};
+
+/// A raise: its exception, and where in the text the phrase stands that raises.
+#[derive(Clone, Copy)]
+pub struct Raise {
+    pub kind: Kind,
+    pub origin: Origin,
+}
 
 /// A call: the number of the function that is called, and where in the text the call stands.
 #[derive(Clone, Copy)]
@@ -13,7 +21,7 @@ pub struct Call {
 /// The raises and the calls of a program, in the order of its code. What stands behind a statement that can't complete has no code.
 #[derive(Drop)]
 pub struct Sites {
-    pub raises: Vec<Origin>,
+    pub raises: Vec<Raise>,
     pub calls: Vec<Call>,
 }
 
@@ -56,8 +64,11 @@ impl Sites {
                 })?;
                 Ok(true)
             }
-            Statement::Raise(_, origin) => {
-                self.raises.push(*origin)?;
+            Statement::Raise(kind, origin) => {
+                self.raises.push(Raise {
+                    kind: *kind,
+                    origin: *origin,
+                })?;
                 Ok(false)
             }
             Statement::Break | Statement::Continue | Statement::Return(_) => Ok(false),

@@ -1,0 +1,161 @@
+// The known name that is nearest to an unknown one.
+
+use crate::words::Words;
+use check_scopes::Scope;
+use cyc_lexer::{Keyword, Sign, Token, TokenKind};
+use cyc_tree::{Item, Member};
+use std::alloc::{AllocError, Global};
+use token_reasons::{Nearest, declared_before, index_at, kind_before};
+
+/// What kind of a name is wanted.
+#[derive(Clone, Copy)]
+enum Kind {
+    Member,
+    Tag,
+    Value,
+}
+
+/// What kind of a name is wanted at an index.
+fn kind_at(tokens: &[Token<'_>], index: usize) -> Kind {
+    match kind_before(tokens, index, 1) {
+        Some(TokenKind::Sign(Sign::Dot | Sign::Arrow)) => Kind::Member,
+        Some(TokenKind::Keyword(Keyword::Struct | Keyword::Union)) => Kind::Tag,
+        _ => Kind::Value,
+    }
+}
+
+/// The nearest of these members' names and those before.
+fn near_member<'p>(
+    alloc: Global,
+    near: Nearest<'p>,
+    members: &'p [Member],
+) -> Result<Nearest<'p>, AllocError> {
+    let mut nearest = near;
+    for member in members {
+        if let Some(edits) = nearest.edits_to(alloc, &member.name.text)? {
+            nearest = nearest.with(&member.name.text, edits);
+        }
+    }
+    Ok(nearest)
+}
+
+/// The nearest of the members' names of all structs and unions, or of their tags.
+fn near_item<'p>(
+    alloc: Global,
+    near: Nearest<'p>,
+    items: &'p [Item],
+    of_members: bool,
+) -> Result<Nearest<'p>, AllocError> {
+    let mut nearest = near;
+    for item in items {
+        if let Item::Struct(structure) | Item::Union(structure) = item {
+            if of_members {
+                nearest = near_member(alloc, nearest, structure.members.as_slice())?;
+            } else if let Some(edits) = nearest.edits_to(alloc, &structure.tag.text)? {
+                nearest = nearest.with(&structure.tag.text, edits);
+            }
+        }
+    }
+    Ok(nearest)
+}
+
+/// The nearest of the names in a text that mean something in a scope.
+fn near_value<'p>(
+    alloc: Global,
+    near: Nearest<'p>,
+    tokens: &[Token<'p>],
+    scope: &Scope<'_, '_>,
+) -> Result<Nearest<'p>, AllocError> {
+    let mut nearest = near;
+    for token in tokens {
+        if let TokenKind::Identifier = token.kind {
+            if let Some(edits) = nearest.edits_to(alloc, token.text)? {
+                if scope.meaning(token.text).is_some() {
+                    nearest = nearest.with(token.text, edits);
+                }
+            }
+        }
+    }
+    Ok(nearest)
+}
+
+/// Says that a name is declared already, and where.
+fn say_second(words: &mut Words<'_>, name: &[u8], at: u32) -> Result<(), AllocError> {
+    words.name(name)?;
+    words.say(" is declared at ")?;
+    words.position(at)?;
+    words.say(" already.\n")
+}
+
+/// Says which name is near, where one is.
+fn say_near(words: &mut Words<'_>, near: Nearest<'_>, of_member: bool) -> Result<(), AllocError> {
+    let Some(name) = near.name else {
+        return Ok(());
+    };
+    words.say(if of_member {
+        "A member's name near to it: "
+    } else {
+        "A known name near to it: "
+    })?;
+    words.name(name)?;
+    words.say(".\n")
+}
+
+/// Says which known name is nearest to the one at an offset, or where that is declared already. Fails only where no host memory is left.
+pub(crate) fn say_name<'p>(
+    words: &mut Words<'_>,
+    alloc: Global,
+    tokens: &[Token<'p>],
+    items: &'p [Item],
+    scope: Option<&Scope<'_, '_>>,
+    at: u32,
+) -> Result<(), AllocError> {
+    let index = index_at(tokens, at);
+    let Some(token) = tokens.get(index) else {
+        return words.say("No function main is declared.\n");
+    };
+    let near = Nearest::to(token.text);
+    match kind_at(tokens, index) {
+        Kind::Member => say_near(words, near_item(alloc, near, items, true)?, true),
+        Kind::Tag => say_tag(words, alloc, items, near, at),
+        Kind::Value => say_value(words, alloc, tokens, scope, near, index),
+    }
+}
+
+/// The same of a name of a value at an index.
+fn say_value<'p>(
+    words: &mut Words<'_>,
+    alloc: Global,
+    tokens: &[Token<'p>],
+    scope: Option<&Scope<'_, '_>>,
+    near: Nearest<'p>,
+    index: usize,
+) -> Result<(), AllocError> {
+    if let Some(scope) = scope {
+        if scope.meaning(near.unknown).is_none() {
+            return say_near(words, near_value(alloc, near, tokens, scope)?, false);
+        }
+    }
+    match declared_before(tokens, index, near.unknown) {
+        Some(at) => say_second(words, near.unknown, at),
+        None => Ok(()),
+    }
+}
+
+/// The same of a tag at an index, which may be another one's too.
+fn say_tag<'p>(
+    words: &mut Words<'_>,
+    alloc: Global,
+    items: &'p [Item],
+    near: Nearest<'p>,
+    at: u32,
+) -> Result<(), AllocError> {
+    for item in items {
+        if let Item::Struct(structure) | Item::Union(structure) = item {
+            if structure.tag.at < at && structure.tag.text.as_slice() == near.unknown {
+                return say_second(words, near.unknown, structure.tag.at);
+            }
+        }
+    }
+    say_near(words, near_item(alloc, near, items, false)?, false)
+}

@@ -1,0 +1,21 @@
+//! What the tokens around a fault tell of it, in words.
+//!
+//! `wanted` says what could stand at a fault of the grammar and `hint` what to write for a construct of C, `given_away` and `lent` say where a
+//! local was given away or lent, and `Nearest` which of several names is nearest to another one. `body_at` finds a function's body, and
+//! `emptied` leaves it out. Nothing rests on what they answer: no more is claimed than that each answers. Stands on `cyc_lexer`.
+#![tactic(auto)]
+
+mod bodies;
+mod follow;
+mod hints;
+mod moves;
+mod near;
+mod operands;
+mod seen;
+
+pub use bodies::{Body, body_at, emptied};
+pub use follow::wanted;
+pub use hints::hint;
+pub use moves::{given_away, given_later, lent};
+pub use near::Nearest;
+pub use seen::{declared_before, index_at, is_declared, kind_before};

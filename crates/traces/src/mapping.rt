@@ -1,0 +1,78 @@
+// The map of a program: the addresses of its functions, checks and calls.
+
+use crate::points::{Point, Sight};
+use crate::program::Traced;
+use std::alloc::{AllocError, Global};
+
+/// The last address of the function whose test is at this number of the points.
+fn last_of(traced: &Traced, number: usize) -> u32 {
+    let later = traced
+        .points()
+        .get(number.saturating_add(1)..)
+        .unwrap_or(&[]);
+    let next = match later.iter().find(|point| point.is_test()) {
+        Some(point) => point.start(),
+        None => traced.end(),
+    };
+    next.wrapping_sub(4)
+}
+
+/// The line of a raise.
+fn raise_line(alloc: Global, traced: &Traced, point: Point) -> Result<String, AllocError> {
+    let Some((raise, place)) = traced.site_of_raise(point.number) else {
+        return Ok(String::new(alloc));
+    };
+    let (address, line, column, kind) = (point.address, place.line, place.column, raise.kind);
+    format!(in alloc; "raise {address:08x} {line}:{column} {kind}\n")
+}
+
+/// The line of a call; none of the one of `main`, which the text doesn't have.
+fn call_line(
+    alloc: Global,
+    traced: &Traced,
+    names: &[&str],
+    point: Point,
+) -> Result<String, AllocError> {
+    let Some((call, place)) = traced.site_of_call(point.number) else {
+        return Ok(String::new(alloc));
+    };
+    let (address, line, column) = (point.address, place.line, place.column);
+    let function = names.get(call.function).copied().unwrap_or("");
+    format!(in alloc; "call {address:08x} {line}:{column} {function}\n")
+}
+
+/// The line of the point with a number.
+fn line_of(
+    alloc: Global,
+    traced: &Traced,
+    names: &[&str],
+    number: usize,
+    point: Point,
+) -> Result<String, AllocError> {
+    match point.sight {
+        Sight::Test(frame) => {
+            let function = names.get(point.number).copied().unwrap_or("");
+            let first = point.start();
+            let last = last_of(traced, number);
+            format!(in alloc; "function {first:08x} {last:08x} frame {frame} {function}\n")
+        }
+        Sight::Raise => raise_line(alloc, traced, point),
+        Sight::Call(_) => call_line(alloc, traced, names, point),
+    }
+}
+
+/// The map of an accepted text with this code, a line each in the order of the code: of a function its first and its last address, its
+/// frame's bytes and its name; and in it of each raise and call its address, its position, and its exception or the called function. An empty
+/// one where the code isn't the text's.
+pub fn map(alloc: Global, text: &[u8], code: &[u8]) -> Result<String, AllocError> {
+    let mut map = String::new(alloc);
+    let Some(traced) = Traced::of(alloc, text, code)? else {
+        return Ok(map);
+    };
+    let names = traced.names(alloc)?;
+    for (number, point) in traced.points().iter().enumerate() {
+        let line = line_of(alloc, &traced, &names, number, *point)?;
+        map.push_str(line.as_str())?;
+    }
+    Ok(map)
+}

@@ -3,13 +3,14 @@
 ghost use Rattle.std.specs.Prelude.{◌≡◌, ◌<◌, ◌≤◌, Err, IfOk, false};
 ghost use Rattle.cyc_image.specs.Format.{code_limit};
 ghost use Rattle.core_lines.specs.Lines.{code_length};
+ghost use Rattle.core_lines.specs.declared.line.Line.TheVariants.{BranchUnless};
 ghost use Rattle.core_lines.specs.Relaxed.{shorten, shortened, is_in_reach, none_wide, wide_in};
 ghost use Rattle.rv32_layout.specs.Placing.{place_in, reaches, all_reach, lengthen, lengthened, ArePlaceable};
 
 use crate::fault::LayoutFault;
 use crate::length::{length, size};
 use crate::places::{Places, find_places};
-use core_lines::Line;
+use core_lines::{Comparison, Line};
 use rv32_select::Labelled;
 use std::alloc::{AllocError, Global};
 
@@ -72,18 +73,23 @@ fn reaches(line: Line, places: &Places, at: u32) -> bool
     }
 }
 
+/// A branch alone as a round leaves it: it stays one where it reaches its label.
+fn branch_or_jump(comparison: Comparison, label: usize, places: &Places, at: u32) -> Line
+    ensures { result ≡ lengthen (place_in places.now) at (BranchUnless comparison label) }
+{
+    if is_in_reach(places.of(label), at) {
+        Line::BranchUnless(comparison, label)
+    } else {
+        Line::JumpUnless(comparison, label)
+    }
+}
+
 /// A line as a round leaves it: a branch alone that doesn't reach its label becomes a branch over a jump.
 fn lengthen(line: Line, places: &Places, at: u32) -> Line
     ensures { result ≡ lengthen (place_in places.now) at line }
 {
     match line {
-        Line::BranchUnless(comparison, label) => {
-            if is_in_reach(places.of(label), at) {
-                line
-            } else {
-                Line::JumpUnless(comparison, label)
-            }
-        }
+        Line::BranchUnless(comparison, label) => branch_or_jump(comparison, label, places, at),
         Line::Plain(_)
         | Line::Label(_)
         | Line::Jump(_)

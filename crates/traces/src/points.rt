@@ -4,8 +4,13 @@ use rv32_isa::{Instr, Register, decode};
 use rv32_machine::{CODE_BASE, RAISE, STACK_REFUSED};
 use std::alloc::{AllocError, Global};
 
-/// How many bytes of a function stand before the ECALL of its test of the stack.
-const BEFORE_TEST: u32 = 24;
+/// How many bytes of a function stand before the ECALL of its test of the stack: where its frame is small, and where it is large.
+const BEFORE_SMALL_TEST: u32 = 20;
+
+const BEFORE_LARGE_TEST: u32 = 24;
+
+/// The bytes from which on a frame is large.
+const LARGE_FRAME: u32 = 2048;
 
 /// What is at an address of the code.
 #[derive(Clone, Copy)]
@@ -59,12 +64,12 @@ fn added_before(code: &[u8], address: u32, distance: u32, register: Register) ->
     }
 }
 
-/// The bytes of a frame, which a test of the stack puts into x10 before its ECALL: by LUI and ADDI.
+/// The bytes of a frame, which a test of the stack puts into x10 before its ECALL: by ADDI, with LUI before it where the frame is large.
 fn frame_before(code: &[u8], address: u32) -> Option<u32> {
     let lower = added_before(code, address, 8, Register::ARGUMENT_0)?;
     match instruction_at(code, address.wrapping_sub(12))? {
         Instr::Lui(_, upper) => Some(upper.bits().wrapping_mul(4096).wrapping_add(lower)),
-        _ => None,
+        _ => Some(lower),
     }
 }
 
@@ -79,7 +84,11 @@ pub struct Point {
 impl Point {
     /// Where its function begins, of a test of the stack.
     pub fn start(self) -> u32 {
-        self.address.wrapping_sub(BEFORE_TEST)
+        let before = match self.sight {
+            Sight::Test(frame) if frame < LARGE_FRAME => BEFORE_SMALL_TEST,
+            _ => BEFORE_LARGE_TEST,
+        };
+        self.address.wrapping_sub(before)
     }
 
     /// Whether it is a function's test of the stack.

@@ -41,7 +41,7 @@ pub fn longest_file(command: &Command<'_>) -> u64
 }
 
 /// Answers a command on the bytes of its file: what is written, what is said on standard error, the exit status, and the
-/// bytes for OUT with the map. An Err is want of memory, of which nothing was said: status 7.
+/// bytes for OUT with the map. An Err is an allocation that failed, and nothing was printed: status 7.
 pub fn answer<R: Input, W: Output, E: Write>(
     alloc: Global,
     command: &Command<'_>,

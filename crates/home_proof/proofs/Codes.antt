@@ -6,7 +6,7 @@ use Rattle.core_meaning.specs.Core.{Statement}
 use Rattle.core_lines.specs.Homes.{addressed, addressed_of, eligible, eligible_of}
 use Rattle.source_lowering.specs.Lowered.{all_of}
 
--- whether code takes the address of this local of the block so many blocks out
+-- whether code takes the address of this local, `out` blocks out
 abbrev pub addresses : (out index : ℕ) → List Statement → Bool
 addresses out index code = addressed_of out index (all_of code)
 

@@ -272,7 +272,7 @@ module _ (flags : List Bool) where
         (second_lie flags default own inside (declared_here body) (many_here w outer 0 body) k))
         (clauses_ordered w names parts named default others (omega (arith, few)) one.1 h (subst (LieAt flags default) (sym none) tt))
 
-  -- so many flags, from one on
+  -- as many flags as a count says, from a number on
   parameters_ordered : (n : ℕ) (bs : List Bool) (count : ℕ) → length bs ≡ count → LieAt flags n bs → map (flag_at flags) (numbers_from n count) ≡ bs
   parameters_ordered n [] zero e h = refl
   parameters_ordered n [] (suc count) e h = absurd (omega (arith, e))

@@ -13,7 +13,7 @@ abbrev pub LieAt : (flags : List Bool) → ℕ → List Bool → Type 0
 LieAt flags n [] = Unit {0}
 LieAt flags n (b ∷ bs) = (flag_at flags n ≡ b) × LieAt flags (suc n) bs
 
--- those of two lists lie one behind the other
+-- if two lists joined lie at a number, the first lies there, and the second at its end
 pub first_lie : (flags : List Bool) (n : ℕ) (bs cs : List Bool) → LieAt flags n (bs ++ cs) → LieAt flags n bs
 first_lie flags n [] cs h = tt
 first_lie flags n (b ∷ bs) cs h = (h.0, first_lie flags (suc n) bs cs h.1)
@@ -56,7 +56,7 @@ pub occurrences_both : (m : ℕ) (ns ms : List ℕ) → occurrences m (ns ++ ms)
 occurrences_both m [] ms = omega arith
 occurrences_both m (n ∷ ns) ms = let h = occurrences_both m ns ms in omega (arith, h)
 
--- and among so many numbers from one on
+-- how often it is among `count` numbers from `first` on
 abbrev pub within : (first count : ℕ) → ℕ → ℕ
 within first zero m = 0
 within first (suc count) m = one_if (nat_eq m first) + within (suc first) count m

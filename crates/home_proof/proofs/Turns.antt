@@ -1,4 +1,4 @@
--- Registers that are given in turn: over numbers of which none stands twice, the register of each is that of its place in the list.
+-- Registers that are given in turn: over distinct numbers, the register of each is that of its place in the list.
 use Rattle.std.specs.Prelude.{◌||◌, nat_eq, if◌then◌else◌}
 use Rattle.std.proofs.Common.{◌≡◌, ℕ, zero, suc, Bool, true, false, List, [], ◌∷◌, map, refl, sym, ap, ◌∙◌}
 use Rattle.std.proofs.lemmas.Bool.{eq-eqb, eqb-true}
@@ -6,7 +6,7 @@ use Rattle.core_lines.specs.Homes.{flag_at, home_for, is_among}
 use Rattle.core_lines.proofs.homes.HomeWords.{home_flag}
 use Rattle.home_proof.specs.Names.{in_turn}
 
--- numbers of which none stands twice
+-- distinct numbers
 abbrev pub AreApart : List ℕ → Type 0
 AreApart [] = Unit {0}
 AreApart (n ∷ ns) = (is_among n ns ≡ false) × AreApart ns

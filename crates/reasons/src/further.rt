@@ -73,7 +73,7 @@ fn placed(text: &[u8], fault: Fault) -> CompileFault {
     }
 }
 
-/// The fault of an item after so many, by the rules on names, types, regions and effects. Fails only where no host memory is left.
+/// The fault of the item with this index, by the rules on names, types, regions and effects. Fails only where no host memory is left.
 fn item_fault<'p>(
     alloc: Global,
     names: Names<'_, 'p>,

@@ -295,7 +295,7 @@ fn begin<'g, 'p>(
     })
 }
 
-/// The way to an offset in the body of a function after so many items, whose head says this.
+/// The way to an offset in the body of a function, which has this head and is the item with this index.
 pub(crate) fn walk_to<'g, 'p>(
     alloc: Global,
     names: Names<'g, 'p>,

@@ -1,6 +1,6 @@
 -- One statement more: its lines and labels, what it loads, and the place behind it.
 use Rattle.std.specs.Prelude.{◌&&◌, not, nat_eq, if◌then◌else◌, take, length}
-use Rattle.std.proofs.Common.{◌≡◌, ℕ, zero, suc, ◌+◌, Bool, true, false, List, [], ◌∷◌, ◌++◌, drop, refl, sym, ap, ◌∙◌, arith}
+use Rattle.std.proofs.Common.{◌≡◌, ℕ, zero, suc, ◌+◌, ◌≤◌, Bool, true, false, List, [], ◌∷◌, ◌++◌, drop, refl, sym, ap, ◌∙◌, arith}
 use Rattle.std.proofs.Math.Seq.{take-append_seam}
 use Rattle.std.proofs.lemmas.Bool.{ne_eqb}
 use Rattle.std.proofs.lemmas.List.{append_assoc, append-nil, drop-drop}
@@ -21,14 +21,14 @@ abbrev pub code_left : Bool → (flags : List Bool) → Surroundings → (next o
 code_left placed flags u next out again ss =
     (if placed then statements_behind flags u next out again ss else statements_code flags u next out again ss)
 
-is_some : (h : ℕ) → nat_eq (suc h) 0 ≡ false
-is_some h = ne_eqb (suc h) 0 (λ e. absurd (omega (arith, e)))
+is_home : (home : ℕ) → 1 ≤ home → nat_eq home 0 ≡ false
+is_home home some = ne_eqb home 0 (λ e. absurd (omega (arith, e, some)))
 
 left_is : (home : ℕ) (flags : List Bool) (u : Surroundings) (next out again : ℕ) (ss : Statements)
     → code_left (not (nat_eq home 0)) flags u next out again ss
     ≡ later_code home (statements_code flags u next out again ss) (statements_behind flags u next out again ss)
 left_is zero flags u next out again ss = refl
-left_is (suc h) flags u next out again ss = ap (λ none. code_left (not none) flags u next out again ss) (is_some h)
+left_is (suc h) flags u next out again ss = ap (λ none. code_left (not none) flags u next out again ss) (is_home (suc h) (omega arith))
 
 -- what goes straight into a home, and else what the statement itself appends
 pub straight_first : (home : ℕ) (keeps : Bool) (u : Surroundings) (s : Statement) (old straight put new code : List Line)
@@ -36,7 +36,7 @@ pub straight_first : (home : ℕ) (keeps : Bool) (u : Surroundings) (s : Stateme
     → new ≡ old ++ first_code home keeps u s code
 straight_first zero keeps u s old straight put new code e p n = n ∙ p ∙ ap (λ ls. ls ++ code) (e ∙ append-nil old)
 straight_first (suc h) keeps u s old straight put new code e p n =
-    n ∙ ap (λ none. if none then put else take (length straight) put) (is_some h) ∙ ap (take (length straight)) p ∙ take-append_seam straight code ∙ e
+    n ∙ ap (λ none. if none then put else take (length straight) put) (is_home (suc h) (omega arith)) ∙ ap (take (length straight)) p ∙ take-append_seam straight code ∙ e
 
 -- the place at the start of statements, before one of them, and behind it
 module _ (start before behind : Surroundings) (s : Statement) (ss all : Statements)

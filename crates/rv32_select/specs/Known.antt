@@ -1,8 +1,8 @@
 -- What is known of temporaries, as the definition of code has it.
 use Rattle.std.specs.Prelude.{ℕ, Option, Some, None}
 use Rattle.core_lines.specs.Held as lines
-use Rattle.rv32_select.specs.declared.held.Keeper.{Keeper}
-use Rattle.rv32_select.specs.declared.held.Keeper.TheVariants.{In, Nowhere}
+use Rattle.rv32_select.specs.declared.keeper.Keeper.{Keeper}
+use Rattle.rv32_select.specs.declared.keeper.Keeper.TheVariants.{In, Nowhere}
 use Rattle.rv32_select.specs.declared.held.Source.{Source}
 use Rattle.rv32_select.specs.declared.held.Source.TheVariants as source
 use Rattle.rv32_select.specs.declared.held.Holding.{Holding}

@@ -5,11 +5,12 @@ ghost use Rattle.core_lines.specs.Held.{some_source, source_of, is_in, without_r
 ghost use Rattle.core_lines.specs.Held.{Register as in_register};
 ghost use Rattle.core_lines.specs.Held.{result_register, with_result, with_taken, with_moved, with_local, with_put, with_results};
 ghost use Rattle.core_lines.specs.Held.{number_in, with_narrowed, is_zero, same_as, with_applied};
-ghost use Rattle.core_lines.specs.Held.{register_in, compared_by, comparison_of, with_computed};
+ghost use Rattle.core_lines.specs.Held.{comparison_of, register_in, with_computed};
 ghost use Rattle.core_meaning.specs.Core.{Add};
 ghost use Rattle.cyc_core.specs.Trees.{binary_tree, bytes_of, optional_tree, temporary_tree};
 ghost use Rattle.rv32_select.specs.Known.{source_tree, holding_tree, keeper_tree};
 
+use crate::keeper::{Keeper, compared, keeper_of};
 use core_lines::{Comparison, Condition};
 use cyc_core::{Binary, Temporary, Width, Words};
 use rv32_isa::Register;
@@ -65,52 +66,7 @@ fn some_register(register: Register) -> Option<Source>
     }
 }
 
-/// Which register has a word, if one has.
-#[derive(Clone, Copy)]
-enum Keeper {
-    In(Register),
-    Nowhere,
-}
-
-/// The register that has a word, if one has: x0 if it is known to be 0.
-#[tactic(auto, using(crate::proofs::Knowing::in_none, crate::proofs::Knowing::number_else))]
-fn keeper_of(source: Option<Source>) -> Keeper
-    ensures { keeper_tree result ≡ register_in (option_map source_tree source) }
-{
-    match source {
-        Some(source) => match source {
-            Source::Register(register) => Keeper::In(register),
-            Source::Number(word) => {
-                if word == 0 {
-                    Keeper::In(Register::ZERO)
-                } else {
-                    Keeper::Nowhere
-                }
-            }
-            Source::Compared(_) => Keeper::Nowhere,
-        },
-        None => Keeper::Nowhere,
-    }
-}
-
-/// A comparison of the words of two registers, if registers have both.
-fn compared(condition: Condition, left: Keeper, right: Keeper) -> Option<Comparison>
-    ensures { result ≡ compared_by condition (keeper_tree left) (keeper_tree right) }
-{
-    match left {
-        Keeper::In(left) => match right {
-            Keeper::In(right) => Some(Comparison {
-                condition,
-                left,
-                right,
-            }),
-            Keeper::Nowhere => None,
-        },
-        Keeper::Nowhere => None,
-    }
-}
-
-/// At most so many temporaries are known at once.
+/// The greatest number of temporaries that are known at once.
 const MOST_KNOWN: usize = 32;
 
 /// The register in which an operation leaves its result: one of x12 to x15 and x28 to x31, by the temporary that gets it.

@@ -23,6 +23,7 @@ mod function;
 mod held;
 mod homes;
 mod immediates;
+mod keeper;
 mod labelled;
 mod layout;
 mod live;
@@ -40,6 +41,7 @@ mod results;
 mod settling;
 mod statement;
 mod straight;
+mod ways;
 mod whole;
 mod words;
 

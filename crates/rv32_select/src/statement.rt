@@ -2,10 +2,10 @@
 
 ghost use Rattle.std.specs.Prelude.{◌≡◌, ◌+◌, ◌<◌, ◌≤◌, ◌++◌, [], ◌∷◌, IfOk, OnOk, map, drop, length, None};
 ghost use Rattle.core_meaning.specs.Core as core;
-ghost use Rattle.core_lines.specs.declared.line.Line.TheVariants.{Jump, Label};
+ghost use Rattle.core_lines.specs.declared.line.Line.TheVariants.{Label};
 ghost use Rattle.cyc_core.specs.Trees.{operation_tree, optional_tree, temporary_tree, statement_tree, body_tree, local_tree};
 ghost use Rattle.core_lines.specs.Checks.{check_of};
-ghost use Rattle.core_lines.specs.Choosing.{far, choice_code, jump_code, between_code, behind_code};
+ghost use Rattle.core_lines.specs.Choosing.{far, choice_code};
 ghost use Rattle.core_lines.specs.Held.{held_behind_operation, held_behind, held_behind_all, with_results};
 ghost use Rattle.core_lines.specs.Homes.{flag_at};
 ghost use Rattle.core_lines.specs.Operands.{call_code};
@@ -23,6 +23,7 @@ use crate::operands::put_test;
 use crate::operation::put_operation;
 use crate::place::Place;
 use crate::straight::{behind_first, home_behind, put_straight};
+use crate::ways::{put_behind, put_between};
 use crate::whole::{put_clear, put_copy, put_region_alloc, put_unique_alloc};
 use core_lines::Line;
 use cyc_core::{Local, Operation, Statement, Temporary, Words};
@@ -55,50 +56,6 @@ fn put_label(lines: &mut Vec<Line>, label: usize) -> Result<usize, AllocError>
 {
     put_lines(lines, &[Line::Label(label)])?;
     following(label)
-}
-
-/// Appends a jump, where code is reached, and a label.
-fn put_over(
-    lines: &mut Vec<Line>,
-    reached: bool,
-    behind: usize,
-    next: usize,
-) -> Result<(), AllocError>
-    ensures { OnOk result (lines.new.items ≡ lines.old.items ++ (jump_code reached behind ++ Label next ∷ [])) }
-{
-    if reached {
-        put_lines(lines, &[Line::Jump(behind), Line::Label(next)])
-    } else {
-        put_lines(lines, &[Line::Label(next)])
-    }
-}
-
-/// Appends what stands between the ways of a choice, of which the first may be able to complete.
-fn put_between(
-    lines: &mut Vec<Line>,
-    completes: bool,
-    those: &[Statement],
-    behind: usize,
-    next: usize,
-) -> Result<(), AllocError>
-    ensures { OnOk result (lines.new.items ≡ lines.old.items ++ between_code completes (body_tree those.now) behind next) }
-{
-    if those.is_empty() {
-        put_lines(lines, &[Line::Label(next)])
-    } else {
-        put_over(lines, completes, behind, next)
-    }
-}
-
-/// Appends the label behind both ways of a choice, if there is a second one.
-fn put_behind(lines: &mut Vec<Line>, those: &[Statement], behind: usize) -> Result<(), AllocError>
-    ensures { OnOk result (lines.new.items ≡ lines.old.items ++ behind_code (body_tree those.now) behind) }
-{
-    if those.is_empty() {
-        Ok(())
-    } else {
-        put_lines(lines, &[Line::Label(behind)])
-    }
 }
 
 /// Appends what goes on where a temporary isn't 0, and at a label where it is. Answers the next label.

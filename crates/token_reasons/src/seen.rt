@@ -20,7 +20,7 @@ pub(crate) fn kind_at(tokens: &[Token<'_>], index: usize) -> Option<TokenKind> {
     }
 }
 
-/// What the token is that stands so many before an index.
+/// What the token is that stands a distance before an index.
 pub fn kind_before(tokens: &[Token<'_>], index: usize, count: usize) -> Option<TokenKind> {
     match index.checked_sub(count) {
         Some(before) => kind_at(tokens, before),

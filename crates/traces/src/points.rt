@@ -15,7 +15,7 @@ const LARGE_FRAME: u32 = 2048;
 /// What is at an address of the code.
 #[derive(Clone, Copy)]
 pub enum Sight {
-    /// The ECALL of a function's test of the stack, for a frame of so many bytes.
+    /// The ECALL of a function's test of the stack, for a frame of this size in bytes.
     Test(u32),
     /// An ECALL that raises.
     Raise,
@@ -54,7 +54,7 @@ fn instruction_at(code: &[u8], address: u32) -> Option<Instr> {
     decode(u32::from_le_bytes(*bytes))
 }
 
-/// The number, as a word, that the ADDI to a register adds which stands so many bytes before an address.
+/// The number, as a word, that the ADDI to a register adds which stands a distance in bytes before an address.
 fn added_before(code: &[u8], address: u32, distance: u32, register: Register) -> Option<u32> {
     match instruction_at(code, address.wrapping_sub(distance))? {
         Instr::Addi(to, _, number) if to.number() == register.number() => {

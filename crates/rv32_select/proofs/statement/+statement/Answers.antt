@@ -22,6 +22,7 @@ use Rattle.rv32_select.specs.Places.{surroundings, saves_left}
 use Rattle.rv32_select.proofs.Coding.{choice_lines, leave_lines, loop_lines}
 use Rattle.cyc_core.proofs.Forms.{block_tree, call_tree, do_tree, if_tree, leave_tree, return_tree, while_tree}
 use Rattle.rv32_select.proofs.Sizes.{statement_size, statements_size}
+use Rattle.rv32_select.proofs.Putting.{put_as, done_as}
 use Rattle.rv32_select.proofs.Stepping.{same_behind, names_behind, held_there, flags_left, code_left, code_behind, straight_first}
 use Rattle.rv32_select.proofs.statement.+statement.Goals as goal
 use Rattle.rv32_select.proofs.statement.+statement.Goals.{put_statements-then-reached, put_statements-else-reached}
@@ -31,31 +32,6 @@ use Rattle.rv32_select.proofs.statement.+statement.Goals.{put_statement-in-Conti
 use Rattle.rv32_select.proofs.statement.+statement.Goals.{put_statement-in-Raise+in_ok-put_raise-in-Raise}
 use Rattle.rv32_select.proofs.statement.+statement.Goals.{put_statement-in-RegionAlloc+in_ok-put_region_alloc-in-RegionAlloc}
 use Rattle.rv32_select.proofs.statement.+statement.Goals.{put_statement-in-UniqueAlloc+in_ok-put_unique_alloc-in-UniqueAlloc}
-
--- what is put for a statement, and what is put where that ends without failing
-module _ (result : Result ℕ AllocError) (old new : List Line) (kept left : List Bool) (u v : Surroundings) (next out loop : ℕ) where
-  abbrev Put : Statement → Type 0
-  Put s = record {
-    code : OnOk result (new ≡ old ++ statement_code kept u next out loop s);
-    free : IfOk result (λ n. n ≡ next + labels_in s);
-    same : OnOk result (v ≡ holding (held_behind u.homes u.statics u.held s) (naming (names_after s u.names) u));
-    saves : OnOk result (left ≡ drop (results_in s) kept);
-  }
-
-  put_as : (s t : Statement) → t ≡ s → Put s → Put t
-  put_as s t is put = subst Put (sym is) put
-
-module _ (old new : List Line) (kept left : List Bool) (u v : Surroundings) (next out loop : ℕ) where
-  abbrev Done : Statement → Type 0
-  Done s = record {
-    code : new ≡ old ++ statement_code kept u next out loop s;
-    free : next ≡ next + labels_in s;
-    same : v ≡ holding (held_behind u.homes u.statics u.held s) (naming (names_after s u.names) u);
-    saves : left ≡ drop (results_in s) kept;
-  }
-
-  done_as : (s t : Statement) → t ≡ s → Done s → Done t
-  done_as s t is done = subst Done (sym is) done
 
 none_more : (n : ℕ) → n ≡ n + 0
 none_more n = omega arith

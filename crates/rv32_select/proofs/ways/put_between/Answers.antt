@@ -2,7 +2,7 @@ use Rattle.std.proofs.Common.{◌≡◌, ◌++◌, length, sym, subst, ◌∙◌
 use Rattle.std.specs.Prelude.{OnOk}
 use Rattle.std.proofs.lemmas.Bool.{eqb-false}
 use Rattle.rv32_select.proofs.Between.{between_none, between_some}
-use Rattle.rv32_select.proofs.statement.put_between.Goals as goal
+use Rattle.rv32_select.proofs.ways.put_between.Goals as goal
 
 pub returns-then-is_empty : goal.returns-then-is_empty
 returns-then-is_empty c =

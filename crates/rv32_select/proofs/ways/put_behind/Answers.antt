@@ -3,7 +3,7 @@ use Rattle.std.specs.Prelude.{OnOk}
 use Rattle.std.proofs.lemmas.Bool.{eqb-false}
 use Rattle.std.proofs.lemmas.List.{append-nil}
 use Rattle.rv32_select.proofs.Between.{behind_none, behind_some}
-use Rattle.rv32_select.proofs.statement.put_behind.Goals as goal
+use Rattle.rv32_select.proofs.ways.put_behind.Goals as goal
 
 pub returns-then-is_empty : goal.returns-then-is_empty
 returns-then-is_empty c =

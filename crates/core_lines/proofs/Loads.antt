@@ -90,17 +90,17 @@ operation_below u hs (Clear p layout count) has = (has.0, tt)
 operation_below u hs (IsNull t p) has = one_below u.temporaries hs p has.1
 operation_below u hs (SamePlace t p q) has = two_below u.temporaries hs p q has.1 has.2
 operation_below u hs (Getchar t) has = tt
-operation_below u hs (Putchar t x) has = (has.1, tt)
+operation_below u hs (Putchar t x) has = one_below u.temporaries hs x has.1
 operation_below u hs (HeapHandle t) has = tt
 operation_below u hs (RegionNew t) has = tt
-operation_below u hs (RegionAlloc t h n layout) has = (has.1, (has.2, tt))
-operation_below u hs (RegionFree h) has = (has, tt)
+operation_below u hs (RegionAlloc t h n layout) has = two_below u.temporaries hs h n has.1 has.2
+operation_below u hs (RegionFree h) has = one_below u.temporaries hs h has
 operation_below u hs (UniqueAlloc t layout) has = tt
-operation_below u hs (UniqueFree p) has = (has, tt)
+operation_below u hs (UniqueFree p) has = one_below u.temporaries hs p has
 operation_below u hs (KeyNew t) has = tt
-operation_below u hs (KeyOpen k) has = (has, tt)
-operation_below u hs (KeyClose k) has = (has, tt)
-operation_below u hs (KeyFree k) has = (has, tt)
+operation_below u hs (KeyOpen k) has = one_below u.temporaries hs k has
+operation_below u hs (KeyClose k) has = one_below u.temporaries hs k has
+operation_below u hs (KeyFree k) has = one_below u.temporaries hs k has
 
 pub values_below : (most : ℕ) (hs : List Holding) (r : ℕ) (ts : List ℕ) → AreBelow most ts → AreBelow most (loads_of_values hs r ts)
 values_below most hs r [] below = tt

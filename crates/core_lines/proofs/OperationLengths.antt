@@ -21,10 +21,11 @@ use Rattle.core_lines.specs.Comparisons.{verdict_on, verdict_code}
 use Rattle.core_lines.specs.Held.{Source, Register, Number, Compared, Holding, source_of, result_register, same_as, comparison_of}
 use Rattle.core_lines.specs.Operands.{number_code, bring_code, operand_code, fetch_code, into_code, keep_code, number_kept}
 use Rattle.core_lines.specs.Operands.{verdict_kept, move_kept, ready_code, test_ready}
-use Rattle.core_lines.specs.Selected.{Surroundings, nth, local_offset, local_home, from_temp, to_temp, far_code, read_line, read_code, write_line, write_code}
+use Rattle.core_lines.specs.Selected.{Surroundings, nth, local_offset, local_home, from_temp, far_code, read_line, read_code, write_line, write_code}
 use Rattle.core_lines.specs.Selected.{binary_code, turned, immediate_code, immediate_for, operand, has_operand, both_code, apply_code, keep_result}
 use Rattle.core_lines.specs.Selected.{computed_kept, applied_kept, address_code, get_code, byte_code, put_code}
 use Rattle.core_lines.specs.Selected.{number_in, narrow_kept, exponent_of, times_code, element_code, bytes_code, further_code, bytes_in, operation_code}
+use Rattle.core_lines.specs.Selected.{argument_code, keep_answer}
 use Rattle.core_lines.specs.Straight.{straight_operation}
 use Rattle.core_lines.proofs.memory.Access.{length_of_both}
 use Rattle.core_meaning.specs.Bounds.{operation_count}
@@ -212,11 +213,6 @@ immediate_for_within o to left (Some (Compared c)) = nothing_within 8
 
 -- ---- operations
 
--- one part that leaves its result in a temporary
-to_within : (n : ℕ) (u : Surroundings) (register t : ℕ) (xs : List Line) → n ≤ 52 → IsWithin n xs → IsWithin 64 (xs ++ to_temp u register t)
-to_within n u register t xs l h =
-    less_within (n + 12) 64 _ (omega (arith, l)) (both_within n 12 xs (to_temp u register t) h (save_within register (slot_of u.passed t)))
-
 -- one part that leaves its result in its temporary's register
 result_within : (n : ℕ) (keeps : Bool) (u : Surroundings) (t : ℕ) (xs : List Line) → n ≤ 52 → IsWithin n xs → IsWithin 64 (xs ++ keep_result keeps u t)
 result_within n keeps u t xs l h =
@@ -292,15 +288,27 @@ clear_within : (b : Bool) → IsWithin 12 (clear_loop b)
 clear_within true = record { is = omega arith }
 clear_within false = record { is = omega arith }
 
+-- a word into just one register
+one_within : (u : Surroundings) (register t : ℕ) → IsWithin 12 (into_code u.passed u.held register t)
+one_within u register t = into_within u.passed u.held register t
+
+-- one part, and an answer of the environment
+answer_within : (n : ℕ) (keeps : Bool) (u : Surroundings) (t : ℕ) (xs : List Line) → n ≤ 52 → IsWithin n xs → IsWithin 64 (xs ++ keep_answer keeps u t)
+answer_within n keeps u t xs l h =
+    less_within (n + 12) 64 _ (omega (arith, l)) (both_within n 12 xs (keep_answer keeps u t) h (keep_within keeps u.passed 10 t))
+
 -- a request for a block takes the most
-block_within : (u : Surroundings) (t h n bytes : ℕ)
-    → IsWithin 128 (from_temp u 10 h ++ from_temp u 5 n ++ bytes_code bytes ++ environment_code 5 ++ to_temp u 10 t)
-block_within u t h n bytes =
+block_within : (keeps : Bool) (u : Surroundings) (t h n bytes : ℕ)
+    → IsWithin 128 (into_code u.passed u.held 5 n ++ argument_code u h ++ bytes_code bytes ++ environment_code 5 ++ keep_answer keeps u t)
+block_within keeps u t h n bytes =
+    let count = into_code u.passed u.held 5 n in
+    let handle = argument_code u h in
     less_within (24 + 28 + 8 + 12) 128 _ (omega arith)
-    (both_within (24 + 28 + 8) 12 (from_temp u 10 h ++ from_temp u 5 n ++ bytes_code bytes ++ environment_code 5) (to_temp u 10 t)
-    (both_within (24 + 28) 8 (from_temp u 10 h ++ from_temp u 5 n ++ bytes_code bytes) (environment_code 5)
-    (both_within 24 28 (from_temp u 10 h ++ from_temp u 5 n) (bytes_code bytes) (two_within u 10 h 5 n) (record { is = omega arith })) (environment_within 5))
-    (save_within 10 (slot_of u.passed t)))
+    (both_within (24 + 28 + 8) 12 (count ++ handle ++ bytes_code bytes ++ environment_code 5) (keep_answer keeps u t)
+    (both_within (24 + 28) 8 (count ++ handle ++ bytes_code bytes) (environment_code 5)
+    (both_within 24 28 (count ++ handle) (bytes_code bytes) (both_within 12 12 count handle (one_within u 5 n) (one_within u 10 h))
+    (record { is = omega arith })) (environment_within 5))
+    (keep_within keeps u.passed 10 t))
 
 -- a local's word comes from the frame, or is in its register
 get_within : (keeps : Bool) (u : Surroundings) (home t width offset : ℕ) → IsWithin 64 (get_code keeps u home t width offset)
@@ -319,10 +327,10 @@ put_within u (suc h) width offset x =
     (less_within 12 16 _ (omega arith) (into_within u.passed u.held (suc h) x)))
 
 -- a call of the environment about what a temporary holds
-about_within : (u : Surroundings) (t number : ℕ) → IsWithin 64 (from_temp u 10 t ++ environment_code number)
+about_within : (u : Surroundings) (t number : ℕ) → IsWithin 64 (argument_code u t ++ environment_code number)
 about_within u t number =
     less_within (12 + 8) 64 _ (omega arith)
-    (both_within 12 8 (from_temp u 10 t) (environment_code number) (from_within u 10 t) (environment_within number))
+    (both_within 12 8 (argument_code u t) (environment_code number) (one_within u 10 t) (environment_within number))
 
 narrow_within : (keeps : Bool) (u : Surroundings) (t x : ℕ) (known : Option ℕ) → IsWithin 64 (narrow_kept keeps u t x known)
 narrow_within keeps u t x None =
@@ -380,20 +388,20 @@ operation_within keeps u (SamePlace t p q) =
     let lines = binary_code Equal (result_register t) (has_operand u 5 p) (has_operand u 6 q) in
     result_within 32 keeps u t (operand u 5 p ++ operand u 6 q ++ lines) (omega arith)
     (both_within 24 8 (operand u 5 p ++ operand u 6 q) lines (operands_within u p q) (record { is = omega arith }))
-operation_within keeps u (Getchar t) = to_within 8 u 10 t (environment_code 2) (omega arith) (environment_within 2)
+operation_within keeps u (Getchar t) = answer_within 8 keeps u t (environment_code 2) (omega arith) (environment_within 2)
 operation_within keeps u (Putchar t x) =
-    to_within 20 u 10 t (from_temp u 10 x ++ environment_code 1) (omega arith)
-    (both_within 12 8 (from_temp u 10 x) (environment_code 1) (from_within u 10 x) (environment_within 1))
+    answer_within 20 keeps u t (argument_code u x ++ environment_code 1) (omega arith)
+    (both_within 12 8 (argument_code u x) (environment_code 1) (one_within u 10 x) (environment_within 1))
 operation_within keeps u (HeapHandle t) = number_kept_within keeps u.passed t 0
-operation_within keeps u (RegionNew t) = to_within 8 u 10 t (environment_code 4) (omega arith) (environment_within 4)
-operation_within keeps u (RegionAlloc t h n layout) = block_within u t h n layout.bytes
+operation_within keeps u (RegionNew t) = answer_within 8 keeps u t (environment_code 4) (omega arith) (environment_within 4)
+operation_within keeps u (RegionAlloc t h n layout) = block_within keeps u t h n layout.bytes
 operation_within keeps u (RegionFree h) = about_within u h 6
 operation_within keeps u (UniqueAlloc t layout) =
     let bytes = word_code 10 (layout.bytes % 2 ^ 32) in
-    to_within 16 u 10 t (bytes ++ environment_code 7) (omega arith)
+    answer_within 16 keeps u t (bytes ++ environment_code 7) (omega arith)
     (both_within 8 8 bytes (environment_code 7) (record { is = omega arith }) (environment_within 7))
 operation_within keeps u (UniqueFree p) = about_within u p 8
-operation_within keeps u (KeyNew t) = to_within 8 u 10 t (environment_code 9) (omega arith) (environment_within 9)
+operation_within keeps u (KeyNew t) = answer_within 8 keeps u t (environment_code 9) (omega arith) (environment_within 9)
 operation_within keeps u (KeyOpen k) = about_within u k 10
 operation_within keeps u (KeyClose k) = about_within u k 11
 operation_within keeps u (KeyFree k) = about_within u k 12

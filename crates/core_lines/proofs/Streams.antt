@@ -39,20 +39,23 @@ use Rattle.step_trees.specs.Trees.{Pays, Reads, Says}
 use Rattle.core_meaning.specs.Memory.{Content, Word, Memory}
 use Rattle.core_meaning.specs.Steps.{Config, Step, with_temp, Visible}
 use Rattle.core_meaning.specs.Operations.{byte_word}
+use Rattle.core_lines.specs.declared.line.Line.{Line}
 use Rattle.core_lines.specs.declared.line.Line.TheVariants.{Plain}
 use Rattle.core_lines.specs.Machines.{Machine, state_of, run_from}
 use Rattle.core_lines.specs.Lines.{code_length}
 use Rattle.core_lines.specs.Frames.{environment_code}
+use Rattle.core_lines.specs.Held.{Holding, with_answer}
+use Rattle.core_lines.specs.Operands.{into_code, keep_code}
 use Rattle.core_lines.specs.Lies.{Maps, Shows}
 use Rattle.core_lines.specs.Running.{core_run}
-use Rattle.core_lines.proofs.memory.Relations.{World, IsInOrder, Has, Waiting, Follows, keeping, At, Leads, Goes, IsKept}
-use Rattle.core_lines.proofs.memory.Moving.{Comes, comes_then, comes_as, leads_from, lawful_alike}
+use Rattle.core_lines.proofs.memory.Relations.{World, IsInOrder, Has, Waiting, Follows, keeping, Leads, Goes}
+use Rattle.core_lines.proofs.memory.Moving.{Comes, comes_then, leads_from, lawful_alike}
 use Rattle.core_lines.proofs.Steps.{state_at, step_is, is_lawful, following_is}
 use Rattle.core_lines.proofs.memory.Access.{written_out, length_of_both}
 use Rattle.core_lines.proofs.frames.Passing.{has_first, has_second}
 use Rattle.core_lines.proofs.homes.Homes.{set_stays}
-use Rattle.core_lines.proofs.operations.Registers.{AtWith, InRegister, elsewhere, at_with, puts, saves_temp}
-use Rattle.core_lines.proofs.operations.Operations.{having, loading, saving, loads_into}
+use Rattle.core_lines.proofs.operations.Registers.{having, AtWith, AtHolding, at_any, InRegister, IsServed, elsewhere, puts, set_kept}
+use Rattle.core_lines.proofs.operations.Calling.{Others, argument_changes, number_changes, without_code, argument_into, answer_kept}
 use Rattle.core_lines.proofs.memory.Showing.{shown_first, Shows_then, leads_shown}
 
 module _ (w : World) (order : IsInOrder w) (x : Waiting) (outer : List Waiting) (mem : Memory) where
@@ -89,32 +92,41 @@ module _ (w : World) (order : IsInOrder w) (x : Waiting) (outer : List Waiting) 
     pub next_is : following (state_of now) ≡ code_base + (place + 4)
     next_is = following_is w.areas w.code order.code_within s.store place s.registers s.bytes a.stands.kept Ecall has.0.0
 
-    at_behind : (value : ℕ) (v : Content) → Shows a.maps v value → value < 2 ^ 32 → AtWith w x outer mem (place + 4) (InRegister 10 v) (behind value)
-    at_behind value v shows small =
+    -- the answer is in x10, and something else goes on being so
+    at_behind : (value : ℕ) (v : Content) (H : Maps → (ℕ → ℕ) → Type 0) → Shows a.maps v value → value < 2 ^ 32
+        → H a.maps (set_register 10 value s.registers)
+        → AtWith w x outer mem (place + 4) (λ m registers. InRegister 10 v m registers × H m registers) (behind value)
+    at_behind value v H shows small still =
         let aligned = a.stands.aligned in
-        elsewhere w order x outer mem place (place + 4) (λ m registers. (registers 17 ≡ number) × P m registers) (InRegister 10 v) s a
-        (set_register 10 value s.registers)
-        (omega (arith, aligned)) (set_stays 9 value s.registers refl) (shows, small)
+        elsewhere w order x outer mem place (place + 4) (λ m registers. (registers 17 ≡ number) × P m registers)
+        (λ m registers. InRegister 10 v m registers × H m registers) s a (set_register 10 value s.registers)
+        (omega (arith, aligned)) (set_stays 9 value s.registers refl) ((shows, small), still)
+
+module _ (w : World) (order : IsInOrder w) (x : Waiting) (outer : List Waiting) (mem : Memory) (hs : List Holding) where
+  -- a value in x10, and the words of other temporaries
+  abbrev Answered : Content → Maps → (ℕ → ℕ) → Type 0
+  Answered v m registers = InRegister 10 v m registers × Others x hs m registers
 
   -- a byte is written
   writes_byte : (place n : ℕ) (input : List ℕ) → Has w place (Plain Ecall ∷ []) → (s : Machine)
-      → AtWith w x outer mem place (λ m registers. (registers 17 ≡ 1) × InRegister 10 (Word n) m registers) s
-      → Shows_then w.areas (ByteWritten (n % 256)) s input input (AtWith w x outer mem (place + 4) (InRegister 10 (Word (n % 256))))
+      → AtWith w x outer mem place (λ m registers. (registers 17 ≡ 1) × Answered (Word n) m registers) s
+      → Shows_then w.areas (ByteWritten (n % 256)) s input input (AtWith w x outer mem (place + 4) (Answered (Word (n % 256))))
   writes_byte place n input has s a =
       let value = s.registers 10 % 256 in
-      let same : value ≡ n % 256 = ap (λ k. k % 256) a.holds.1.0 in
-      let is = here place has (InRegister 10 (Word n)) 1 s a in
-      let there = now place has (InRegister 10 (Word n)) 1 s a in
+      let same : value ≡ n % 256 = ap (λ k. k % 256) a.holds.1.0.0 in
+      let P = Answered (Word n) in
+      let is = here w order x outer mem place has P 1 s a in
+      let there = now w order x outer mem place has P 1 s a in
       record {
-        next = behind place has (InRegister 10 (Word n)) 1 s a value;
+        next = behind w order x outer mem place has P 1 s a value;
         shows = λ answers.
             subst (λ (q : Machine). run_step w.areas (run_from q input answers) ≡ shown_first (ByteWritten (n % 256))
-            (run_from (behind place has (InRegister 10 (Word n)) 1 s a value) input answers))
+            (run_from (behind w order x outer mem place has P 1 s a value) input answers))
             (sym is)
-            (ap (after_step (run_from there input answers)) (call_is place has (InRegister 10 (Word n)) 1 s a (answers 0))
+            (ap (after_step (run_from there input answers)) (call_is w order x outer mem place has P 1 s a (answers 0))
             ∙ (λ i. record {
               state = record {
-                pc = next_is place has (InRegister 10 (Word n)) 1 s a i;
+                pc = next_is w order x outer mem place has P 1 s a i;
                 registers = set_register 10 value s.registers;
                 bytes = s.bytes;
                 holdings = s.store.holdings;
@@ -126,130 +138,141 @@ module _ (w : World) (order : IsInOrder w) (x : Waiting) (outer : List Waiting) 
               ledger = s.store.ledger;
               refused = None;
             }));
-        lawful = λ answers. lawful_here place has (InRegister 10 (Word n)) 1 s a input answers;
-        there = at_behind place has (InRegister 10 (Word n)) 1 s a value (Word (n % 256)) same (omega arith);
+        lawful = λ answers. lawful_here w order x outer mem place has P 1 s a input answers;
+        there = at_behind w order x outer mem place has P 1 s a value (Word (n % 256)) (Others x hs) same (omega arith)
+            (argument_changes x hs a.maps (set_register 10 value s.registers) s.registers (set_kept 9 value s.registers) a.holds.1.1);
       }
 
-  abbrev Free : Maps → (ℕ → ℕ) → Type 0
-  Free m registers = Unit {0}
+  abbrev Asking : Maps → (ℕ → ℕ) → Type 0
+  Asking m registers = (registers 17 ≡ 2) × Others x hs m registers
 
   -- a byte is read, or the input's end
   reads_byte : (place : ℕ) (answer : Option ℕ) (input rest : List ℕ) (has : Has w place (Plain Ecall ∷ [])) → byte_word answer < 2 ^ 32 → answered answer
       ≡ byte_word answer
-      → (s : Machine) (a : AtWith w x outer mem place (λ m registers. (registers 17 ≡ 2) × Free m registers) s)
-      → ((answers : ℕ → Answer) → after_step (run_from (now place has Free 2 s a) input answers)
-      (calls w.areas (answers 0) 2 (s.registers 10) (s.registers 11) (state_of (now place has Free 2 s a)))
-      ≡ shown_first (ByteRead answer) (run_from (record (behind place has Free 2 s a (answered answer)) {
+      → (s : Machine) (a : AtWith w x outer mem place Asking s)
+      → ((answers : ℕ → Answer) → after_step (run_from (now w order x outer mem place has (Others x hs) 2 s a) input answers)
+      (calls w.areas (answers 0) 2 (s.registers 10) (s.registers 11) (state_of (now w order x outer mem place has (Others x hs) 2 s a)))
+      ≡ shown_first (ByteRead answer) (run_from (record (behind w order x outer mem place has (Others x hs) 2 s a (answered answer)) {
         pc = following
-            (state_of (now place has Free 2 s a));
+            (state_of (now w order x outer mem place has (Others x hs) 2 s a));
       }) rest answers))
-      → Shows_then w.areas (ByteRead answer) s input rest (AtWith w x outer mem (place + 4) (InRegister 10 (Word (byte_word answer))))
+      → Shows_then w.areas (ByteRead answer) s input rest (AtWith w x outer mem (place + 4) (Answered (Word (byte_word answer))))
   reads_byte place answer input rest has small same s a means =
       let value = answered answer in
       record {
-        next = behind place has Free 2 s a value;
+        next = behind w order x outer mem place has (Others x hs) 2 s a value;
         shows = λ answers.
             subst (λ (q : Machine). run_step w.areas (run_from q input answers) ≡ shown_first (ByteRead answer)
-            (run_from (behind place has Free 2 s a value) rest answers))
-            (sym (here place has Free 2 s a))
-            (ap (after_step (run_from (now place has Free 2 s a) input answers)) (call_is place has Free 2 s a (answers 0)) ∙ means answers
-            ∙ ap (λ pc. shown_first (ByteRead answer) (run_from (record (behind place has Free 2 s a value) { pc = pc }) rest answers))
-            (next_is place has Free 2 s a));
-        lawful = λ answers. lawful_here place has Free 2 s a input answers;
-        there = at_behind place has Free 2 s a value (Word (byte_word answer)) same (subst (λ k. k < 2 ^ 32) (sym same) small);
+            (run_from (behind w order x outer mem place has (Others x hs) 2 s a value) rest answers))
+            (sym (here w order x outer mem place has (Others x hs) 2 s a))
+            (ap (after_step (run_from (now w order x outer mem place has (Others x hs) 2 s a) input answers)) (call_is w order x outer mem place has (Others x hs) 2 s a (answers 0)) ∙ means answers
+            ∙ ap (λ pc. shown_first (ByteRead answer) (run_from (record (behind w order x outer mem place has (Others x hs) 2 s a value) { pc = pc }) rest answers))
+            (next_is w order x outer mem place has (Others x hs) 2 s a));
+        lawful = λ answers. lawful_here w order x outer mem place has (Others x hs) 2 s a input answers;
+        there = at_behind w order x outer mem place has (Others x hs) 2 s a value (Word (byte_word answer)) (Others x hs) same (subst (λ k. k < 2 ^ 32) (sym same) small)
+            (argument_changes x hs a.maps (set_register 10 value s.registers) s.registers (set_kept 9 value s.registers) a.holds.1);
       }
 
   -- ---- with what goes on
 
-  module _ (most : ℕ) (active : List (List ℕ)) (k : Config → Step) (c : Config) (t place : ℕ) (named : t < x.fn.temporaries)
-      (after : List Bool) (follows : Follows true (t ∷ []) x.kept after) where
-    pub putchar_goes : (u n : ℕ) → u < x.fn.temporaries → IsKept w x u → x.config.temps u ≡ Word n
-        → Has w place (loading w order x outer mem 10 u ++ environment_code 1 ++ saving w order x outer mem 10 t)
-        → Goes w most (k c) (At w (keeping after (having t (Word (n % 256)) x)) outer mem
-        (place + code_length (loading w order x outer mem 10 u ++ environment_code 1 ++ saving w order x outer mem 10 t))) active
-        → Goes w most (Pays (λ kept. Says (Visible (ByteWritten (n % 256))) (k kept)) c) (At w x outer mem place) active
-    putchar_goes u n named' kept is has goes = record { at = by }
+  module _ (most : ℕ) (active : List (List ℕ)) (k : Config → Step) (c : Config) (t place : ℕ) (named : t < x.fn.temporaries) (keeps : Bool)
+      (after : List Bool) (follows : Follows keeps (t ∷ []) x.kept after) where
+    abbrev Start : Machine → Type 0
+    Start = AtHolding w x outer mem place hs
+
+    -- behind lines, where a temporary has got the answer
+    abbrev End : Content → List Line → Machine → Type 0
+    End v lines = AtHolding w (keeping after (having t v x)) outer mem (place + code_length lines) (with_answer t hs)
+
+    abbrev keeping_it : List Line
+    keeping_it = keep_code keeps x.fn.passed 10 t
+
+    kept_behind : (v : Content) (first : List Line) → Has w place (first ++ keeping_it)
+        → Comes w (AtWith w x outer mem (place + code_length first) (Answered v)) (End v (first ++ keeping_it))
+    kept_behind v first has =
+        let end : place + code_length first + code_length keeping_it ≡ place + code_length (first ++ keeping_it) =
+        omega (arith, length_of_both first keeping_it) in
+        subst (λ p. Comes w (AtWith w x outer mem (place + code_length first) (Answered v))
+        (AtHolding w (keeping after (having t v x)) outer mem p (with_answer t hs))) end
+        (answer_kept w order x outer mem hs keeps after t (place + code_length first) v named follows (has_second w place first keeping_it has))
+
+    pub putchar_goes : (u n : ℕ) → u < x.fn.temporaries → IsServed w x hs u → x.config.temps u ≡ Word n
+        → Has w place (into_code x.fn.passed hs 10 u ++ environment_code 1 ++ keeping_it)
+        → Goes w most (k c) (End (Word (n % 256)) (into_code x.fn.passed hs 10 u ++ environment_code 1 ++ keeping_it)) active
+        → Goes w most (Pays (λ kept. Says (Visible (ByteWritten (n % 256))) (k kept)) c) Start active
+    putchar_goes u n named' served is has goes = record { at = by }
       where
         by : (fuel : ℕ) → fuel ≤ most → (input : List ℕ) → AreBytes input
-            → Leads w fuel (Pays (λ kept. Says (Visible (ByteWritten (n % 256))) (k kept)) c) (At w x outer mem place) active input
+            → Leads w fuel (Pays (λ kept. Says (Visible (ByteWritten (n % 256))) (k kept)) c) Start active input
         by zero within input bytes = record {
           count = 0;
-          leads = λ s answers r. inl (record { events = refl; ends = r.stands.runs });
+          leads = λ s answers r. inl (record { events = refl; ends = (at_any w x outer mem place hs s r).stands.runs });
           paid = λ running. omega arith;
           lawful = λ s answers r. tt;
         }
         by (suc j) within input bytes =
-            let first = loading w order x outer mem 10 u in
+            let first = into_code x.fn.passed hs 10 u in
             let second = environment_code 1 in
-            let third = saving w order x outer mem 10 t in
             let step : Step = Pays (λ kept. Says (Visible (ByteWritten (n % 256))) (k kept)) c in
             let p1 = place + code_length first in
             let p2 = place + code_length (first ++ second) in
-            let has_call = has_second w place first second (has_first w place (first ++ second) third has) in
+            let has_both = has_first w place (first ++ second) keeping_it has in
+            let has_call = has_second w place first second has_both in
             let end : p1 + 4 + 4 ≡ p2 = omega (arith, length_of_both first second) in
-            let at_end : p2 + code_length third ≡ place + code_length (first ++ second ++ third) = omega (arith, length_of_both (first ++ second) third) in
-            let before_call = AtWith w x outer mem (p1 + 4) (λ m registers. (registers 17 ≡ 1) × InRegister 10 (Word n) m registers) in
-            let after_call = AtWith w x outer mem p2 (InRegister 10 (Word (n % 256))) in
-            let when_saved = At w (keeping after (having t (Word (n % 256)) x)) outer mem (place + code_length (first ++ second ++ third)) in
-            let loaded : Comes w (At w x outer mem place) (AtWith w x outer mem p1 (InRegister 10 (Word n))) =
-            subst (λ v. Comes w (At w x outer mem place) (AtWith w x outer mem p1 (InRegister 10 v))) is
-            (loads_into w order x outer mem 9 u place named' kept refl (has_first w place first second (has_first w place (first ++ second) third has))) in
-            let way : Comes w (At w x outer mem place) before_call =
-            comes_then w _ _ _ loaded (numbered 1 p1 (InRegister 10 (Word n)) (omega arith) has_call (λ m registers v h. h)) in
-            let saved : Comes w after_call when_saved =
-            subst (λ p. Comes w after_call (At w (keeping after (having t (Word (n % 256)) x)) outer mem p)) at_end
-            (saves_temp w order x outer mem 9 t p2 (Word (n % 256)) after named follows refl (has_second w place (first ++ second) third has)) in
-            leads_from w (At w x outer mem place) active (suc j) (suc j) step step before_call input way refl (omega arith)
+            let before_call = AtWith w x outer mem (p1 + 4) (λ m registers. (registers 17 ≡ 1) × Answered (Word n) m registers) in
+            let after_call = AtWith w x outer mem p2 (Answered (Word (n % 256))) in
+            let when_saved = End (Word (n % 256)) (first ++ second ++ keeping_it) in
+            let way : Comes w Start before_call =
+            comes_then w _ _ _ (argument_into w order x outer mem hs u place (Word n) named' served is (has_first w place first second has_both))
+            (numbered w order x outer mem 1 p1 (Answered (Word n)) (omega arith) has_call
+            (λ m registers v h. (h.0, number_changes x hs m (set_register 17 v registers) registers (set_kept 16 v registers) h.1))) in
+            let saved : Comes w after_call when_saved = kept_behind (Word (n % 256)) (first ++ second) has in
+            leads_from w Start active (suc j) (suc j) step step before_call input way refl (omega arith)
             (leads_shown w before_call after_call active j (ByteWritten (n % 256)) step (k c) input input
-            (λ s a. subst (λ p. Shows_then w.areas (ByteWritten (n % 256)) s input input (AtWith w x outer mem p (InRegister 10 (Word (n % 256))))) end
+            (λ s a. subst (λ p. Shows_then w.areas (ByteWritten (n % 256)) s input input (AtWith w x outer mem p (Answered (Word (n % 256))))) end
             (writes_byte (p1 + 4) n input has_call.2 s a)) refl
             (leads_from w after_call active j j (k c) (k c) when_saved input saved refl (omega arith) (goes.at j (omega (arith, within)) input bytes)))
 
-    -- what was read is saved
+    -- what was read is kept
     after_read : (answer : Option ℕ) (j : ℕ) (input rest : List ℕ) → byte_word answer < 2 ^ 32
-        → (has : Has w place (environment_code 2 ++ saving w order x outer mem 10 t)) (steps : Step)
-        → ((s : Machine) → AtWith w x outer mem (place + 4) (λ m registers. (registers 17 ≡ 2) × Free m registers) s
-        → Shows_then w.areas (ByteRead answer) s input rest (AtWith w x outer mem (place + 4 + 4) (InRegister 10 (Word (byte_word answer)))))
+        → (has : Has w place (environment_code 2 ++ keeping_it)) (steps : Step)
+        → ((s : Machine) → AtWith w x outer mem (place + 4) Asking s
+        → Shows_then w.areas (ByteRead answer) s input rest (AtWith w x outer mem (place + 4 + 4) (Answered (Word (byte_word answer)))))
         → core_run w.functions (suc j) steps input ≡ Rattle.step_trees.specs.Trees.after (Visible (ByteRead answer))
         (core_run w.functions j (k (with_temp t (Word (byte_word answer)) c)) rest)
-        → Leads w j (k (with_temp t (Word (byte_word answer)) c)) (At w (keeping after (having t (Word (byte_word answer)) x)) outer mem
-        (place + code_length (environment_code 2 ++ saving w order x outer mem 10 t))) active rest
-        → Leads w (suc j) steps (At w x outer mem place) active input
+        → Leads w j (k (with_temp t (Word (byte_word answer)) c)) (End (Word (byte_word answer)) (environment_code 2 ++ keeping_it)) active rest
+        → Leads w (suc j) steps Start active input
     after_read answer j input rest small has steps shows means l =
         let first = environment_code 2 in
-        let second = saving w order x outer mem 10 t in
         let v = Word (byte_word answer) in
         let d = k (with_temp t v c) in
-        let before_call = AtWith w x outer mem (place + 4) (λ m registers. (registers 17 ≡ 2) × Free m registers) in
-        let after_call = AtWith w x outer mem (place + 8) (InRegister 10 v) in
-        let when_saved = At w (keeping after (having t v x)) outer mem (place + code_length (first ++ second)) in
+        let before_call = AtWith w x outer mem (place + 4) Asking in
+        let after_call = AtWith w x outer mem (place + 8) (Answered v) in
+        let when_saved = End v (first ++ keeping_it) in
         let e : place + 4 + 4 ≡ place + 8 = omega arith in
-        let end : place + 8 + code_length second ≡ place + code_length (first ++ second) = omega (arith, length_of_both first second) in
-        let way : Comes w (At w x outer mem place) before_call =
-        comes_then w _ (AtWith w x outer mem place Free) _ (comes_as w _ _ (at_with w order x outer mem place))
-        (numbered 2 place Free (omega arith) (has_first w place first second has) (λ m registers v h. tt)) in
-        let saved : Comes w after_call when_saved =
-        subst (λ p. Comes w after_call (At w (keeping after (having t v x)) outer mem p)) end
-        (saves_temp w order x outer mem 9 t (place + 8) v after named follows refl (has_second w place first second has)) in
-        leads_from w (At w x outer mem place) active (suc j) (suc j) steps steps before_call input way refl (omega arith)
+        let way : Comes w Start before_call =
+        comes_then w _ (AtWith w x outer mem place (Others x hs)) _ (without_code w order x outer mem hs place)
+        (numbered w order x outer mem 2 place (Others x hs) (omega arith) (has_first w place first keeping_it has)
+        (λ m registers v h. number_changes x hs m (set_register 17 v registers) registers (set_kept 16 v registers) h)) in
+        let saved : Comes w after_call when_saved = kept_behind v first has in
+        leads_from w Start active (suc j) (suc j) steps steps before_call input way refl (omega arith)
         (leads_shown w before_call after_call active j (ByteRead answer) steps d input rest
-        (λ s a. subst (λ p. Shows_then w.areas (ByteRead answer) s input rest (AtWith w x outer mem p (InRegister 10 v))) e (shows s a)) means
+        (λ s a. subst (λ p. Shows_then w.areas (ByteRead answer) s input rest (AtWith w x outer mem p (Answered v))) e (shows s a)) means
         (leads_from w after_call active j j d d when_saved rest saved refl (omega arith) l))
 
-    pub getchar_goes : Has w place (environment_code 2 ++ saving w order x outer mem 10 t)
-        → ((v : Content) → Goes w most (k (with_temp t v c)) (At w (keeping after (having t v x)) outer mem
-        (place + code_length (environment_code 2 ++ saving w order x outer mem 10 t))) active)
-        → Goes w most (Pays (λ kept. Reads (λ byte. k (with_temp t (Word (byte_word byte)) kept))) c) (At w x outer mem place) active
+    pub getchar_goes : Has w place (environment_code 2 ++ keeping_it)
+        → ((v : Content) → Goes w most (k (with_temp t v c)) (End v (environment_code 2 ++ keeping_it)) active)
+        → Goes w most (Pays (λ kept. Reads (λ byte. k (with_temp t (Word (byte_word byte)) kept))) c) Start active
     getchar_goes has goes = record { at = by }
       where
         has_call : Has w (place + 4) (Plain Ecall ∷ [])
-        has_call = (has_first w place (environment_code 2) (saving w order x outer mem 10 t) has).2
+        has_call = (has_first w place (environment_code 2) keeping_it has).2
 
         by : (fuel : ℕ) → fuel ≤ most → (input : List ℕ) → AreBytes input
-            → Leads w fuel (Pays (λ kept. Reads (λ byte. k (with_temp t (Word (byte_word byte)) kept))) c) (At w x outer mem place) active input
+            → Leads w fuel (Pays (λ kept. Reads (λ byte. k (with_temp t (Word (byte_word byte)) kept))) c) Start active input
         by zero within input bytes = record {
           count = 0;
-          leads = λ s answers r. inl (record { events = refl; ends = r.stands.runs });
+          leads = λ s answers r. inl (record { events = refl; ends = (at_any w x outer mem place hs s r).stands.runs });
           paid = λ running. omega arith;
           lawful = λ s answers r. tt;
         }

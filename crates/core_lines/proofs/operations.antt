@@ -1,6 +1,7 @@
 pub mod Holding
 pub mod Standing
 pub mod Registers
+pub mod Calling
 pub mod Judging
 pub mod Values
 pub mod Immediates
@@ -23,3 +24,4 @@ pub mod Needing
 pub mod Elements
 pub mod PartOperations
 pub mod EachOperation
+mod CallSamples

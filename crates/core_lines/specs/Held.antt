@@ -211,10 +211,19 @@ with_put byte x zero hs = hs
 with_put true x (suc h) hs = without_register (suc h) hs
 with_put false x (suc h) hs = with_source x (Register (suc h)) (without_register (suc h) hs)
 
+-- ---- calls of the environment
+
+-- What is still known behind a call of the environment: its argument and its answer are in x10, the bytes that it asks for in x11, and its number in x17.
+abbrev pub without_call : List Holding → List Holding
+without_call hs = without_register 17 (without_register 11 (without_register 10 hs))
+
+-- a temporary gets the answer
+abbrev pub with_answer : ℕ → List Holding → List Holding
+with_answer t hs = with_source t (Register 10) (without_call hs)
+
 -- ---- behind operations
 
--- What is known behind an operation, where locals have these registers and the data these offsets. Nothing is known behind what calls the environment or goes
--- over whole objects.
+-- What is known behind an operation, where locals have these registers and the data these offsets. Nothing is known behind what goes over whole objects.
 abbrev pub held_behind_operation : List (List ℕ) → List ℕ → List Holding → Operation → List Holding
 held_behind_operation homes statics hs (Constant t w) = with_source t (Number (w % 2 ^ 32)) hs
 held_behind_operation homes statics hs (NullPointer t) = with_source t (Number 0) hs
@@ -235,18 +244,18 @@ held_behind_operation homes statics hs (Copy to from layout) = []
 held_behind_operation homes statics hs (Clear p layout count) = []
 held_behind_operation homes statics hs (IsNull t p) = with_result t hs
 held_behind_operation homes statics hs (SamePlace t p q) = with_result t hs
-held_behind_operation homes statics hs (Getchar t) = []
-held_behind_operation homes statics hs (Putchar t x) = []
+held_behind_operation homes statics hs (Getchar t) = with_answer t hs
+held_behind_operation homes statics hs (Putchar t x) = with_answer t hs
 held_behind_operation homes statics hs (HeapHandle t) = with_source t (Number 0) hs
-held_behind_operation homes statics hs (RegionNew t) = []
-held_behind_operation homes statics hs (RegionAlloc t h n layout) = []
-held_behind_operation homes statics hs (RegionFree h) = []
-held_behind_operation homes statics hs (UniqueAlloc t layout) = []
-held_behind_operation homes statics hs (UniqueFree p) = []
-held_behind_operation homes statics hs (KeyNew t) = []
-held_behind_operation homes statics hs (KeyOpen k) = []
-held_behind_operation homes statics hs (KeyClose k) = []
-held_behind_operation homes statics hs (KeyFree k) = []
+held_behind_operation homes statics hs (RegionNew t) = with_answer t hs
+held_behind_operation homes statics hs (RegionAlloc t h n layout) = with_answer t hs
+held_behind_operation homes statics hs (RegionFree h) = without_call hs
+held_behind_operation homes statics hs (UniqueAlloc t layout) = with_answer t hs
+held_behind_operation homes statics hs (UniqueFree p) = without_call hs
+held_behind_operation homes statics hs (KeyNew t) = with_answer t hs
+held_behind_operation homes statics hs (KeyOpen k) = without_call hs
+held_behind_operation homes statics hs (KeyClose k) = without_call hs
+held_behind_operation homes statics hs (KeyFree k) = without_call hs
 
 -- ---- behind statements
 

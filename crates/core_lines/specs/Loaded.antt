@@ -61,7 +61,7 @@ abbrev pub unknown_in : List Holding → List ℕ → List ℕ
 unknown_in hs [] = []
 unknown_in hs (t ∷ ts) = if_unknown (source_of hs t) t (unknown_in hs ts)
 
--- by an operation; what calls the environment or goes over whole objects loads all that it uses
+-- by an operation; what goes over whole objects loads all that it uses
 abbrev pub loads_of_operation : List Holding → Operation → List ℕ
 loads_of_operation hs (Constant t w) = []
 loads_of_operation hs (NullPointer t) = []
@@ -82,17 +82,17 @@ loads_of_operation hs (Clear p layout count) = p ∷ []
 loads_of_operation hs (IsNull t p) = unknown_in hs (p ∷ [])
 loads_of_operation hs (SamePlace t p q) = unknown_in hs (p ∷ q ∷ [])
 loads_of_operation hs (Getchar t) = []
-loads_of_operation hs (Putchar t x) = x ∷ []
+loads_of_operation hs (Putchar t x) = unknown_in hs (x ∷ [])
 loads_of_operation hs (HeapHandle t) = []
 loads_of_operation hs (RegionNew t) = []
-loads_of_operation hs (RegionAlloc t h n layout) = h ∷ n ∷ []
-loads_of_operation hs (RegionFree h) = h ∷ []
+loads_of_operation hs (RegionAlloc t h n layout) = unknown_in hs (h ∷ n ∷ [])
+loads_of_operation hs (RegionFree h) = unknown_in hs (h ∷ [])
 loads_of_operation hs (UniqueAlloc t layout) = []
-loads_of_operation hs (UniqueFree p) = p ∷ []
+loads_of_operation hs (UniqueFree p) = unknown_in hs (p ∷ [])
 loads_of_operation hs (KeyNew t) = []
-loads_of_operation hs (KeyOpen k) = k ∷ []
-loads_of_operation hs (KeyClose k) = k ∷ []
-loads_of_operation hs (KeyFree k) = k ∷ []
+loads_of_operation hs (KeyOpen k) = unknown_in hs (k ∷ [])
+loads_of_operation hs (KeyClose k) = unknown_in hs (k ∷ [])
+loads_of_operation hs (KeyFree k) = unknown_in hs (k ∷ [])
 
 -- by what puts values into the registers behind one
 abbrev pub loads_of_values : List Holding → ℕ → List ℕ → List ℕ

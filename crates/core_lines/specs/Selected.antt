@@ -15,7 +15,7 @@ use Rattle.core_lines.specs.Loops.{are_words, copy_loop, clear_loop}
 use Rattle.core_lines.specs.Homes.{homes_in, saved_slot, saved_by, flag_at}
 pub use Rattle.core_lines.specs.Held.{nth, nth_block, Source, Register, Number, Compared, Holding, held_behind, held_behind_all, source_of, number_in}
 pub use Rattle.core_lines.specs.Held.{result_register, same_as, comparison_of}
-use Rattle.core_lines.specs.Operands.{keep_code}
+use Rattle.core_lines.specs.Operands.{into_code, keep_code}
 use Rattle.core_lines.specs.Operands.{number_kept, move_kept, call_code, return_code, prologue_code}
 use Rattle.core_lines.specs.Choosing.{choice_code, between_code, behind_code}
 use Rattle.core_lines.specs.Checks.{check_of, checked_code}
@@ -51,6 +51,18 @@ bytes_code bytes =
     word_code 6 (saturated bytes)
     ++ (Plain (instr.Mulhu 11 5 6) ∷ Plain (instr.Mul 5 5 6) ∷ Plain (instr.Sltu 11 0 11) ∷ Plain (instr.Sub 11 0 11) ∷ Plain (instr.Or 11 11 5) ∷ [])
 
+-- ---- calls of the environment
+
+-- a temporary's word as the argument
+abbrev pub argument_code : Surroundings → ℕ → List Line
+argument_code u x = into_code u.passed u.held 10 x
+
+-- the answer, which a temporary gets
+abbrev pub keep_answer : Bool → Surroundings → ℕ → List Line
+keep_answer keeps u t = keep_code keeps u.passed 10 t
+
+-- ---- operations
+
 -- The code of an operation, whose result is saved or not. The heap's number is 0.
 abbrev pub operation_code : Bool → Surroundings → Operation → List Line
 operation_code keeps u (Constant t w) = number_kept keeps u.passed t (w % 2 ^ 32)
@@ -74,19 +86,19 @@ operation_code keeps u (IsNull t p) =
     operand u 5 p ++ (Plain (instr.Sltiu (result_register t) (has_operand u 5 p) (pos 1)) ∷ []) ++ keep_result keeps u t
 operation_code keeps u (SamePlace t p q) =
     operand u 5 p ++ operand u 6 q ++ binary_code Equal (result_register t) (has_operand u 5 p) (has_operand u 6 q) ++ keep_result keeps u t
-operation_code keeps u (Getchar t) = environment_code 2 ++ to_temp u 10 t
-operation_code keeps u (Putchar t x) = from_temp u 10 x ++ environment_code 1 ++ to_temp u 10 t
+operation_code keeps u (Getchar t) = environment_code 2 ++ keep_answer keeps u t
+operation_code keeps u (Putchar t x) = argument_code u x ++ environment_code 1 ++ keep_answer keeps u t
 operation_code keeps u (HeapHandle t) = number_kept keeps u.passed t 0
-operation_code keeps u (RegionNew t) = environment_code 4 ++ to_temp u 10 t
+operation_code keeps u (RegionNew t) = environment_code 4 ++ keep_answer keeps u t
 operation_code keeps u (RegionAlloc t h n layout) =
-    from_temp u 10 h ++ from_temp u 5 n ++ bytes_code layout.bytes ++ environment_code 5 ++ to_temp u 10 t
-operation_code keeps u (RegionFree h) = from_temp u 10 h ++ environment_code 6
-operation_code keeps u (UniqueAlloc t layout) = word_code 10 (layout.bytes % 2 ^ 32) ++ environment_code 7 ++ to_temp u 10 t
-operation_code keeps u (UniqueFree p) = from_temp u 10 p ++ environment_code 8
-operation_code keeps u (KeyNew t) = environment_code 9 ++ to_temp u 10 t
-operation_code keeps u (KeyOpen k) = from_temp u 10 k ++ environment_code 10
-operation_code keeps u (KeyClose k) = from_temp u 10 k ++ environment_code 11
-operation_code keeps u (KeyFree k) = from_temp u 10 k ++ environment_code 12
+    into_code u.passed u.held 5 n ++ argument_code u h ++ bytes_code layout.bytes ++ environment_code 5 ++ keep_answer keeps u t
+operation_code keeps u (RegionFree h) = argument_code u h ++ environment_code 6
+operation_code keeps u (UniqueAlloc t layout) = word_code 10 (layout.bytes % 2 ^ 32) ++ environment_code 7 ++ keep_answer keeps u t
+operation_code keeps u (UniqueFree p) = argument_code u p ++ environment_code 8
+operation_code keeps u (KeyNew t) = environment_code 9 ++ keep_answer keeps u t
+operation_code keeps u (KeyOpen k) = argument_code u k ++ environment_code 10
+operation_code keeps u (KeyClose k) = argument_code u k ++ environment_code 11
+operation_code keeps u (KeyFree k) = argument_code u k ++ environment_code 12
 
 -- ---- statements
 

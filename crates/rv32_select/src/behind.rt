@@ -6,6 +6,7 @@ ghost use Rattle.core_lines.specs.Selected.{holding};
 ghost use Rattle.cyc_core.specs.Trees.{operation_tree};
 ghost use Rattle.rv32_select.specs.Places.{surroundings};
 
+use crate::answers::{hold_answer, hold_asked};
 use crate::held::Source;
 use crate::place::{HEAP, Place};
 use cyc_core::Operation;
@@ -48,8 +49,16 @@ pub fn hold_behind(place: &mut Place, operation: Operation) -> Result<(), AllocE
         | Operation::Load(to, _, _)
         | Operation::IsNull(to, _)
         | Operation::SamePlace(to, _, _) => place.held.hold_result(to),
-        _ => {
-            place.held.forget();
+        Operation::Getchar(to)
+        | Operation::Putchar(to, _)
+        | Operation::RegionNew(to)
+        | Operation::KeyNew(to) => hold_answer(place, to),
+        Operation::RegionFree(_)
+        | Operation::UniqueFree(_)
+        | Operation::KeyOpen(_)
+        | Operation::KeyClose(_)
+        | Operation::KeyFree(_) => {
+            hold_asked(place);
             Ok(())
         }
     }

@@ -12,6 +12,7 @@
 //! Stands on `cyc_core`, `cyc_words`, `core_lines`, `rv32_isa` and `rv32_machine`.
 #![tactic(auto)]
 
+mod answers;
 mod behind;
 mod calls;
 mod checks;

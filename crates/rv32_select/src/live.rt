@@ -55,7 +55,7 @@ fn live_statement(
             Ok(())
         }
         Statement::RegionAlloc(to, handle, count, _) => {
-            live_request(saves, live, *to, *handle, *count)
+            live_request(saves, &place.held, live, *to, *handle, *count)
         }
         Statement::UniqueAlloc(to, _) => settle(saves, live, *to),
         Statement::If(test, these, those) => {

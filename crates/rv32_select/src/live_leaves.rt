@@ -7,9 +7,9 @@ ghost use Rattle.core_lines.specs.Selected.{holding, naming};
 ghost use Rattle.cyc_core.specs.Trees.{operation_tree, optional_tree, temporary_tree};
 ghost use Rattle.rv32_select.specs.Places.{surroundings};
 
-use crate::flags::{cleared, set_flag};
+use crate::flags::cleared;
 use crate::held::Known;
-use crate::loads::{flag_arguments, flag_operation, flag_return};
+use crate::loads::{flag_arguments, flag_both, flag_operation, flag_return};
 use crate::place::Place;
 use crate::settling::{settle, settle_operation, settle_results};
 use cyc_core::{Operation, Temporary, Words};
@@ -34,17 +34,18 @@ pub fn live_operation(
 /// Goes back over a request for so many elements of a region.
 pub fn live_request(
     saves: &mut Vec<bool>,
+    held: &Known,
     live: &mut Vec<bool>,
     to: Temporary,
     handle: Temporary,
     count: Temporary,
 ) -> Result<(), AllocError>
     ensures saves { OnOk result (saves.new.items ≡ saves.old.items ++ reverse (flags_of live.old.items (to.0 ∷ []))) }
-    ensures live { OnOk result (live.new.items ≡ all_flagged true (handle.0 ∷ count.0 ∷ []) (all_flagged false (to.0 ∷ []) live.old.items)) }
+    ensures live { OnOk result (live.new.items ≡ all_flagged true (unknown_in held.now (handle.0 ∷ count.0 ∷ []))
+        (all_flagged false (to.0 ∷ []) live.old.items)) }
 {
     settle(saves, live, to)?;
-    set_flag(live, handle, true);
-    set_flag(live, count, true);
+    flag_both(live, held, handle, count);
     Ok(())
 }
 

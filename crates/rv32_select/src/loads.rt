@@ -9,6 +9,7 @@ ghost use Rattle.core_lines.specs.Selected.{names_after, names_after_all, holdin
 ghost use Rattle.cyc_core.specs.Trees.{operation_tree, optional_tree, temporary_tree, local_tree, statement_tree, body_tree};
 ghost use Rattle.rv32_select.specs.Places.{surroundings};
 
+use crate::answers::hold_answer;
 use crate::behind::hold_behind;
 use crate::calls::hold_called;
 use crate::flags::set_flag;
@@ -46,7 +47,7 @@ fn flag_unknown(flags: &mut Vec<bool>, held: &Known, temporary: Temporary)
 }
 
 /// Flags those of two temporaries.
-fn flag_both(flags: &mut Vec<bool>, held: &Known, first: Temporary, second: Temporary)
+pub fn flag_both(flags: &mut Vec<bool>, held: &Known, first: Temporary, second: Temporary)
     ensures { flags.new.items ≡ all_flagged true (unknown_in held.now (first.0 ∷ second.0 ∷ [])) flags.old.items }
 {
     flag_unknown(flags, held, first);
@@ -72,17 +73,17 @@ pub fn flag_operation(flags: &mut Vec<bool>, held: &Known, operation: Operation)
         | Operation::Offset(_, from, _, _)
         | Operation::Put(_, _, from)
         | Operation::Load(_, from, _)
-        | Operation::IsNull(_, from) => flag_unknown(flags, held, from),
-        Operation::Apply(_, _, first, second)
-        | Operation::Element(_, second, first, _, _)
-        | Operation::Store(first, _, second)
-        | Operation::SamePlace(_, first, second) => flag_both(flags, held, first, second),
-        Operation::Putchar(_, from)
+        | Operation::IsNull(_, from)
+        | Operation::Putchar(_, from)
         | Operation::RegionFree(from)
         | Operation::UniqueFree(from)
         | Operation::KeyOpen(from)
         | Operation::KeyClose(from)
-        | Operation::KeyFree(from) => set_flag(flags, from, true),
+        | Operation::KeyFree(from) => flag_unknown(flags, held, from),
+        Operation::Apply(_, _, first, second)
+        | Operation::Element(_, second, first, _, _)
+        | Operation::Store(first, _, second)
+        | Operation::SamePlace(_, first, second) => flag_both(flags, held, first, second),
         Operation::Constant(..)
         | Operation::NullPointer(..)
         | Operation::LocalAddress(..)
@@ -160,15 +161,17 @@ pub fn flag_statement(
         Statement::Block(locals, body) => return flag_block(flags, place, locals, body),
         Statement::Leave(body) => flag_all(flags, place, body)?,
         Statement::Return(value) => flag_return(flags, place, *value),
-        Statement::Copy(first, second, _) | Statement::RegionAlloc(_, first, second, _) => {
+        Statement::RegionAlloc(to, handle, count, _) => {
+            flag_both(flags, &place.held, *handle, *count);
+            return hold_answer(place, *to);
+        }
+        Statement::UniqueAlloc(to, _) => return hold_answer(place, *to),
+        Statement::Copy(first, second, _) => {
             set_flag(flags, *first, true);
             set_flag(flags, *second, true);
         }
         Statement::Clear(pointer, _, _) => set_flag(flags, *pointer, true),
-        Statement::UniqueAlloc(..)
-        | Statement::Break
-        | Statement::Continue
-        | Statement::Raise(..) => {}
+        Statement::Break | Statement::Continue | Statement::Raise(..) => {}
     }
     place.held.forget();
     Ok(())

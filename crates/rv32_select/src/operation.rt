@@ -1,8 +1,8 @@
 // Instructions for an operation.
 
-ghost use Rattle.std.specs.Prelude.{◌≡◌, ◌<◌, Bool, true, ◌++◌, OnOk};
+ghost use Rattle.std.specs.Prelude.{◌≡◌, ◌<◌, true, ◌++◌, OnOk};
 ghost use Rattle.core_lines.specs.Frames.{environment_code};
-ghost use Rattle.core_lines.specs.Selected.{operation_code, from_temp, to_temp};
+ghost use Rattle.core_lines.specs.Selected.{argument_code, keep_answer, operation_code};
 ghost use Rattle.cyc_core.specs.Trees.{operation_tree};
 ghost use Rattle.rv32_select.specs.Places.{surroundings, calls_environment};
 
@@ -12,7 +12,7 @@ use crate::memory::{
     put_data_address, put_element, put_is_null, put_loaded_part, put_offset, put_same,
     put_stored_part,
 };
-use crate::operands::{put_from, put_kept, put_moved, put_number_kept, put_to};
+use crate::operands::{put_into, put_kept, put_moved, put_number_kept};
 use crate::place::{HEAP, Place};
 use crate::words::{put_apply, put_narrow};
 use core_lines::Line;
@@ -27,14 +27,15 @@ use std::alloc::AllocError;
 fn put_made(
     lines: &mut Vec<Line>,
     place: &Place,
+    keeps: bool,
     number: u32,
     to: Temporary,
 ) -> Result<(), AllocError>
     requires { number < 2048 }
-    ensures { OnOk result (lines.new.items ≡ lines.old.items ++ environment_code number ++ to_temp (surroundings place.now) 10 to.0) }
+    ensures { OnOk result (lines.new.items ≡ lines.old.items ++ environment_code number ++ keep_answer keeps (surroundings place.now) to.0) }
 {
     put_environment(lines, number)?;
-    put_to(lines, place, Register::ARGUMENT_0, to)
+    put_kept(lines, place, keeps, Register::ARGUMENT_0, to)
 }
 
 /// Appends a call of the environment whose argument is a temporary's word.
@@ -45,9 +46,9 @@ fn put_given(
     from: Temporary,
 ) -> Result<(), AllocError>
     requires { number < 2048 }
-    ensures { OnOk result (lines.new.items ≡ lines.old.items ++ from_temp (surroundings place.now) 10 from.0 ++ environment_code number) }
+    ensures { OnOk result (lines.new.items ≡ lines.old.items ++ argument_code (surroundings place.now) from.0 ++ environment_code number) }
 {
-    put_from(lines, place, Register::ARGUMENT_0, from)?;
+    put_into(lines, place, Register::ARGUMENT_0, from)?;
     put_environment(lines, number)
 }
 
@@ -55,21 +56,22 @@ fn put_given(
 fn put_environment_operation(
     lines: &mut Vec<Line>,
     place: &Place,
+    keeps: bool,
     operation: Operation,
 ) -> Result<(), AllocError>
     requires { calls_environment operation ≡ true }
-    ensures { (keeps : Bool) → OnOk result (lines.new.items ≡ lines.old.items ++ operation_code keeps (surroundings place.now) (operation_tree operation)) }
+    ensures { OnOk result (lines.new.items ≡ lines.old.items ++ operation_code keeps (surroundings place.now) (operation_tree operation)) }
 {
     match operation {
-        Operation::Getchar(to) => put_made(lines, place, GETCHAR, to),
+        Operation::Getchar(to) => put_made(lines, place, keeps, GETCHAR, to),
         Operation::Putchar(to, from) => {
             put_given(lines, place, PUTCHAR, from)?;
-            put_to(lines, place, Register::ARGUMENT_0, to)
+            put_kept(lines, place, keeps, Register::ARGUMENT_0, to)
         }
-        Operation::RegionNew(to) => put_made(lines, place, REGION_NEW, to),
+        Operation::RegionNew(to) => put_made(lines, place, keeps, REGION_NEW, to),
         Operation::RegionFree(handle) => put_given(lines, place, REGION_FREE, handle),
         Operation::UniqueFree(pointer) => put_given(lines, place, UNIQUE_FREE, pointer),
-        Operation::KeyNew(to) => put_made(lines, place, KEY_NEW, to),
+        Operation::KeyNew(to) => put_made(lines, place, keeps, KEY_NEW, to),
         Operation::KeyOpen(key) => put_given(lines, place, KEY_OPEN, key),
         Operation::KeyClose(key) => put_given(lines, place, KEY_CLOSE, key),
         Operation::KeyFree(key) => put_given(lines, place, KEY_FREE, key),
@@ -115,6 +117,6 @@ pub fn put_operation(
         Operation::SamePlace(to, first, second) => put_same(lines, place, keeps, to, first, second),
         Operation::Load(to, from, part) => put_loaded_part(lines, place, keeps, to, from, part),
         Operation::Store(pointer, part, from) => put_stored_part(lines, place, pointer, part, from),
-        _ => put_environment_operation(lines, place, operation),
+        _ => put_environment_operation(lines, place, keeps, operation),
     }
 }

@@ -24,7 +24,7 @@ use crate::operation::put_operation;
 use crate::place::Place;
 use crate::straight::{behind_first, home_behind, put_straight};
 use crate::ways::{put_behind, put_between};
-use crate::whole::{put_clear, put_copy, put_region_alloc, put_unique_alloc};
+use crate::whole::{put_clear, put_copy, put_region_request, put_unique_request};
 use core_lines::Line;
 use cyc_core::{Local, Operation, Statement, Temporary, Words};
 use rv32_isa::Register;
@@ -134,12 +134,12 @@ fn put_statement(
             put_clear(lines, place, *pointer, layout.as_ref(), *count)?;
         }
         Statement::RegionAlloc(to, handle, count, layout) => {
-            put_region_alloc(lines, place, *to, *handle, *count, layout.as_ref())?;
-            place.pass_result();
+            put_region_request(lines, place, *to, *handle, *count, layout.as_ref())?;
+            return Ok(next);
         }
         Statement::UniqueAlloc(to, layout) => {
-            put_unique_alloc(lines, place, *to, layout.as_ref())?;
-            place.pass_result();
+            put_unique_request(lines, place, *to, layout.as_ref())?;
+            return Ok(next);
         }
         Statement::If(test, these, those) => {
             return put_if(lines, place, next, ways, *test, these, those);

@@ -1,14 +1,17 @@
 // Instructions that copy and clear whole objects, and ask for blocks of them.
 
-ghost use Rattle.std.specs.Prelude.{◌≡◌, true, ◌++◌, OnOk};
+ghost use Rattle.std.specs.Prelude.{◌≡◌, true, ◌++◌, drop, OnOk};
 ghost use Rattle.core_meaning.specs.Core as core;
+ghost use Rattle.core_lines.specs.Held.{with_answer};
+ghost use Rattle.core_lines.specs.Homes.{flag_at};
 ghost use Rattle.core_lines.specs.Loops.{are_word_parts, are_words, copy_loop, clear_loop};
-ghost use Rattle.core_lines.specs.Selected.{further_code, bytes_in, bytes_code, operation_code};
+ghost use Rattle.core_lines.specs.Selected.{further_code, bytes_in, bytes_code, operation_code, holding};
 ghost use Rattle.cyc_core.specs.Trees.{cell_parts, layout_tree};
-ghost use Rattle.rv32_select.specs.Places.{surroundings};
+ghost use Rattle.rv32_select.specs.Places.{surroundings, saves_left};
 
+use crate::answers::hold_answer;
 use crate::emit::{ADDRESS, FIRST, SECOND, put_environment, put_further, put_lines, put_word};
-use crate::operands::{put_from, put_to};
+use crate::operands::{put_from, put_into, put_kept};
 use crate::place::Place;
 use core_lines::Line;
 use cyc_core::{CellLayout, Layout, Temporary, Width};
@@ -155,35 +158,75 @@ fn put_bytes(lines: &mut Vec<Line>, bytes: u32) -> Result<(), AllocError>
 }
 
 /// Appends what asks a region for a block of as many objects of a layout as a temporary says.
-pub fn put_region_alloc(
+fn put_region_alloc(
     lines: &mut Vec<Line>,
     place: &Place,
+    keeps: bool,
     to: Temporary,
     handle: Temporary,
     count: Temporary,
     layout: &Layout,
 ) -> Result<(), AllocError>
     ensures { OnOk result (lines.new.items ≡ lines.old.items
-        ++ operation_code true (surroundings place.now) (core.RegionAlloc to.0 handle.0 count.0 (layout_tree layout.now))) }
+        ++ operation_code keeps (surroundings place.now) (core.RegionAlloc to.0 handle.0 count.0 (layout_tree layout.now))) }
 {
-    put_from(lines, place, Register::ARGUMENT_0, handle)?;
-    put_from(lines, place, FIRST, count)?;
+    put_into(lines, place, FIRST, count)?;
+    put_into(lines, place, Register::ARGUMENT_0, handle)?;
     put_bytes(lines, layout.bytes)?;
     put_environment(lines, REGION_ALLOC)?;
-    put_to(lines, place, Register::ARGUMENT_0, to)
+    put_kept(lines, place, keeps, Register::ARGUMENT_0, to)
+}
+
+/// The same, and goes on behind it.
+pub fn put_region_request(
+    lines: &mut Vec<Line>,
+    place: &mut Place,
+    to: Temporary,
+    handle: Temporary,
+    count: Temporary,
+    layout: &Layout,
+) -> Result<(), AllocError>
+    ensures code { OnOk result (lines.new.items ≡ lines.old.items ++ operation_code (flag_at (saves_left place.old) 0) (surroundings place.old)
+        (core.RegionAlloc to.0 handle.0 count.0 (layout_tree layout.now))) }
+    ensures same { OnOk result (surroundings place.new ≡ holding (with_answer to.0 place.old.held) (surroundings place.old)) }
+    ensures saves { OnOk result (saves_left place.new ≡ drop 1 (saves_left place.old)) }
+{
+    let keeps = place.is_saved();
+    put_region_alloc(lines, place, keeps, to, handle, count, layout)?;
+    place.pass_result();
+    hold_answer(place, to)
 }
 
 /// Appends what asks for a unique block of an object of a layout.
-pub fn put_unique_alloc(
+fn put_unique_alloc(
     lines: &mut Vec<Line>,
     place: &Place,
+    keeps: bool,
     to: Temporary,
     layout: &Layout,
 ) -> Result<(), AllocError>
     ensures { OnOk result (lines.new.items ≡ lines.old.items
-        ++ operation_code true (surroundings place.now) (core.UniqueAlloc to.0 (layout_tree layout.now))) }
+        ++ operation_code keeps (surroundings place.now) (core.UniqueAlloc to.0 (layout_tree layout.now))) }
 {
     put_word(lines, Register::ARGUMENT_0, u64::from(layout.bytes))?;
     put_environment(lines, UNIQUE_ALLOC)?;
-    put_to(lines, place, Register::ARGUMENT_0, to)
+    put_kept(lines, place, keeps, Register::ARGUMENT_0, to)
+}
+
+/// The same, and goes on behind it.
+pub fn put_unique_request(
+    lines: &mut Vec<Line>,
+    place: &mut Place,
+    to: Temporary,
+    layout: &Layout,
+) -> Result<(), AllocError>
+    ensures code { OnOk result (lines.new.items ≡ lines.old.items ++ operation_code (flag_at (saves_left place.old) 0) (surroundings place.old)
+        (core.UniqueAlloc to.0 (layout_tree layout.now))) }
+    ensures same { OnOk result (surroundings place.new ≡ holding (with_answer to.0 place.old.held) (surroundings place.old)) }
+    ensures saves { OnOk result (saves_left place.new ≡ drop 1 (saves_left place.old)) }
+{
+    let keeps = place.is_saved();
+    put_unique_alloc(lines, place, keeps, to, layout)?;
+    place.pass_result();
+    hold_answer(place, to)
 }

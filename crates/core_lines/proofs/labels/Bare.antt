@@ -23,12 +23,13 @@ use Rattle.core_lines.specs.Held.{Source, Register, Number, Compared, Holding, s
 use Rattle.core_lines.specs.Operands.{number_code, operand_in, bring_code, operand_code, fetch_code, into_code, keep_code, number_kept}
 use Rattle.core_lines.specs.Operands.{verdict_kept, move_kept, test_in, ready_code, test_ready}
 use Rattle.core_lines.specs.Operands.{pass_code, result_code, call_code, values_code, return_code, take_code, prologue_code}
-use Rattle.core_lines.specs.Selected.{Surroundings, local_offset, local_home, nth, from_temp, to_temp, far_code, read_line, read_code, write_line, write_code}
+use Rattle.core_lines.specs.Selected.{Surroundings, local_offset, local_home, nth, from_temp, far_code, read_line, read_code, write_line, write_code}
 use Rattle.core_lines.specs.Selected.{binary_code, turned, immediate_code, immediate_for, address_code, further_code}
 use Rattle.core_lines.specs.Selected.{operand, has_operand, both_code, apply_code, keep_result, computed_kept, applied_kept, get_code, byte_code, put_code}
 use Rattle.core_lines.specs.Straight.{straight_operation, straight_code}
 use Rattle.core_meaning.specs.Core.{Statement, Do}
 use Rattle.core_lines.specs.Selected.{number_in, narrow_kept, exponent_of, times_code, element_code, copy_code, clear_code, bytes_in, bytes_code, operation_code}
+use Rattle.core_lines.specs.Selected.{argument_code, keep_answer}
 pub use Rattle.core_lines.proofs.labels.BareLines.{are_bare, bare_places, bare_targets, two, three, four, either, one, verdict_bare}
 
 -- ---- slots and words
@@ -217,9 +218,6 @@ module _ (u : Surroundings) where
   from_bare : (r t : ℕ) → are_bare (from_temp u r t) ≡ true
   from_bare r t = load_bare r (slot_of u.passed t)
 
-  to_bare : (r t : ℕ) → are_bare (to_temp u r t) ≡ true
-  to_bare r t = save_bare r (slot_of u.passed t)
-
   of_bare : (spare t : ℕ) → are_bare (operand u spare t) ≡ true
   of_bare spare t = operand_bare u.passed u.held spare t
 
@@ -296,6 +294,12 @@ module _ (u : Surroundings) where
     straight_bare home (Do operation) = straight_operation_bare home operation
     straight_bare home s = refl
 
+    argument_bare : (x : ℕ) → are_bare (argument_code u x) ≡ true
+    argument_bare x = into_bare u.passed u.held 10 x
+
+    answer_bare : (t : ℕ) → are_bare (keep_answer keeps u t) ≡ true
+    answer_bare t = keep_bare u.passed keeps 10 t
+
     pub operation_bare : (o : Operation) → are_bare (operation_code keeps u o) ≡ true
     operation_bare (Constant t w) = number_kept_bare u.passed keeps t (w % 2 ^ 32)
     operation_bare (NullPointer t) = keep_bare u.passed keeps 0 t
@@ -329,20 +333,22 @@ module _ (u : Surroundings) where
     operation_bare (SamePlace t p q) =
         let lines = binary_code Equal (result_register t) (has_operand u 5 p) (has_operand u 6 q) in
         kept_bare t (operand u 5 p ++ operand u 6 q ++ lines) (three (operand u 5 p) (operand u 6 q) lines (of_bare 5 p) (of_bare 6 q) refl)
-    operation_bare (Getchar t) = two (environment_code 2) (to_temp u 10 t) refl (to_bare 10 t)
-    operation_bare (Putchar t x) = three (from_temp u 10 x) (environment_code 1) (to_temp u 10 t) (from_bare 10 x) refl (to_bare 10 t)
+    operation_bare (Getchar t) = two (environment_code 2) (keep_answer keeps u t) refl (answer_bare t)
+    operation_bare (Putchar t x) = three (argument_code u x) (environment_code 1) (keep_answer keeps u t) (argument_bare x) refl (answer_bare t)
     operation_bare (HeapHandle t) = number_kept_bare u.passed keeps t 0
-    operation_bare (RegionNew t) = two (environment_code 4) (to_temp u 10 t) refl (to_bare 10 t)
+    operation_bare (RegionNew t) = two (environment_code 4) (keep_answer keeps u t) refl (answer_bare t)
     operation_bare (RegionAlloc t h n layout) =
-        three (from_temp u 10 h ++ from_temp u 5 n ++ bytes_code layout.bytes) (environment_code 5) (to_temp u 10 t)
-        (three (from_temp u 10 h) (from_temp u 5 n) (bytes_code layout.bytes) (from_bare 10 h) (from_bare 5 n) refl) refl (to_bare 10 t)
-    operation_bare (RegionFree h) = two (from_temp u 10 h) (environment_code 6) (from_bare 10 h) refl
-    operation_bare (UniqueAlloc t layout) = two (word_code 10 (layout.bytes % 2 ^ 32) ++ environment_code 7) (to_temp u 10 t) refl (to_bare 10 t)
-    operation_bare (UniqueFree p) = two (from_temp u 10 p) (environment_code 8) (from_bare 10 p) refl
-    operation_bare (KeyNew t) = two (environment_code 9) (to_temp u 10 t) refl (to_bare 10 t)
-    operation_bare (KeyOpen k) = two (from_temp u 10 k) (environment_code 10) (from_bare 10 k) refl
-    operation_bare (KeyClose k) = two (from_temp u 10 k) (environment_code 11) (from_bare 10 k) refl
-    operation_bare (KeyFree k) = two (from_temp u 10 k) (environment_code 12) (from_bare 10 k) refl
+        let count = into_code u.passed u.held 5 n in
+        three (count ++ argument_code u h ++ bytes_code layout.bytes) (environment_code 5) (keep_answer keeps u t)
+        (three count (argument_code u h) (bytes_code layout.bytes) (into_bare u.passed u.held 5 n) (argument_bare h) refl) refl (answer_bare t)
+    operation_bare (RegionFree h) = two (argument_code u h) (environment_code 6) (argument_bare h) refl
+    operation_bare (UniqueAlloc t layout) =
+        two (word_code 10 (layout.bytes % 2 ^ 32) ++ environment_code 7) (keep_answer keeps u t) refl (answer_bare t)
+    operation_bare (UniqueFree p) = two (argument_code u p) (environment_code 8) (argument_bare p) refl
+    operation_bare (KeyNew t) = two (environment_code 9) (keep_answer keeps u t) refl (answer_bare t)
+    operation_bare (KeyOpen k) = two (argument_code u k) (environment_code 10) (argument_bare k) refl
+    operation_bare (KeyClose k) = two (argument_code u k) (environment_code 11) (argument_bare k) refl
+    operation_bare (KeyFree k) = two (argument_code u k) (environment_code 12) (argument_bare k) refl
 
 -- ---- the first and last lines of functions
 

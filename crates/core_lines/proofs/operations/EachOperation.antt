@@ -154,10 +154,6 @@ module _ (w : World) (order : IsInOrder w) (x : Waiting) (outer : List Waiting) 
   no_result o keeps after follows ends =
       goes_fewer w x outer fuel (End keeps o) (behind o) next after (follows_none keeps x.kept after follows) ends
 
-  -- one whose result is always saved
-  always : (keeps : Bool) (after : List Bool) (t : ℕ) → Follows keeps (t ∷ []) x.kept after → Follows true (t ∷ []) x.kept after
-  always keeps after t follows = follows_saved keeps (t ∷ []) x.kept after follows
-
   pub operation_goes : (o : Operation) (keeps : Bool) (after : List Bool) → HasCode (scoped w x ns) o → AreKept w x (loads_of_operation held o)
       → Follows keeps (results_of o) x.kept after → IsFineOperation hss o → Has w place (operation_code keeps u o)
       → GoesHolding w (keeping after x) outer fuel (place + code_length (operation_code keeps u o)) (held_behind_operation hss w.data_offsets held o) next
@@ -281,32 +277,32 @@ module _ (w : World) (order : IsInOrder w) (x : Waiting) (outer : List Waiting) 
       (two_pointers w order y outer c.memory) (c.temps p) (c.temps q)
       (λ n small truth. gives (SamePlace t p q) keeps after c t (Word n) is
       (compare_places w order y outer c.memory keeps after t named.0 follows p q n place held named.1 named.2 small served.0 served.1 truth has) ends)
-  operation_goes (Getchar t) keeps after named kept follows fine has ends c is = goes_any w x outer fuel place held (does (Getchar t) next) (λ c is.
-      getchar_goes w order (with_config x c) outer c.memory fuel active next c t place named after (always keeps after t follows) has
-      (λ v. ends (with_temp t v c) (record { blocks = is.blocks; own = is.own }))) c is
-  operation_goes (Putchar t y) keeps after named kept follows fine has ends c is = goes_any w x outer fuel place held (does (Putchar t y) next) (λ c is.
-      word_goes w (At w (with_config x c) outer c.memory place) active fuel (c.temps y)
+  operation_goes (Getchar t) keeps after named kept follows fine has ends c is =
+      getchar_goes w order (with_config x c) outer c.memory held fuel active next c t place named keeps after follows has
+      (λ v. ends (with_temp t v c) (record { blocks = is.blocks; own = is.own }))
+  operation_goes (Putchar t y) keeps after named kept follows fine has ends c is =
+      word_goes w (At_first c) active fuel (c.temps y)
       (λ n. Pays (λ left. Says (Rattle.core_meaning.specs.Steps.Visible (ByteWritten (n % 256))) (next (with_temp t (Word (n % 256)) left))) c) (λ n e.
-      putchar_goes w order (with_config x c) outer c.memory fuel active (λ left. next (with_temp t (Word (n % 256)) left)) c t place named.0 after
-      (always keeps after t follows) y n named.1 kept.0 e has (ends (with_temp t (Word (n % 256)) c) (record { blocks = is.blocks; own = is.own })))) c is
+      putchar_goes w order (with_config x c) outer c.memory held fuel active (λ left. next (with_temp t (Word (n % 256)) left)) c t place named.0 keeps after
+      follows y n named.1 (served_one w x held y kept) e has (ends (with_temp t (Word (n % 256)) c) (record { blocks = is.blocks; own = is.own })))
   operation_goes (HeapHandle t) keeps after named kept follows fine has ends c is =
       gives (HeapHandle t) keeps after c t (Birth 0) is (heap_handle w order (with_config x c) outer c.memory keeps after t named follows place held has) ends
-  operation_goes (RegionNew t) keeps after named kept follows fine has ends c is = goes_any w x outer fuel place held (does (RegionNew t) next)
-      (λ c is. new_region_does w order x outer fuel place next c.memory t named after (always keeps after t follows) has ends c is) c is
-  operation_goes (RegionAlloc t h n l) keeps after named kept follows fine has ends c is = goes_any w x outer fuel place held (does (RegionAlloc t h n l) next)
-      (λ c is. alloc_region_does w order x outer fuel place next c.memory t h n l named.0 after (always keeps after t follows) named.1 kept.0 named.2
-      kept.1.0 named.3 has ends c is) c is
-  operation_goes (RegionFree h) keeps after named kept follows fine has ends c is = goes_any w x outer fuel place held (does (RegionFree h) next)
-      (λ c is. free_region_does w order x outer fuel place next c.memory h named kept.0 has (no_result (RegionFree h) keeps after follows ends) c is) c is
-  operation_goes (UniqueAlloc t l) keeps after named kept follows fine has ends c is = goes_any w x outer fuel place held (does (UniqueAlloc t l) next)
-      (λ c is. alloc_unique_does w order x outer fuel place next c.memory t l named.0 after (always keeps after t follows) named.1 named.2 has ends c is) c is
-  operation_goes (UniqueFree p) keeps after named kept follows fine has ends c is = goes_any w x outer fuel place held (does (UniqueFree p) next)
-      (λ c is. free_unique_does w order x outer fuel place next c.memory p named kept.0 has (no_result (UniqueFree p) keeps after follows ends) c is) c is
-  operation_goes (KeyNew t) keeps after named kept follows fine has ends c is = goes_any w x outer fuel place held (does (KeyNew t) next)
-      (λ c is. new_key_does w order x outer fuel place next c.memory t named after (always keeps after t follows) has ends c is) c is
-  operation_goes (KeyOpen k) keeps after named kept follows fine has ends c is = goes_any w x outer fuel place held (does (KeyOpen k) next)
-      (λ c is. open_key_does w order x outer fuel place next c.memory k named kept.0 has (no_result (KeyOpen k) keeps after follows ends) c is) c is
-  operation_goes (KeyClose k) keeps after named kept follows fine has ends c is = goes_any w x outer fuel place held (does (KeyClose k) next)
-      (λ c is. close_key_does w order x outer fuel place next c.memory k named kept.0 has (no_result (KeyClose k) keeps after follows ends) c is) c is
-  operation_goes (KeyFree k) keeps after named kept follows fine has ends c is = goes_any w x outer fuel place held (does (KeyFree k) next)
-      (λ c is. free_key_does w order x outer fuel place next c.memory k named kept.0 has (no_result (KeyFree k) keeps after follows ends) c is) c is
+  operation_goes (RegionNew t) keeps after named kept follows fine has ends =
+      new_region_does w order x outer fuel place held next t named keeps after follows has ends
+  operation_goes (RegionAlloc t h n l) keeps after named kept follows fine has ends =
+      let served = served_two w x held h n kept in
+      alloc_region_does w order x outer fuel place held next t named.0 keeps after follows h n l named.1 served.0 named.2 served.1 named.3 has ends
+  operation_goes (RegionFree h) keeps after named kept follows fine has ends =
+      free_region_does w order x outer fuel place held next h named (served_one w x held h kept) has (no_result (RegionFree h) keeps after follows ends)
+  operation_goes (UniqueAlloc t l) keeps after named kept follows fine has ends =
+      alloc_unique_does w order x outer fuel place held next t named.0 keeps after follows l named.1 named.2 has ends
+  operation_goes (UniqueFree p) keeps after named kept follows fine has ends =
+      free_unique_does w order x outer fuel place held next p named (served_one w x held p kept) has (no_result (UniqueFree p) keeps after follows ends)
+  operation_goes (KeyNew t) keeps after named kept follows fine has ends =
+      new_key_does w order x outer fuel place held next t named keeps after follows has ends
+  operation_goes (KeyOpen k) keeps after named kept follows fine has ends =
+      open_key_does w order x outer fuel place held next k named (served_one w x held k kept) has (no_result (KeyOpen k) keeps after follows ends)
+  operation_goes (KeyClose k) keeps after named kept follows fine has ends =
+      close_key_does w order x outer fuel place held next k named (served_one w x held k kept) has (no_result (KeyClose k) keeps after follows ends)
+  operation_goes (KeyFree k) keeps after named kept follows fine has ends =
+      free_key_does w order x outer fuel place held next k named (served_one w x held k kept) has (no_result (KeyFree k) keeps after follows ends)

@@ -12,9 +12,10 @@ use Rattle.core_lines.specs.Frames.{environment_code}
 use Rattle.core_lines.specs.Lies.{TagOf, IsNumber}
 use Rattle.core_lines.specs.Lines.{code_length}
 use Rattle.core_lines.specs.Machines.{Machine}
-use Rattle.core_lines.proofs.memory.Relations.{World, IsInOrder, Has, Waiting, At, Goes, IsKept}
-use Rattle.core_lines.proofs.operations.Registers.{AtWith, InRegister}
-use Rattle.core_lines.proofs.operations.Operations.{loading}
+use Rattle.core_lines.specs.Held.{Holding, without_call}
+use Rattle.core_lines.specs.Operands.{into_code}
+use Rattle.core_lines.proofs.memory.Relations.{World, IsInOrder, Has, Waiting, Goes}
+use Rattle.core_lines.proofs.operations.Registers.{AtWith, AtHolding, InRegister, IsServed}
 use Rattle.core_lines.proofs.regions.RegionsFreed.{is_freed}
 use Rattle.core_lines.proofs.regions.StoreCalls.{Carries, Free, passed_goes}
 
@@ -58,9 +59,9 @@ module _ (w : World) (order : IsInOrder w) (x : Waiting) (outer : List Waiting) 
         holds = tt;
       }
 
-  pub region_free_goes : mem.standing (Born d) ≡ Live → (most : ℕ) (active : List (List ℕ)) (rest : Step) (t place : ℕ) → t < x.fn.temporaries
-      → IsKept w x t → x.config.temps t ≡ Birth d → Has w place (loading w order x outer mem 10 t ++ environment_code 6)
-      → Goes w most rest (At w x outer freed (place + code_length (loading w order x outer mem 10 t ++ environment_code 6))) active
-      → Goes w most (Says (Visible event) rest) (At w x outer mem place) active
-  region_free_goes live =
-      passed_goes w order x outer mem freed 6 (omega arith) (λ a. RegionFree a) event (Birth d) (λ answer a b s. refl) (free_carries live)
+  pub region_free_goes : mem.standing (Born d) ≡ Live → (hs : List Holding) (most : ℕ) (active : List (List ℕ)) (rest : Step) (t place : ℕ)
+      → t < x.fn.temporaries → IsServed w x hs t → x.config.temps t ≡ Birth d → Has w place (into_code x.fn.passed hs 10 t ++ environment_code 6)
+      → Goes w most rest (AtHolding w x outer freed (place + code_length (into_code x.fn.passed hs 10 t ++ environment_code 6)) (without_call hs)) active
+      → Goes w most (Says (Visible event) rest) (AtHolding w x outer mem place hs) active
+  region_free_goes live hs =
+      passed_goes w order x outer hs mem freed 6 (omega arith) (λ a. RegionFree a) event (Birth d) (λ answer a b s. refl) (free_carries live)

@@ -14,16 +14,17 @@ use Rattle.core_lines.specs.Frames.{environment_code}
 use Rattle.core_lines.specs.Lies.{Maps, TagOf}
 use Rattle.core_lines.specs.Lines.{code_length}
 use Rattle.core_lines.specs.Machines.{Machine}
-use Rattle.core_lines.proofs.memory.Relations.{World, IsInOrder, Has, Waiting, Follows, keeping, At, Goes, IsKept}
+use Rattle.core_lines.specs.Held.{Holding, without_call, with_answer}
+use Rattle.core_lines.specs.Operands.{into_code, keep_code}
+use Rattle.core_lines.proofs.memory.Relations.{World, IsInOrder, Has, Waiting, Follows, keeping, Goes}
 use Rattle.core_lines.proofs.frames.Passing.{has_first}
-use Rattle.core_lines.proofs.operations.Registers.{AtWith, InRegister}
-use Rattle.core_lines.proofs.operations.Operations.{having, loading, saving}
+use Rattle.core_lines.proofs.operations.Registers.{having, AtWith, AtHolding, InRegister, IsServed}
 use Rattle.core_lines.proofs.regions.RegionsBorn.{numbered_maps, is_born, its_number_is}
 use Rattle.core_lines.proofs.regions.RegionsFreed.{is_freed}
 use Rattle.core_lines.proofs.regions.KeysTurned.{is_turned}
 use Rattle.core_lines.proofs.regions.RegionCalls.{IsMade, makes_or_not, from_free}
 use Rattle.core_lines.proofs.regions.FreeCalls.{number_of}
-use Rattle.core_lines.proofs.regions.StoreCalls.{Carries, IsRefusing, Free, call_goes, then_saved, passed_goes}
+use Rattle.core_lines.proofs.regions.StoreCalls.{Carries, IsRefusing, Free, call_goes, then_kept, passed_goes}
 
 -- what a number stands for is as the region stands
 opened_tag : (x : Tag) (now : Standing) → TagOf x now → now ≡ Opened → x ≡ tag.Opened
@@ -73,18 +74,18 @@ module _ (w : World) (order : IsInOrder w) (x : Waiting) (outer : List Waiting) 
       (λ (lacks : lawfully KeyNew answer st.holdings ≡ refuses NoMemory st.holdings). inr lacks) r))
       (makes_or_not tag.Closed answer st.holdings)
 
-  pub key_new_goes : (most : ℕ) (active : List (List ℕ)) (rest : Step) (t place : ℕ) → t < x.fn.temporaries
-      → (after : List Bool) → Follows true (t ∷ []) x.kept after
-      → Has w place (environment_code 9 ++ saving w order x outer mem 10 t)
-      → Goes w most rest (At w (keeping after (having t (Birth mem.births) x)) outer (born Closed mem)
-      (place + code_length (environment_code 9 ++ saving w order x outer mem 10 t))) active
-      → Goes w most (Says (Visible new_event) rest) (At w x outer mem place) active
-  key_new_goes most active rest t place named after follows has goes =
+  pub key_new_goes : (hs : List Holding) (most : ℕ) (active : List (List ℕ)) (rest : Step) (t place : ℕ) → t < x.fn.temporaries
+      → (keeps : Bool) (after : List Bool) → Follows keeps (t ∷ []) x.kept after
+      → Has w place (environment_code 9 ++ keep_code keeps x.fn.passed 10 t)
+      → Goes w most rest (AtHolding w (keeping after (having t (Birth mem.births) x)) outer (born Closed mem)
+      (place + code_length (environment_code 9 ++ keep_code keeps x.fn.passed 10 t)) (with_answer t hs)) active
+      → Goes w most (Says (Visible new_event) rest) (AtHolding w x outer mem place hs) active
+  key_new_goes hs most active rest t place named keeps after follows has goes =
       let first = environment_code 9 in
-      call_goes w order x outer mem (born Closed mem) 9 (omega arith) (λ a b. KeyNew) new_event Free Number (λ answer a b s. refl) new_answered most active rest
-      place [] (At w x outer mem place) (λ m registers v k. tt) (from_free w order x outer mem place)
-      (has_first w place first (saving w order x outer mem 10 t) has)
-      (then_saved w order x outer (born Closed mem) most active rest t place first (Birth mem.births) named after follows has goes)
+      call_goes w order x outer mem (born Closed mem) hs 9 (omega arith) (λ a b. KeyNew) new_event Free Number (λ answer a b s. refl) new_answered most active
+      rest place [] (AtHolding w x outer mem place hs) (λ m registers v k. tt) (from_free w order x outer mem hs place)
+      (has_first w place first (keep_code keeps x.fn.passed 10 t) has)
+      (then_kept w order x outer hs (born Closed mem) most active rest t place first (Birth mem.births) named keeps after follows has goes)
 
   module _ (d : ℕ) where
     -- a region that doesn't stand as the heap does isn't the heap's
@@ -115,13 +116,14 @@ module _ (w : World) (order : IsInOrder w) (x : Waiting) (outer : List Waiting) 
           holds = tt;
         }
 
-    pub key_open_goes : mem.standing (Born d) ≡ Closed → (most : ℕ) (active : List (List ℕ)) (rest : Step) (t place : ℕ) → t < x.fn.temporaries
-        → IsKept w x t → x.config.temps t ≡ Birth d → Has w place (loading w order x outer mem 10 t ++ environment_code 10)
-        → Goes w most rest (At w x outer (with_standing mem (Born d) Opened) (place + code_length (loading w order x outer mem 10 t ++ environment_code 10))) active
-        → Goes w most (Says (Visible (events.KeyOpen d)) rest) (At w x outer mem place) active
-    key_open_goes closed =
-        passed_goes w order x outer mem (with_standing mem (Born d) Opened) 10 (omega arith) (λ a. KeyOpen a) (events.KeyOpen d) (Birth d) (λ answer a b s. refl)
-        (open_carries closed)
+    pub key_open_goes : mem.standing (Born d) ≡ Closed → (hs : List Holding) (most : ℕ) (active : List (List ℕ)) (rest : Step) (t place : ℕ)
+        → t < x.fn.temporaries → IsServed w x hs t → x.config.temps t ≡ Birth d → Has w place (into_code x.fn.passed hs 10 t ++ environment_code 10)
+        → Goes w most rest (AtHolding w x outer (with_standing mem (Born d) Opened)
+        (place + code_length (into_code x.fn.passed hs 10 t ++ environment_code 10)) (without_call hs)) active
+        → Goes w most (Says (Visible (events.KeyOpen d)) rest) (AtHolding w x outer mem place hs) active
+    key_open_goes closed hs =
+        passed_goes w order x outer hs mem (with_standing mem (Born d) Opened) 10 (omega arith) (λ a. KeyOpen a) (events.KeyOpen d) (Birth d)
+        (λ answer a b s. refl) (open_carries closed)
 
     -- ---- it is closed
 
@@ -147,12 +149,13 @@ module _ (w : World) (order : IsInOrder w) (x : Waiting) (outer : List Waiting) 
           holds = tt;
         }
 
-    pub key_close_goes : mem.standing (Born d) ≡ Opened → (most : ℕ) (active : List (List ℕ)) (rest : Step) (t place : ℕ) → t < x.fn.temporaries
-        → IsKept w x t → x.config.temps t ≡ Birth d → Has w place (loading w order x outer mem 10 t ++ environment_code 11)
-        → Goes w most rest (At w x outer (with_standing mem (Born d) Closed) (place + code_length (loading w order x outer mem 10 t ++ environment_code 11))) active
-        → Goes w most (Says (Visible (events.KeyClose d)) rest) (At w x outer mem place) active
-    key_close_goes opened =
-        passed_goes w order x outer mem (with_standing mem (Born d) Closed) 11 (omega arith) (λ a. KeyClose a) (events.KeyClose d) (Birth d)
+    pub key_close_goes : mem.standing (Born d) ≡ Opened → (hs : List Holding) (most : ℕ) (active : List (List ℕ)) (rest : Step) (t place : ℕ)
+        → t < x.fn.temporaries → IsServed w x hs t → x.config.temps t ≡ Birth d → Has w place (into_code x.fn.passed hs 10 t ++ environment_code 11)
+        → Goes w most rest (AtHolding w x outer (with_standing mem (Born d) Closed)
+        (place + code_length (into_code x.fn.passed hs 10 t ++ environment_code 11)) (without_call hs)) active
+        → Goes w most (Says (Visible (events.KeyClose d)) rest) (AtHolding w x outer mem place hs) active
+    key_close_goes opened hs =
+        passed_goes w order x outer hs mem (with_standing mem (Born d) Closed) 11 (omega arith) (λ a. KeyClose a) (events.KeyClose d) (Birth d)
         (λ answer a b s. refl) (close_carries opened)
 
     -- ---- it is freed with its region
@@ -179,10 +182,11 @@ module _ (w : World) (order : IsInOrder w) (x : Waiting) (outer : List Waiting) 
           holds = tt;
         }
 
-    pub key_free_goes : mem.standing (Born d) ≡ Closed → (most : ℕ) (active : List (List ℕ)) (rest : Step) (t place : ℕ) → t < x.fn.temporaries
-        → IsKept w x t → x.config.temps t ≡ Birth d → Has w place (loading w order x outer mem 10 t ++ environment_code 12)
-        → Goes w most rest (At w x outer (with_standing mem (Born d) Dead) (place + code_length (loading w order x outer mem 10 t ++ environment_code 12))) active
-        → Goes w most (Says (Visible (events.KeyFree d)) rest) (At w x outer mem place) active
-    key_free_goes closed =
-        passed_goes w order x outer mem (with_standing mem (Born d) Dead) 12 (omega arith) (λ a. KeyFree a) (events.KeyFree d) (Birth d) (λ answer a b s. refl)
-        (free_carries closed)
+    pub key_free_goes : mem.standing (Born d) ≡ Closed → (hs : List Holding) (most : ℕ) (active : List (List ℕ)) (rest : Step) (t place : ℕ)
+        → t < x.fn.temporaries → IsServed w x hs t → x.config.temps t ≡ Birth d → Has w place (into_code x.fn.passed hs 10 t ++ environment_code 12)
+        → Goes w most rest (AtHolding w x outer (with_standing mem (Born d) Dead)
+        (place + code_length (into_code x.fn.passed hs 10 t ++ environment_code 12)) (without_call hs)) active
+        → Goes w most (Says (Visible (events.KeyFree d)) rest) (AtHolding w x outer mem place hs) active
+    key_free_goes closed hs =
+        passed_goes w order x outer hs mem (with_standing mem (Born d) Dead) 12 (omega arith) (λ a. KeyFree a) (events.KeyFree d) (Birth d)
+        (λ answer a b s. refl) (free_carries closed)

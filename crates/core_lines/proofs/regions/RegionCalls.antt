@@ -17,13 +17,15 @@ use Rattle.core_lines.specs.Frames.{environment_code}
 use Rattle.core_lines.specs.Lies.{Maps}
 use Rattle.core_lines.specs.Lines.{code_length}
 use Rattle.core_lines.specs.Machines.{Machine}
-use Rattle.core_lines.proofs.memory.Relations.{World, IsInOrder, Has, Waiting, Follows, keeping, At, Goes}
-use Rattle.core_lines.proofs.memory.Moving.{Comes, comes_as}
+use Rattle.core_lines.specs.Held.{Holding, with_answer}
+use Rattle.core_lines.specs.Operands.{keep_code}
+use Rattle.core_lines.proofs.memory.Relations.{World, IsInOrder, Has, Waiting, Follows, keeping, Goes}
+use Rattle.core_lines.proofs.memory.Moving.{Comes, comes_then}
 use Rattle.core_lines.proofs.frames.Passing.{has_first}
-use Rattle.core_lines.proofs.operations.Registers.{AtWith, InRegister, at_with}
-use Rattle.core_lines.proofs.operations.Operations.{having, saving}
+use Rattle.core_lines.proofs.operations.Registers.{having, AtWith, AtHolding, InRegister, stays_there}
+use Rattle.core_lines.proofs.operations.Calling.{Others, without_code}
 use Rattle.core_lines.proofs.regions.RegionsBorn.{numbered_maps, is_born, its_number_is}
-use Rattle.core_lines.proofs.regions.StoreCalls.{Carries, IsRefusing, Free, call_goes, then_saved}
+use Rattle.core_lines.proofs.regions.StoreCalls.{Carries, IsRefusing, Free, call_goes, then_kept}
 
 -- ---- what a store makes of a request for a number
 
@@ -60,12 +62,12 @@ makes_or_not tag (Grants h) s = by (is_new_number s h) refl
         })
     by false e = inr (inl (ap (λ c. if c then record { says = Ok h; after = with_number h tag s } else refuses Full s) e))
 
--- the call alone, from where nothing is known of the registers
-pub from_free : (w : World) (order : IsInOrder w) (x : Waiting) (outer : List Waiting) (mem : Memory) (place : ℕ)
-    → Comes w (At w x outer mem place) (AtWith w x outer mem (place + 0) Free)
-from_free w order x outer mem place =
-    let same : place ≡ place + 0 = omega arith in
-    subst (λ p. Comes w (At w x outer mem place) (AtWith w x outer mem p Free)) same (comes_as w _ _ (at_with w order x outer mem place))
+-- the call alone, without an argument
+pub from_free : (w : World) (order : IsInOrder w) (x : Waiting) (outer : List Waiting) (mem : Memory) (hs : List Holding) (place : ℕ)
+    → Comes w (AtHolding w x outer mem place hs) (AtWith w x outer mem (place + 0) (λ m registers. Free m registers × Others x hs m registers))
+from_free w order x outer mem hs place =
+    comes_then w _ _ _ (without_code w order x outer mem hs place)
+    (stays_there w order x outer mem place (Others x hs) (λ m registers. Free m registers × Others x hs m registers) (λ m registers h. (tt, h)))
 
 module _ (w : World) (order : IsInOrder w) (x : Waiting) (outer : List Waiting) (mem : Memory) where
   abbrev event : events.Event
@@ -102,15 +104,15 @@ module _ (w : World) (order : IsInOrder w) (x : Waiting) (outer : List Waiting) 
       (λ (lacks : lawfully RegionNew answer st.holdings ≡ refuses NoMemory st.holdings). inr lacks) r))
       (makes_or_not tag.Lexical answer st.holdings)
 
-  pub region_new_goes : (most : ℕ) (active : List (List ℕ)) (rest : Step) (t place : ℕ) → t < x.fn.temporaries
-      → (after : List Bool) → Follows true (t ∷ []) x.kept after
-      → Has w place (environment_code 4 ++ saving w order x outer mem 10 t)
-      → Goes w most rest (At w (keeping after (having t (Birth mem.births) x)) outer (born Live mem)
-      (place + code_length (environment_code 4 ++ saving w order x outer mem 10 t))) active
-      → Goes w most (Says (Visible event) rest) (At w x outer mem place) active
-  region_new_goes most active rest t place named after follows has goes =
+  pub region_new_goes : (hs : List Holding) (most : ℕ) (active : List (List ℕ)) (rest : Step) (t place : ℕ) → t < x.fn.temporaries
+      → (keeps : Bool) (after : List Bool) → Follows keeps (t ∷ []) x.kept after
+      → Has w place (environment_code 4 ++ keep_code keeps x.fn.passed 10 t)
+      → Goes w most rest (AtHolding w (keeping after (having t (Birth mem.births) x)) outer (born Live mem)
+      (place + code_length (environment_code 4 ++ keep_code keeps x.fn.passed 10 t)) (with_answer t hs)) active
+      → Goes w most (Says (Visible event) rest) (AtHolding w x outer mem place hs) active
+  region_new_goes hs most active rest t place named keeps after follows has goes =
       let first = environment_code 4 in
-      call_goes w order x outer mem (born Live mem) 4 (omega arith) (λ a b. RegionNew) event Free Number (λ answer a b s. refl) new_answered most active rest place
-      [] (At w x outer mem place) (λ m registers v k. tt) (from_free w order x outer mem place)
-      (has_first w place first (saving w order x outer mem 10 t) has)
-      (then_saved w order x outer (born Live mem) most active rest t place first (Birth mem.births) named after follows has goes)
+      call_goes w order x outer mem (born Live mem) hs 4 (omega arith) (λ a b. RegionNew) event Free Number (λ answer a b s. refl) new_answered most active rest
+      place [] (AtHolding w x outer mem place hs) (λ m registers v k. tt) (from_free w order x outer mem hs place)
+      (has_first w place first (keep_code keeps x.fn.passed 10 t) has)
+      (then_kept w order x outer hs (born Live mem) most active rest t place first (Birth mem.births) named keeps after follows has goes)

@@ -20,17 +20,24 @@ use Rattle.core_lines.specs.Frames.{environment_code}
 use Rattle.core_lines.specs.Lies.{Maps, Activation}
 use Rattle.core_lines.specs.Lines.{code_length}
 use Rattle.core_lines.specs.Machines.{Machine, Store, state_of}
+use Rattle.core_lines.specs.Held.{Holding, without_call, with_answer}
+use Rattle.core_lines.specs.Operands.{into_code, keep_code}
 use Rattle.core_lines.proofs.homes.Homes.{Stays, homes_of, set_stays, homes_on, homes_spared, Changed}
-use Rattle.core_lines.proofs.memory.Relations.{World, IsInOrder, Has, Waiting, Follows, keeping, back_of, At, Goes, IsKept}
+use Rattle.core_lines.proofs.memory.Relations.{World, IsInOrder, Has, Waiting, Follows, keeping, back_of, Goes}
 use Rattle.core_lines.proofs.memory.Moving.{Comes, comes_then, goes_from, goes_as}
 use Rattle.core_lines.proofs.Steps.{state_at}
 use Rattle.core_lines.proofs.memory.Access.{length_of_both}
 use Rattle.core_lines.proofs.memory.Extending.{frame_extends, stack_extends}
 use Rattle.core_lines.proofs.frames.Passing.{has_first, has_second}
-use Rattle.core_lines.proofs.operations.Registers.{AtWith, InRegister, at_of, saves_temp}
-use Rattle.core_lines.proofs.operations.Operations.{having, loading, saving, loads_into}
+use Rattle.core_lines.proofs.memory.Slots.{Kept}
+use Rattle.core_lines.proofs.operations.Registers.{having, AtWith, AtHolding, InRegister, IsServed, knows, set_kept}
+use Rattle.core_lines.proofs.operations.Calling.{Others, argument_changes, number_changes, others_extend, argument_into, answer_kept, no_answer}
 use Rattle.core_lines.proofs.Streams.{numbered, now, here, call_is, lawful_here, next_is}
 use Rattle.core_lines.proofs.regions.Requests.{GoesOn, IsCutThere, granted, goes_asked, grants_on, full_there, lacks_there}
+
+-- nothing is known of the registers
+abbrev pub Free : Maps → (ℕ → ℕ) → Type 0
+Free m registers = Unit {0}
 
 -- ---- what a store makes of a call
 
@@ -42,6 +49,11 @@ registers_behind false number registers = registers
 behind_stays : (gives : Bool) (number : ℕ) (registers : ℕ → ℕ) → Stays (registers_behind gives number registers) registers
 behind_stays true number registers = set_stays 9 number registers refl
 behind_stays false number registers = λ q is. refl
+
+-- they are the same but for x10
+behind_kept : (gives : Bool) (number : ℕ) (registers : ℕ → ℕ) → Kept 10 (registers_behind gives number registers) registers
+behind_kept true number registers = set_kept 9 number registers
+behind_kept false number registers = λ q not7 other. refl
 
 abbrev pub store_behind : Asked → ℕ → Holdings → Store → Store
 store_behind asked number held st = record { holdings = held; ledger = entered asked number st.ledger }
@@ -99,21 +111,33 @@ module _ (w : World) (order : IsInOrder w) (x : Waiting) (outer : List Waiting) 
     holds = holds;
   }
 
-  module _ (number : ℕ) (small : number < 2 ^ 32) (asked : ℕ → ℕ → Asked) (e : events.Event) (P Q : Maps → (ℕ → ℕ) → Type 0)
+  module _ (hs : List Holding) (number : ℕ) (small : number < 2 ^ 32) (asked : ℕ → ℕ → Asked) (e : events.Event) (P Q : Maps → (ℕ → ℕ) → Type 0)
       (calls_it : (answer : Answer) (a b : ℕ) (s : State) → calls w.areas answer number a b s ≡ asks w.areas answer (asked a b) s)
       (answered : (place : ℕ) (s : Machine) (a : AtWith w x outer mem place (λ m registers. (registers 17 ≡ number) × P m registers) s) (answer : Answer)
       → Carries w.areas a.maps (a.frame ∷ a.others) mem mem' s.bytes s.registers s.store (asked (s.registers 10) (s.registers 11)) answer e Q
       ⊎ IsRefusing s.store (asked (s.registers 10) (s.registers 11)) answer e) where
+    -- the words of other temporaries stay where they are
+    abbrev Sent : Maps → (ℕ → ℕ) → Type 0
+    Sent m registers = P m registers × Others x hs m registers
+
+    abbrev Answered : Maps → (ℕ → ℕ) → Type 0
+    Answered m registers = Q m registers × Others x hs m registers
+
     module _ (place : ℕ) (has : Has w place (Plain Ecall ∷ [])) where
       abbrev Before : Machine → Type 0
-      Before = AtWith w x outer mem place (λ m registers. (registers 17 ≡ number) × P m registers)
+      Before = AtWith w x outer mem place (λ m registers. (registers 17 ≡ number) × Sent m registers)
 
       abbrev After : Machine → Type 0
-      After = AtWith w x outer mem' (place + 4) Q
+      After = AtWith w x outer mem' (place + 4) Answered
+
+      -- what the store is asked, without the words of other temporaries
+      alone : (s : Machine) → Before s → AtWith w x outer mem place (λ m registers. (registers 17 ≡ number) × P m registers) s
+      alone s a = knows w order x outer mem place (λ m registers. (registers 17 ≡ number) × Sent m registers)
+          (λ m registers. (registers 17 ≡ number) × P m registers) s (λ m registers h. (h.0, h.1.0)) a
 
       module _ (s : Machine) (a : Before s) (input : List ℕ) (answers : ℕ → Answer) where
         abbrev t : Machine
-        t = now w order x outer mem place has P number s a
+        t = now w order x outer mem place has Sent number s a
 
         abbrev what : Asked
         what = asked (s.registers 10) (s.registers 11)
@@ -122,7 +146,7 @@ module _ (w : World) (order : IsInOrder w) (x : Waiting) (outer : List Waiting) 
         done = lawfully what (answers 0) s.store.holdings
 
         called : step w.areas (answers 0) (state_of t) ≡ concludes what done.after done.says (state_of t)
-        called = call_is w order x outer mem place has P number s a (answers 0) ∙ calls_it (answers 0) (s.registers 10) (s.registers 11) (state_of t)
+        called = call_is w order x outer mem place has Sent number s a (answers 0) ∙ calls_it (answers 0) (s.registers 10) (s.registers 11) (state_of t)
             ∙ ap (λ (d : Done). concludes what d.after d.says (state_of t)) (handed_does w.areas order.blocks what (answers 0) s.store.holdings)
 
         concluded : (gives : Bool) (given : ℕ) (held : Holdings) (result : Stepped)
@@ -136,7 +160,7 @@ module _ (w : World) (order : IsInOrder w) (x : Waiting) (outer : List Waiting) 
           shown = Nothing;
           told = Told what (Ok given);
           state = record {
-            pc = next_is w order x outer mem place has P number s a i;
+            pc = next_is w order x outer mem place has Sent number s a i;
             registers = registers_behind true given s.registers;
             bytes = s.bytes;
             holdings = held;
@@ -147,7 +171,7 @@ module _ (w : World) (order : IsInOrder w) (x : Waiting) (outer : List Waiting) 
           shown = Nothing;
           told = Told what (Ok given);
           state = record {
-            pc = next_is w order x outer mem place has P number s a i;
+            pc = next_is w order x outer mem place has Sent number s a i;
             registers = s.registers;
             bytes = s.bytes;
             holdings = held;
@@ -161,8 +185,10 @@ module _ (w : World) (order : IsInOrder w) (x : Waiting) (outer : List Waiting) 
             let new = registers_behind gives c.number s.registers in
             grants_on w what t input answers done called e (code_base + (place + 4)) c.number new c.held After c.is
             (concluded gives c.number c.held _ refl) c.shows
-            (behind_call place (λ m registers. (registers 17 ≡ number) × P m registers) Q s a c.maps (store_behind what c.number c.held s.store) new c.changed
-            (behind_stays gives c.number s.registers) c.holds)
+            (behind_call place (λ m registers. (registers 17 ≡ number) × Sent m registers) Answered s a c.maps (store_behind what c.number c.held s.store) new
+            c.changed (behind_stays gives c.number s.registers)
+            (c.holds, others_extend x hs a.maps c.maps new c.changed.spares.extends
+            (argument_changes x hs a.maps new s.registers (behind_kept gives c.number s.registers) a.holds.1.1)))
 
         refused : IsRefusing s.store what (answers 0) e → IsCutThere w e t input answers
         refused (inl full) = full_there w what t input answers done called e full.request full.is full.requested full.wanted
@@ -171,20 +197,20 @@ module _ (w : World) (order : IsInOrder w) (x : Waiting) (outer : List Waiting) 
         store_asked : GoesOn w.areas e s input answers After ⊎ IsCutThere w e s input answers
         store_asked =
             subst (λ (q : Machine). GoesOn w.areas e q input answers After ⊎ IsCutThere w e q input answers)
-            (sym (here w order x outer mem place has P number s a))
+            (sym (here w order x outer mem place has Sent number s a))
             (⊎_elim (λ (c : Carries w.areas a.maps (a.frame ∷ a.others) mem mem' s.bytes s.registers s.store what (answers 0) e Q). inl (carried c))
-            (λ (r : IsRefusing s.store what (answers 0) e). inr (refused r)) (answered place s a (answers 0)))
+            (λ (r : IsRefusing s.store what (answers 0) e). inr (refused r)) (answered place s (alone s a) (answers 0)))
 
       store_goes : (most : ℕ) (active : List (List ℕ)) (rest : Step) → Goes w most rest After active → Goes w most (Says (Visible e) rest) Before active
       store_goes most active rest goes =
           goes_asked w Before After active most e rest store_asked
-          (λ s a input answers. lawful_here w order x outer mem place has P number s a input answers) goes
+          (λ s a input answers. lawful_here w order x outer mem place has Sent number s a input answers) goes
 
     -- from code that leaves the arguments in their registers, by the call's number
     pub call_goes : (most : ℕ) (active : List (List ℕ)) (rest : Step) (place : ℕ) (first : List Line) (R : Machine → Type 0)
         → ((m : Maps) (registers : ℕ → ℕ) (v : ℕ) → P m registers → P m (set_register 17 v registers))
-        → Comes w R (AtWith w x outer mem (place + code_length first) P) → Has w place (first ++ environment_code number)
-        → Goes w most rest (AtWith w x outer mem' (place + code_length (first ++ environment_code number)) Q) active
+        → Comes w R (AtWith w x outer mem (place + code_length first) Sent) → Has w place (first ++ environment_code number)
+        → Goes w most rest (AtWith w x outer mem' (place + code_length (first ++ environment_code number)) Answered) active
         → Goes w most (Says (Visible e) rest) R active
     call_goes most active rest place first R keeps comes has goes =
         let second = environment_code number in
@@ -192,43 +218,44 @@ module _ (w : World) (order : IsInOrder w) (x : Waiting) (outer : List Waiting) 
         let has_call = has_second w place first second has in
         let end : middle + 4 + 4 ≡ place + code_length (first ++ second) = omega (arith, length_of_both first second) in
         goes_from w R active most (Says (Visible e) rest) (Before (middle + 4) has_call.2)
-        (comes_then w _ _ _ comes (numbered w order x outer mem number middle P small has_call keeps))
-        (store_goes (middle + 4) has_call.2 most active rest (subst (λ p. Goes w most rest (AtWith w x outer mem' p Q) active) (sym end) goes))
+        (comes_then w _ _ _ comes (numbered w order x outer mem number middle Sent small has_call
+        (λ m registers v h. (keeps m registers v h.0, number_changes x hs m (set_register 17 v registers) registers (set_kept 16 v registers) h.1))))
+        (store_goes (middle + 4) has_call.2 most active rest (subst (λ p. Goes w most rest (AtWith w x outer mem' p Answered) active) (sym end) goes))
 
--- what the call gives is saved into a temporary
-pub then_saved : (w : World) (order : IsInOrder w) (x : Waiting) (outer : List Waiting) (mem : Memory) (most : ℕ) (active : List (List ℕ)) (rest : Step)
-    (t place : ℕ) (first : List Line) (v : Content) → t < x.fn.temporaries → (after : List Bool) → Follows true (t ∷ []) x.kept after
-    → Has w place (first ++ saving w order x outer mem 10 t)
-    → Goes w most rest (At w (keeping after (having t v x)) outer mem (place + code_length (first ++ saving w order x outer mem 10 t))) active
-    → Goes w most rest (AtWith w x outer mem (place + code_length first) (InRegister 10 v)) active
-then_saved w order x outer mem most active rest t place first v named after follows has goes =
-    let second = saving w order x outer mem 10 t in
-    let middle = place + code_length first in
-    let end : middle + code_length second ≡ place + code_length (first ++ second) = omega (arith, length_of_both first second) in
-    goes_from w (AtWith w x outer mem middle (InRegister 10 v)) active most rest
-    (At w (keeping after (having t v x)) outer mem (place + code_length (first ++ second)))
-    (subst (λ p. Comes w (AtWith w x outer mem middle (InRegister 10 v)) (At w (keeping after (having t v x)) outer mem p)) end
-    (saves_temp w order x outer mem 9 t middle v after named follows refl (has_second w place first second has))) goes
+module _ (w : World) (order : IsInOrder w) (x : Waiting) (outer : List Waiting) (hs : List Holding) where
+  -- what the call gives is a temporary's word then, which is saved or not
+  pub then_kept : (mem : Memory) (most : ℕ) (active : List (List ℕ)) (rest : Step) (t place : ℕ) (first : List Line) (v : Content) → t < x.fn.temporaries
+      → (keeps : Bool) (after : List Bool) → Follows keeps (t ∷ []) x.kept after → Has w place (first ++ keep_code keeps x.fn.passed 10 t)
+      → Goes w most rest (AtHolding w (keeping after (having t v x)) outer mem (place + code_length (first ++ keep_code keeps x.fn.passed 10 t))
+      (with_answer t hs)) active
+      → Goes w most rest (AtWith w x outer mem (place + code_length first) (λ m registers. InRegister 10 v m registers × Others x hs m registers)) active
+  then_kept mem most active rest t place first v named keeps after follows has goes =
+      let second = keep_code keeps x.fn.passed 10 t in
+      let middle = place + code_length first in
+      let end : middle + code_length second ≡ place + code_length (first ++ second) = omega (arith, length_of_both first second) in
+      goes_from w _ active most rest
+      (AtHolding w (keeping after (having t v x)) outer mem (place + code_length (first ++ second)) (with_answer t hs))
+      (subst (λ p. Comes w (AtWith w x outer mem middle (λ m registers. InRegister 10 v m registers × Others x hs m registers))
+      (AtHolding w (keeping after (having t v x)) outer mem p (with_answer t hs))) end
+      (answer_kept w order x outer mem hs keeps after t middle v named follows (has_second w place first second has))) goes
 
-abbrev pub Free : Maps → (ℕ → ℕ) → Type 0
-Free m registers = Unit {0}
-
--- a call with a temporary as its argument, of whose number no more is needed
-pub passed_goes : (w : World) (order : IsInOrder w) (x : Waiting) (outer : List Waiting) (mem mem' : Memory) (number : ℕ) → number < 2 ^ 32
-    → (asked : ℕ → Asked) (e : events.Event) (v : Content)
-    → ((answer : Answer) (a b : ℕ) (s : State) → calls w.areas answer number a b s ≡ asks w.areas answer (asked a) s)
-    → ((place : ℕ) (s : Machine) (a : AtWith w x outer mem place (λ m registers. (registers 17 ≡ number) × InRegister 10 v m registers) s) (answer : Answer)
-    → Carries w.areas a.maps (a.frame ∷ a.others) mem mem' s.bytes s.registers s.store (asked (s.registers 10)) answer e Free)
-    → (most : ℕ) (active : List (List ℕ)) (rest : Step) (t place : ℕ) → t < x.fn.temporaries → IsKept w x t → x.config.temps t ≡ v
-    → Has w place (loading w order x outer mem 10 t ++ environment_code number)
-    → Goes w most rest (At w x outer mem' (place + code_length (loading w order x outer mem 10 t ++ environment_code number))) active
-    → Goes w most (Says (Visible e) rest) (At w x outer mem place) active
-passed_goes w order x outer mem mem' number small asked e v calls_it carries most active rest t place named kept is has goes =
-    let first = loading w order x outer mem 10 t in
-    let second = environment_code number in
-    let end = place + code_length (first ++ second) in
-    call_goes w order x outer mem mem' number small (λ a b. asked a) e (InRegister 10 v) Free calls_it (λ place s a answer. inl (carries place s a answer))
-    most active rest place first (At w x outer mem place) (λ m registers q k. k)
-    (subst (λ c. Comes w (At w x outer mem place) (AtWith w x outer mem (place + code_length first) (InRegister 10 c))) is
-    (loads_into w order x outer mem 9 t place named kept refl (has_first w place first second has))) has
-    (goes_as w (AtWith w x outer mem' end Free) active most rest (At w x outer mem' end) (λ s a. at_of w order x outer mem' end Free s a) goes)
+  -- a call with a temporary as its argument, of whose number no more is needed
+  pub passed_goes : (mem mem' : Memory) (number : ℕ) → number < 2 ^ 32 → (asked : ℕ → Asked) (e : events.Event) (v : Content)
+      → ((answer : Answer) (a b : ℕ) (s : State) → calls w.areas answer number a b s ≡ asks w.areas answer (asked a) s)
+      → ((place : ℕ) (s : Machine) (a : AtWith w x outer mem place (λ m registers. (registers 17 ≡ number) × InRegister 10 v m registers) s) (answer : Answer)
+      → Carries w.areas a.maps (a.frame ∷ a.others) mem mem' s.bytes s.registers s.store (asked (s.registers 10)) answer e Free)
+      → (most : ℕ) (active : List (List ℕ)) (rest : Step) (t place : ℕ) → t < x.fn.temporaries → IsServed w x hs t → x.config.temps t ≡ v
+      → Has w place (into_code x.fn.passed hs 10 t ++ environment_code number)
+      → Goes w most rest (AtHolding w x outer mem' (place + code_length (into_code x.fn.passed hs 10 t ++ environment_code number)) (without_call hs)) active
+      → Goes w most (Says (Visible e) rest) (AtHolding w x outer mem place hs) active
+  passed_goes mem mem' number small asked e v calls_it carries most active rest t place named served is has goes =
+      let first = into_code x.fn.passed hs 10 t in
+      let second = environment_code number in
+      let end = place + code_length (first ++ second) in
+      call_goes w order x outer mem mem' hs number small (λ a b. asked a) e (InRegister 10 v) Free calls_it (λ place s a answer. inl (carries place s a answer))
+      most active rest place first (AtHolding w x outer mem place hs) (λ m registers q k. k)
+      (argument_into w order x outer mem hs t place v named served is (has_first w place first second has)) has
+      (goes_as w (AtWith w x outer mem' end (λ m registers. Free m registers × Others x hs m registers)) active most rest
+      (AtHolding w x outer mem' end (without_call hs))
+      (λ s a. no_answer w order x outer mem' hs end s
+      (knows w order x outer mem' end (λ m registers. Free m registers × Others x hs m registers) (Others x hs) s (λ m registers h. h.1) a)) goes)

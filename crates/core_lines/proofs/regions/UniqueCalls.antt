@@ -43,15 +43,17 @@ use Rattle.core_lines.specs.Frames.{word_code, environment_code}
 use Rattle.core_lines.specs.Lies.{Maps, IsBlock}
 use Rattle.core_lines.specs.Lines.{code_length}
 use Rattle.core_lines.specs.Machines.{Machine, Store}
-use Rattle.core_lines.proofs.memory.Relations.{World, IsInOrder, Has, Waiting, Follows, keeping, At, Goes, IsKept}
-use Rattle.core_lines.proofs.memory.Moving.{comes_then, comes_as}
+use Rattle.core_lines.specs.Held.{Holding, without_call, with_answer}
+use Rattle.core_lines.specs.Operands.{into_code, keep_code}
+use Rattle.core_lines.proofs.memory.Relations.{World, IsInOrder, Has, Waiting, Follows, keeping, Goes}
+use Rattle.core_lines.proofs.memory.Moving.{comes_then}
 use Rattle.core_lines.proofs.memory.Growing.{ObjectFits}
 use Rattle.core_lines.proofs.frames.Passing.{has_first}
-use Rattle.core_lines.proofs.operations.Registers.{AtWith, InRegister, at_with, puts_into}
-use Rattle.core_lines.proofs.operations.Operations.{having, loading, saving}
+use Rattle.core_lines.proofs.operations.Registers.{having, AtWith, AtHolding, InRegister, IsServed, puts_into}
+use Rattle.core_lines.proofs.operations.Calling.{Others, argument_changes, without_code}
 use Rattle.core_lines.proofs.regions.UniquesBorn.{single_maps, single_born, single_points}
 use Rattle.core_lines.proofs.regions.UniquesFreed.{alone_freed}
-use Rattle.core_lines.proofs.regions.StoreCalls.{Carries, IsRefusing, Free, call_goes, then_saved, passed_goes}
+use Rattle.core_lines.proofs.regions.StoreCalls.{Carries, IsRefusing, Free, call_goes, then_kept, passed_goes}
 
 -- ---- what a store makes of a request for a unique block
 
@@ -141,25 +143,26 @@ module _ (w : World) (order : IsInOrder w) (x : Waiting) (outer : List Waiting) 
         (⊎_elim (λ (g : IsAlone bytes st.holdings (unique_alloc bytes answer st.holdings)). inl (grants g)) (λ r. inr (refuses_it r))
         (alone_or_not bytes answer st.holdings))
 
-  pub unique_alloc_goes : (most : ℕ) (active : List (List ℕ)) (rest : Step) (t place : ℕ) → t < x.fn.temporaries
-      → (after : List Bool) → Follows true (t ∷ []) x.kept after
-      → Has w place (word_code 10 (bytes % 2 ^ 32) ++ environment_code 7 ++ saving w order x outer mem 10 t)
-      → Goes w most rest (At w (keeping after (having t (Pointer (record { region = Born mem.births; object = 0; cell = 0 }) 0) x)) outer born_alone
-      (place + code_length (word_code 10 (bytes % 2 ^ 32) ++ environment_code 7 ++ saving w order x outer mem 10 t))) active
-      → Goes w most (Says (Visible event) rest) (At w x outer mem place) active
-  unique_alloc_goes most active rest t place named after follows has goes =
+  pub unique_alloc_goes : (hs : List Holding) (most : ℕ) (active : List (List ℕ)) (rest : Step) (t place : ℕ) → t < x.fn.temporaries
+      → (keeps : Bool) (after : List Bool) → Follows keeps (t ∷ []) x.kept after
+      → Has w place (word_code 10 (bytes % 2 ^ 32) ++ environment_code 7 ++ keep_code keeps x.fn.passed 10 t)
+      → Goes w most rest (AtHolding w (keeping after (having t (Pointer (record { region = Born mem.births; object = 0; cell = 0 }) 0) x)) outer born_alone
+      (place + code_length (word_code 10 (bytes % 2 ^ 32) ++ environment_code 7 ++ keep_code keeps x.fn.passed 10 t)) (with_answer t hs)) active
+      → Goes w most (Says (Visible event) rest) (AtHolding w x outer mem place hs) active
+  unique_alloc_goes hs most active rest t place named keeps after follows has goes =
       let first = word_code 10 (bytes % 2 ^ 32) in
       let second = environment_code 7 in
-      let third = saving w order x outer mem 10 t in
+      let third = keep_code keeps x.fn.passed 10 t in
       let has_both = has_first w place (first ++ second) third has in
       let same : bytes % 2 ^ 32 ≡ bytes = omega (arith, small) in
-      call_goes w order x outer mem born_alone 7 (omega arith) (λ a b. UniqueAlloc a) event Sized Block (λ answer a b s. refl) alone_answered most active rest place
-      first (At w x outer mem place) (λ m registers v k. k)
-      (comes_then w _ (AtWith w x outer mem place Free) _ (comes_as w _ _ (at_with w order x outer mem place))
-      (puts_into w order x outer mem 9 (bytes % 2 ^ 32) place Free Sized (omega arith) refl (has_first w place first second has_both)
-      (λ m new old is kept k. is ∙ same))) has_both
-      (then_saved w order x outer born_alone most active rest t place (first ++ second) (Pointer (record { region = Born mem.births; object = 0; cell = 0 }) 0) named
-      after follows has goes)
+      call_goes w order x outer mem born_alone hs 7 (omega arith) (λ a b. UniqueAlloc a) event Sized Block (λ answer a b s. refl) alone_answered most active rest
+      place first (AtHolding w x outer mem place hs) (λ m registers v k. k)
+      (comes_then w _ (AtWith w x outer mem place (Others x hs)) _ (without_code w order x outer mem hs place)
+      (puts_into w order x outer mem 9 (bytes % 2 ^ 32) place (Others x hs) (λ m registers. Sized m registers × Others x hs m registers) (omega arith) refl
+      (has_first w place first second has_both)
+      (λ m new old is kept h. (is ∙ same, argument_changes x hs m new old kept h)))) has_both
+      (then_kept w order x outer hs born_alone most active rest t place (first ++ second) (Pointer (record { region = Born mem.births; object = 0; cell = 0 }) 0)
+      named keeps after follows has goes)
 
 -- ---- it is freed
 
@@ -194,9 +197,9 @@ module _ (w : World) (order : IsInOrder w) (x : Waiting) (outer : List Waiting) 
         holds = tt;
       }
 
-  pub unique_free_goes : (most : ℕ) (active : List (List ℕ)) (rest : Step) (t place : ℕ) → t < x.fn.temporaries → IsKept w x t
-      → x.config.temps t ≡ Pointer p 0
-      → Has w place (loading w order x outer mem 10 t ++ environment_code 8)
-      → Goes w most rest (At w x outer freed (place + code_length (loading w order x outer mem 10 t ++ environment_code 8))) active
-      → Goes w most (Says (Visible gone) rest) (At w x outer mem place) active
-  unique_free_goes = passed_goes w order x outer mem freed 8 (omega arith) (λ a. UniqueFree a) gone (Pointer p 0) (λ answer a b s. refl) free_carries
+  pub unique_free_goes : (hs : List Holding) (most : ℕ) (active : List (List ℕ)) (rest : Step) (t place : ℕ) → t < x.fn.temporaries
+      → IsServed w x hs t → x.config.temps t ≡ Pointer p 0 → Has w place (into_code x.fn.passed hs 10 t ++ environment_code 8)
+      → Goes w most rest (AtHolding w x outer freed (place + code_length (into_code x.fn.passed hs 10 t ++ environment_code 8)) (without_call hs)) active
+      → Goes w most (Says (Visible gone) rest) (AtHolding w x outer mem place hs) active
+  unique_free_goes hs =
+      passed_goes w order x outer hs mem freed 8 (omega arith) (λ a. UniqueFree a) gone (Pointer p 0) (λ answer a b s. refl) free_carries

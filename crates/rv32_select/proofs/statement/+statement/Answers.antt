@@ -30,8 +30,6 @@ use Rattle.rv32_select.proofs.statement.+statement.Goals.{put_statements-then-re
 use Rattle.rv32_select.proofs.statement.+statement.Goals.{put_statement-in-Break+in_ok-put_lines-in-Break, put_statement-in-Clear+in_ok-put_clear-in-Clear}
 use Rattle.rv32_select.proofs.statement.+statement.Goals.{put_statement-in-Continue+in_ok-put_lines-in-Continue, put_statement-in-Copy+in_ok-put_copy-in-Copy}
 use Rattle.rv32_select.proofs.statement.+statement.Goals.{put_statement-in-Raise+in_ok-put_raise-in-Raise}
-use Rattle.rv32_select.proofs.statement.+statement.Goals.{put_statement-in-RegionAlloc+in_ok-put_region_alloc-in-RegionAlloc}
-use Rattle.rv32_select.proofs.statement.+statement.Goals.{put_statement-in-UniqueAlloc+in_ok-put_unique_alloc-in-UniqueAlloc}
 
 none_more : (n : ℕ) → n ≡ n + 0
 none_more n = omega arith
@@ -155,6 +153,42 @@ put_statement-returns-in-Return t c =
       free = none_more a.next;
       same = put.same;
       saves = ap reverse put.saves;
+    }
+
+pub put_statement-returns-in-RegionAlloc : goal.put_statement-returns-in-RegionAlloc
+put_statement-returns-in-RegionAlloc t c =
+    let a = c.args in
+    let x = c.in-RegionAlloc in
+    let put = c.in_ok-put_region_request-in-RegionAlloc.ensures in
+    done_as a.lines.now.items c.put_region_request.new.lines.items (saves_left a.place.now) (saves_left c.put_region_request.new.place)
+    (surroundings a.place.now) (surroundings c.put_region_request.new.place) a.next a.ways.out a.ways.again
+    (Do (core.RegionAlloc x.to.0 x.handle.0 x.count.0 (layout_tree c.as_ref-in-RegionAlloc.result.now))) (statement_tree a.statement.now)
+    (ap statement_tree (x.is ∙ sym (form.rolls-RegionAlloc x.to x.handle x.count x.layout))
+    ∙ fold-roll-Statement Statement statement_step (Statement-F.RegionAlloc x.to x.handle x.count x.layout)
+    ∙ ap (λ l. Do (core.RegionAlloc x.to.0 x.handle.0 x.count.0 (layout_tree l))) (sym c.as_ref-in-RegionAlloc.ensures))
+    record {
+      code = put.code;
+      free = none_more a.next;
+      same = put.same;
+      saves = put.saves;
+    }
+
+pub put_statement-returns-in-UniqueAlloc : goal.put_statement-returns-in-UniqueAlloc
+put_statement-returns-in-UniqueAlloc t c =
+    let a = c.args in
+    let x = c.in-UniqueAlloc in
+    let put = c.in_ok-put_unique_request-in-UniqueAlloc.ensures in
+    done_as a.lines.now.items c.put_unique_request.new.lines.items (saves_left a.place.now) (saves_left c.put_unique_request.new.place)
+    (surroundings a.place.now) (surroundings c.put_unique_request.new.place) a.next a.ways.out a.ways.again
+    (Do (core.UniqueAlloc x.to.0 (layout_tree c.as_ref-in-UniqueAlloc.result.now))) (statement_tree a.statement.now)
+    (ap statement_tree (x.is ∙ sym (form.rolls-UniqueAlloc x.to x.layout))
+    ∙ fold-roll-Statement Statement statement_step (Statement-F.UniqueAlloc x.to x.layout)
+    ∙ ap (λ l. Do (core.UniqueAlloc x.to.0 (layout_tree l))) (sym c.as_ref-in-UniqueAlloc.ensures))
+    record {
+      code = put.code;
+      free = none_more a.next;
+      same = put.same;
+      saves = put.saves;
     }
 
 pub put_statement-put_if-requires : goal.put_statement-put_if-requires
@@ -281,23 +315,6 @@ put_statement-returns t c =
           ∙ fold-roll-Statement Statement statement_step (Statement-F.Clear x.pointer x.layout x.count)
           ∙ ap (λ l. Do (core.Clear x.pointer.0 (layout_tree l) x.count)) (sym w.as_ref-in-Clear.ensures))
           (ap items w.lines-is ∙ w.in_ok-put_clear-in-Clear.ensures) free (same (ap surroundings w.place-is)) (ap saves_left w.place-is)
-      | put_statement-in-RegionAlloc+in_ok-put_region_alloc-in-RegionAlloc w ↦
-          let x = w.in-RegionAlloc in
-          done (Do (core.RegionAlloc x.to.0 x.handle.0 x.count.0 (layout_tree w.as_ref-in-RegionAlloc.result.now)))
-          (ap statement_tree (x.is ∙ sym (form.rolls-RegionAlloc x.to x.handle x.count x.layout))
-          ∙ fold-roll-Statement Statement statement_step (Statement-F.RegionAlloc x.to x.handle x.count x.layout)
-          ∙ ap (λ l. Do (core.RegionAlloc x.to.0 x.handle.0 x.count.0 (layout_tree l))) (sym w.as_ref-in-RegionAlloc.ensures))
-          (ap items w.lines-is ∙ w.in_ok-put_region_alloc-in-RegionAlloc.ensures) free
-          (same (ap surroundings w.place-is ∙ w.pass_result.ensures.same)) (ap saves_left w.place-is ∙ w.pass_result.ensures.saves)
-      | put_statement-in-UniqueAlloc+in_ok-put_unique_alloc-in-UniqueAlloc w ↦
-          let x = w.in-UniqueAlloc in
-          done (Do (core.UniqueAlloc x.to.0 (layout_tree w.as_ref-in-UniqueAlloc.result.now)))
-          (ap statement_tree (x.is ∙ sym (form.rolls-UniqueAlloc x.to x.layout))
-          ∙ fold-roll-Statement Statement statement_step (Statement-F.UniqueAlloc x.to x.layout)
-          ∙ ap (λ l. Do (core.UniqueAlloc x.to.0 (layout_tree l))) (sym w.as_ref-in-UniqueAlloc.ensures))
-          (ap items w.lines-is ∙ w.in_ok-put_unique_alloc-in-UniqueAlloc.ensures) free
-          (same (ap surroundings w.place-is ∙ w.pass_result-in-UniqueAlloc.ensures.same))
-          (ap saves_left w.place-is ∙ w.pass_result-in-UniqueAlloc.ensures.saves)
       | put_statement-in-Break+in_ok-put_lines-in-Break w ↦
           done Break (ap statement_tree (w.in-Break.is ∙ sym form.rolls-Break) ∙ fold-roll-Statement Statement statement_step Statement-F.Break)
           (ap items w.lines-is ∙ w.in_ok-put_lines-in-Break.ensures) free (same (ap surroundings w.place-is)) (ap saves_left w.place-is)

@@ -289,8 +289,8 @@ clear_within true = record { is = omega arith }
 clear_within false = record { is = omega arith }
 
 -- a word into just one register
-one_within : (u : Surroundings) (register t : ℕ) → IsWithin 12 (into_code u.passed u.held register t)
-one_within u register t = into_within u.passed u.held register t
+just_within : (u : Surroundings) (register t : ℕ) → IsWithin 12 (into_code u.passed u.held register t)
+just_within u register t = into_within u.passed u.held register t
 
 -- one part, and an answer of the environment
 answer_within : (n : ℕ) (keeps : Bool) (u : Surroundings) (t : ℕ) (xs : List Line) → n ≤ 52 → IsWithin n xs → IsWithin 64 (xs ++ keep_answer keeps u t)
@@ -306,7 +306,7 @@ block_within keeps u t h n bytes =
     less_within (24 + 28 + 8 + 12) 128 _ (omega arith)
     (both_within (24 + 28 + 8) 12 (count ++ handle ++ bytes_code bytes ++ environment_code 5) (keep_answer keeps u t)
     (both_within (24 + 28) 8 (count ++ handle ++ bytes_code bytes) (environment_code 5)
-    (both_within 24 28 (count ++ handle) (bytes_code bytes) (both_within 12 12 count handle (one_within u 5 n) (one_within u 10 h))
+    (both_within 24 28 (count ++ handle) (bytes_code bytes) (both_within 12 12 count handle (just_within u 5 n) (just_within u 10 h))
     (record { is = omega arith })) (environment_within 5))
     (keep_within keeps u.passed 10 t))
 
@@ -330,7 +330,7 @@ put_within u (suc h) width offset x =
 about_within : (u : Surroundings) (t number : ℕ) → IsWithin 64 (argument_code u t ++ environment_code number)
 about_within u t number =
     less_within (12 + 8) 64 _ (omega arith)
-    (both_within 12 8 (argument_code u t) (environment_code number) (one_within u 10 t) (environment_within number))
+    (both_within 12 8 (argument_code u t) (environment_code number) (just_within u 10 t) (environment_within number))
 
 narrow_within : (keeps : Bool) (u : Surroundings) (t x : ℕ) (known : Option ℕ) → IsWithin 64 (narrow_kept keeps u t x known)
 narrow_within keeps u t x None =
@@ -391,7 +391,7 @@ operation_within keeps u (SamePlace t p q) =
 operation_within keeps u (Getchar t) = answer_within 8 keeps u t (environment_code 2) (omega arith) (environment_within 2)
 operation_within keeps u (Putchar t x) =
     answer_within 20 keeps u t (argument_code u x ++ environment_code 1) (omega arith)
-    (both_within 12 8 (argument_code u x) (environment_code 1) (one_within u 10 x) (environment_within 1))
+    (both_within 12 8 (argument_code u x) (environment_code 1) (just_within u 10 x) (environment_within 1))
 operation_within keeps u (HeapHandle t) = number_kept_within keeps u.passed t 0
 operation_within keeps u (RegionNew t) = answer_within 8 keeps u t (environment_code 4) (omega arith) (environment_within 4)
 operation_within keeps u (RegionAlloc t h n layout) = block_within keeps u t h n layout.bytes

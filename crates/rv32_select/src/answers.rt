@@ -29,7 +29,5 @@ pub fn hold_answer(place: &mut Place, to: Temporary) -> Result<(), AllocError>
     ensures homes { place.new.homes.items ≡ place.old.homes.items }
 {
     hold_asked(place);
-    place
-        .held
-        .hold(to, Source::Register(Register::ARGUMENT_0))
+    place.held.hold(to, Source::Register(Register::ARGUMENT_0))
 }

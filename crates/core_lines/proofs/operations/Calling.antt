@@ -147,7 +147,8 @@ module _ (w : World) (order : IsInOrder w) (x : Waiting) (outer : List Waiting) 
       (AtWith w x outer mem (place + code_length (into_code x.fn.passed hs 10 t)) (λ m registers. InRegister 10 v m registers × Others x hs m registers))
   argument_into t place v named served is has =
       comes_then w _ _ _
-      (comes_as w _ _ (λ s a. knows w order x outer mem place _ _ s (λ m registers h. (h, tt)) (with_there w x outer mem place hs s a)))
+      (comes_as w _ _ (λ s a. knows w order x outer mem place (AreThere hs x.config.temps)
+      (λ m registers. AreThere hs x.config.temps m registers × Free m registers) s (λ m registers h. (h, tt)) (with_there w x outer mem place hs s a)))
       (now_known w order x outer mem (place + code_length (into_code x.fn.passed hs 10 t)) _ _ _
       (λ m registers h. (subst (λ c. InRegister 10 c m registers) is h.0, h.1))
       (argument_then t place Free named served (λ m new old kept h. tt) has))

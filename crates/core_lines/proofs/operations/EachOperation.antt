@@ -53,8 +53,7 @@ use Rattle.core_lines.specs.Homes.{is_home}
 use Rattle.core_meaning.specs.Selectable.{HasCode}
 use Rattle.core_lines.proofs.memory.Relations.{Inside, home_of, Covers, Follows, keeping, AreKept, World, IsInOrder, Has, Waiting, At, Goes, active_of}
 use Rattle.core_lines.proofs.memory.Moving.{Comes, goes_as}
-use Rattle.core_lines.proofs.frames.Passing.{follows_saved}
-use Rattle.core_lines.proofs.frames.Bodies.{with_config, IsIn, GoesHolding, goes_any}
+use Rattle.core_lines.proofs.frames.Bodies.{with_config, IsIn, GoesHolding}
 use Rattle.core_lines.proofs.operations.Registers.{having, AtHolding, fewer_holding, served_one, served_two, follows_none, number_into}
 use Rattle.core_lines.proofs.homes.Nests.{BlocksAre, nth_is}
 use Rattle.core_lines.proofs.homes.Fine.{IsFineOperation}
@@ -287,22 +286,22 @@ module _ (w : World) (order : IsInOrder w) (x : Waiting) (outer : List Waiting) 
       follows y n named.1 (served_one w x held y kept) e has (ends (with_temp t (Word (n % 256)) c) (record { blocks = is.blocks; own = is.own })))
   operation_goes (HeapHandle t) keeps after named kept follows fine has ends c is =
       gives (HeapHandle t) keeps after c t (Birth 0) is (heap_handle w order (with_config x c) outer c.memory keeps after t named follows place held has) ends
-  operation_goes (RegionNew t) keeps after named kept follows fine has ends =
-      new_region_does w order x outer fuel place held next t named keeps after follows has ends
-  operation_goes (RegionAlloc t h n l) keeps after named kept follows fine has ends =
+  operation_goes (RegionNew t) keeps after named kept follows fine has ends c is =
+      new_region_does w order x outer fuel place held next t named keeps after follows has ends c is
+  operation_goes (RegionAlloc t h n l) keeps after named kept follows fine has ends c is =
       let served = served_two w x held h n kept in
-      alloc_region_does w order x outer fuel place held next t named.0 keeps after follows h n l named.1 served.0 named.2 served.1 named.3 has ends
-  operation_goes (RegionFree h) keeps after named kept follows fine has ends =
-      free_region_does w order x outer fuel place held next h named (served_one w x held h kept) has (no_result (RegionFree h) keeps after follows ends)
-  operation_goes (UniqueAlloc t l) keeps after named kept follows fine has ends =
-      alloc_unique_does w order x outer fuel place held next t named.0 keeps after follows l named.1 named.2 has ends
-  operation_goes (UniqueFree p) keeps after named kept follows fine has ends =
-      free_unique_does w order x outer fuel place held next p named (served_one w x held p kept) has (no_result (UniqueFree p) keeps after follows ends)
-  operation_goes (KeyNew t) keeps after named kept follows fine has ends =
-      new_key_does w order x outer fuel place held next t named keeps after follows has ends
-  operation_goes (KeyOpen k) keeps after named kept follows fine has ends =
-      open_key_does w order x outer fuel place held next k named (served_one w x held k kept) has (no_result (KeyOpen k) keeps after follows ends)
-  operation_goes (KeyClose k) keeps after named kept follows fine has ends =
-      close_key_does w order x outer fuel place held next k named (served_one w x held k kept) has (no_result (KeyClose k) keeps after follows ends)
-  operation_goes (KeyFree k) keeps after named kept follows fine has ends =
-      free_key_does w order x outer fuel place held next k named (served_one w x held k kept) has (no_result (KeyFree k) keeps after follows ends)
+      alloc_region_does w order x outer fuel place held next t named.0 keeps after follows h n l named.1 served.0 named.2 served.1 named.3 has ends c is
+  operation_goes (RegionFree h) keeps after named kept follows fine has ends c is =
+      free_region_does w order x outer fuel place held next h named (served_one w x held h kept) has (no_result (RegionFree h) keeps after follows ends) c is
+  operation_goes (UniqueAlloc t l) keeps after named kept follows fine has ends c is =
+      alloc_unique_does w order x outer fuel place held next t named.0 keeps after follows l named.1 named.2 has ends c is
+  operation_goes (UniqueFree p) keeps after named kept follows fine has ends c is =
+      free_unique_does w order x outer fuel place held next p named (served_one w x held p kept) has (no_result (UniqueFree p) keeps after follows ends) c is
+  operation_goes (KeyNew t) keeps after named kept follows fine has ends c is =
+      new_key_does w order x outer fuel place held next t named keeps after follows has ends c is
+  operation_goes (KeyOpen k) keeps after named kept follows fine has ends c is =
+      open_key_does w order x outer fuel place held next k named (served_one w x held k kept) has (no_result (KeyOpen k) keeps after follows ends) c is
+  operation_goes (KeyClose k) keeps after named kept follows fine has ends c is =
+      close_key_does w order x outer fuel place held next k named (served_one w x held k kept) has (no_result (KeyClose k) keeps after follows ends) c is
+  operation_goes (KeyFree k) keeps after named kept follows fine has ends c is =
+      free_key_does w order x outer fuel place held next k named (served_one w x held k kept) has (no_result (KeyFree k) keeps after follows ends) c is

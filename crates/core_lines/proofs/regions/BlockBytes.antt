@@ -167,7 +167,9 @@ module _ (w : World) (order : IsInOrder w) (x : Waiting) (outer : List Waiting) 
         let Number : Maps → (ℕ → ℕ) → Type 0 = λ m registers. AreThere hs x.config.temps m registers × InRegister 5 (Word count) m registers in
         let number : Comes w (AtHolding w x outer mem place hs) (AtWith w x outer mem (place + code_length first) Number) =
         comes_then w _ _ _
-        (comes_as w _ _ (λ s a. knows w order x outer mem place _ _ s (λ m registers g. (g, g)) (with_there w x outer mem place hs s a)))
+        (comes_as w _ _ (λ s a. knows w order x outer mem place (AreThere hs x.config.temps)
+        (λ m registers. AreThere hs x.config.temps m registers × AreThere hs x.config.temps m registers) s (λ m registers g. (g, g))
+        (with_there w x outer mem place hs s a)))
         (now_known w order x outer mem (place + code_length first) _ _ Number
         (λ m registers g. (g.2, subst (λ c. InRegister 5 c m registers) is' g.0))
         (fetch_into w order x outer mem 4 n place hs (AreThere hs x.config.temps) named' served' refl refl (there_kept 4 hs x.config.temps refl)

@@ -131,9 +131,17 @@ module _ (w : World) (order : IsInOrder w) (x : Waiting) (outer : List Waiting) 
       After = AtWith w x outer mem' (place + 4) Answered
 
       -- what the store is asked, without the words of other temporaries
-      alone : (s : Machine) → Before s → AtWith w x outer mem place (λ m registers. (registers 17 ≡ number) × P m registers) s
-      alone s a = knows w order x outer mem place (λ m registers. (registers 17 ≡ number) × Sent m registers)
-          (λ m registers. (registers 17 ≡ number) × P m registers) s (λ m registers h. (h.0, h.1.0)) a
+      abbrev alone : (s : Machine) → Before s → AtWith w x outer mem place (λ m registers. (registers 17 ≡ number) × P m registers) s
+      alone s a = record {
+        maps = a.maps;
+        frame = a.frame;
+        others = a.others;
+        sp = a.sp;
+        stands = a.stands;
+        shows = a.shows;
+        stack = a.stack;
+        holds = (a.holds.0, a.holds.1.0);
+      }
 
       module _ (s : Machine) (a : Before s) (input : List ℕ) (answers : ℕ → Answer) where
         abbrev t : Machine
@@ -186,9 +194,11 @@ module _ (w : World) (order : IsInOrder w) (x : Waiting) (outer : List Waiting) 
             grants_on w what t input answers done called e (code_base + (place + 4)) c.number new c.held After c.is
             (concluded gives c.number c.held _ refl) c.shows
             (behind_call place (λ m registers. (registers 17 ≡ number) × Sent m registers) Answered s a c.maps (store_behind what c.number c.held s.store) new
-            c.changed (behind_stays gives c.number s.registers)
-            (c.holds, others_extend x hs a.maps c.maps new c.changed.spares.extends
-            (argument_changes x hs a.maps new s.registers (behind_kept gives c.number s.registers) a.holds.1.1)))
+            c.changed (behind_stays gives c.number s.registers) (
+              c.holds,
+              others_extend x hs a.maps c.maps new c.changed.spares.extends
+                  (argument_changes x hs a.maps new s.registers (behind_kept gives c.number s.registers) a.holds.1.1),
+            ))
 
         refused : IsRefusing s.store what (answers 0) e → IsCutThere w e t input answers
         refused (inl full) = full_there w what t input answers done called e full.request full.is full.requested full.wanted

@@ -24,27 +24,11 @@ use Rattle.core_lines.specs.Operands.{verdict_kept, move_kept, ready_code, test_
 use Rattle.core_lines.specs.Selected.{Surroundings, nth, local_offset, local_home, from_temp, to_temp, far_code, read_line, read_code, write_line, write_code}
 use Rattle.core_lines.specs.Selected.{binary_code, turned, immediate_code, immediate_for, operand, has_operand, both_code, apply_code, keep_result}
 use Rattle.core_lines.specs.Selected.{computed_kept, applied_kept, address_code, get_code, byte_code, put_code}
+use Rattle.core_lines.specs.Selected.{null_source, null_kept}
 use Rattle.core_lines.specs.Selected.{number_in, narrow_kept, exponent_of, times_code, element_code, bytes_code, further_code, bytes_in, operation_code}
 use Rattle.core_lines.specs.Straight.{straight_operation}
-use Rattle.core_lines.proofs.memory.Access.{length_of_both}
 use Rattle.core_meaning.specs.Bounds.{operation_count}
-
--- lines take no more than so many bytes
-pub record IsWithin (n : ℕ) (lines : List Line) : Type 0 where
-  pub is : code_length lines ≤ n
-
-pub both_within : (n m : ℕ) (xs ys : List Line) → IsWithin n xs → IsWithin m ys → IsWithin (n + m) (xs ++ ys)
-both_within n m xs ys h g = record { is = let e = length_of_both xs ys in let a = h.is in let b = g.is in omega (arith, e, a, b) }
-
-pub less_within : (n m : ℕ) (xs : List Line) → n ≤ m → IsWithin n xs → IsWithin m xs
-less_within n m xs l h = record { is = let a = h.is in omega (arith, a, l) }
-
-pub if_within : (n : ℕ) (c : Bool) (xs ys : List Line) → IsWithin n xs → IsWithin n ys → IsWithin n (if c then xs else ys)
-if_within n true xs ys h g = h
-if_within n false xs ys h g = g
-
-pub nothing_within : (n : ℕ) → IsWithin n []
-nothing_within n = record { is = omega arith }
+pub use Rattle.core_lines.proofs.Within.{IsWithin, both_within, less_within, if_within, nothing_within}
 
 -- ---- slots and words
 
@@ -330,6 +314,12 @@ narrow_within keeps u t x None =
     result_within 16 keeps u t (operand u 5 x ++ line) (omega arith) (with_within 4 u 5 x line (record { is = omega arith }))
 narrow_within keeps u t x (Some w) = number_kept_within keeps u.passed t (w % 256)
 
+null_within : (keeps : Bool) (u : Surroundings) (t p : ℕ) (known : Option Source) → IsWithin 64 (null_kept keeps u t p known)
+null_within keeps u t p None =
+    let line : List Line = Plain (instr.Sltiu (result_register t) (has_operand u 5 p) (pos 1)) ∷ [] in
+    result_within 16 keeps u t (operand u 5 p ++ line) (omega arith) (with_within 4 u 5 p line (record { is = omega arith }))
+null_within keeps u t p (Some s) = move_within keeps u.passed (result_register t) t p (Some s)
+
 pub operation_within : (keeps : Bool) (u : Surroundings) (o : Operation) → IsWithin (64 * operation_count o) (operation_code keeps u o)
 operation_within keeps u (Constant t w) = number_kept_within keeps u.passed t (w % 2 ^ 32)
 operation_within keeps u (NullPointer t) = less_within 12 64 _ (omega arith) (keep_within keeps u.passed 0 t)
@@ -373,9 +363,7 @@ operation_within keeps u (Clear p layout count) =
     (both_within 24 12 (from_temp u 5 p ++ further_code 7 5 (bytes_in layout count)) (clear_loop (are_words layout))
     (both_within 12 12 (from_temp u 5 p) (further_code 7 5 (bytes_in layout count)) (from_within u 5 p) (further_within 7 5 (bytes_in layout count)))
     (clear_within (are_words layout))))
-operation_within keeps u (IsNull t p) =
-    let line : List Line = Plain (instr.Sltiu (result_register t) (has_operand u 5 p) (pos 1)) ∷ [] in
-    result_within 16 keeps u t (operand u 5 p ++ line) (omega arith) (with_within 4 u 5 p line (record { is = omega arith }))
+operation_within keeps u (IsNull t p) = null_within keeps u t p (null_source (source_of u.held p))
 operation_within keeps u (SamePlace t p q) =
     let lines = binary_code Equal (result_register t) (has_operand u 5 p) (has_operand u 6 q) in
     result_within 32 keeps u t (operand u 5 p ++ operand u 6 q ++ lines) (omega arith)

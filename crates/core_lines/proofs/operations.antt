@@ -9,6 +9,7 @@ pub mod Comparing
 pub mod Reaching
 pub mod Writing
 pub mod Operations
+pub mod Nulls
 pub mod Computing
 pub mod Applying
 pub mod Parts

@@ -177,6 +177,12 @@ narrow_kept keeps u t x None =
     operand u 5 x ++ (Plain (instr.Andi (result_register t) (has_operand u 5 x) (pos 255)) ∷ []) ++ keep_result keeps u t
 narrow_kept keeps u t x (Some w) = number_kept keeps u.passed t (w % 256)
 
+-- whether a word is 0, which may be known to be a number or a comparison
+abbrev pub null_kept : Bool → Surroundings → (t p : ℕ) → Option Source → List Line
+null_kept keeps u t p None =
+    operand u 5 p ++ (Plain (instr.Sltiu (result_register t) (has_operand u 5 p) (pos 1)) ∷ []) ++ keep_result keeps u t
+null_kept keeps u t p (Some s) = move_kept keeps u.passed (result_register t) t p (Some s)
+
 -- a local into a temporary, and back: where it lies in the frame, or in its register, of which a byte is kept as the word that it is
 abbrev pub get_code : Bool → Surroundings → ℕ → ℕ → ℕ → ℕ → List Line
 get_code keeps u zero t width offset = read_code (result_register t) width 2 offset ++ keep_result keeps u t

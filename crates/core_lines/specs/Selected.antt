@@ -14,7 +14,7 @@ use Rattle.core_lines.specs.Frames.{word_code, stack_start_code, epilogue_code, 
 use Rattle.core_lines.specs.Loops.{are_words, copy_loop, clear_loop}
 use Rattle.core_lines.specs.Homes.{homes_in, saved_slot, saved_by, flag_at}
 pub use Rattle.core_lines.specs.Held.{nth, nth_block, Source, Register, Number, Compared, Holding, held_behind, held_behind_all, source_of, number_in}
-pub use Rattle.core_lines.specs.Held.{result_register, same_as, comparison_of}
+pub use Rattle.core_lines.specs.Held.{result_register, same_as, comparison_of, null_source}
 use Rattle.core_lines.specs.Operands.{keep_code}
 use Rattle.core_lines.specs.Operands.{number_kept, move_kept, call_code, return_code, prologue_code}
 use Rattle.core_lines.specs.Choosing.{choice_code, between_code, behind_code}
@@ -28,7 +28,7 @@ pub use Rattle.core_lines.specs.LocalPlaces.{frame_bytes, datum_local, datum_loc
 pub use Rattle.core_lines.specs.Computed.{Surroundings, local_offset, local_home, from_temp, to_temp, far_code, read_line, read_code, write_line, write_code}
 pub use Rattle.core_lines.specs.Computed.{inverted, binary_code, short_code, shift_code, turned, difference_code, immediate_code, immediate_for, address_code}
 pub use Rattle.core_lines.specs.Computed.{further_code, operand, has_operand, both_code, apply_code, keep_result, computed_kept, applied_kept, get_code, byte_code, put_code}
-pub use Rattle.core_lines.specs.Computed.{exponent_of, times_code, element_code, narrow_kept}
+pub use Rattle.core_lines.specs.Computed.{exponent_of, times_code, element_code, narrow_kept, null_kept}
 
 -- ---- whole objects
 
@@ -70,8 +70,7 @@ operation_code keeps u (Load t p d) = operand u 5 p ++ read_code (result_registe
 operation_code keeps u (Store p d x) = operand u 5 p ++ operand u 6 x ++ write_code (has_operand u 6 x) d.width (has_operand u 5 p) d.bytes
 operation_code keeps u (Copy to from layout) = copy_code u to from layout
 operation_code keeps u (Clear p layout count) = clear_code u p layout count
-operation_code keeps u (IsNull t p) =
-    operand u 5 p ++ (Plain (instr.Sltiu (result_register t) (has_operand u 5 p) (pos 1)) ∷ []) ++ keep_result keeps u t
+operation_code keeps u (IsNull t p) = null_kept keeps u t p (null_source (source_of u.held p))
 operation_code keeps u (SamePlace t p q) =
     operand u 5 p ++ operand u 6 q ++ binary_code Equal (result_register t) (has_operand u 5 p) (has_operand u 6 q) ++ keep_result keeps u t
 operation_code keeps u (Getchar t) = environment_code 2 ++ to_temp u 10 t

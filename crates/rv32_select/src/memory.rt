@@ -16,7 +16,7 @@ use crate::place::Place;
 use crate::words::put_binary;
 use core_lines::Line;
 use cyc_core::{Binary, Distance, Temporary};
-use rv32_isa::{Instr, Register, ShiftAmount, Signed12};
+use rv32_isa::{Instr, Register, ShiftAmount};
 use std::alloc::AllocError;
 
 /// Appends what gives a temporary the address so many bytes behind that in another one.
@@ -130,23 +130,6 @@ pub fn put_element(
         ++ element_code u (result_register to.0) pointer.0 index.0 bytes ++ keep_result keeps u to.0) }
 {
     put_element_address(lines, place, result_register(to), pointer, index, bytes)?;
-    put_result(lines, place, keeps, to)
-}
-
-/// Appends what gives a temporary whether another one is NULL.
-pub fn put_is_null(
-    lines: &mut Vec<Line>,
-    place: &Place,
-    keeps: bool,
-    to: Temporary,
-    pointer: Temporary,
-) -> Result<(), AllocError>
-    ensures { OnOk result (lines.new.items ≡ lines.old.items
-        ++ operation_code keeps (surroundings place.now) (core.IsNull to.0 pointer.0)) }
-{
-    let from = put_operand(lines, place, FIRST, pointer)?;
-    let one = Signed12::new(1);
-    put(lines, Instr::Sltiu(result_register(to), from, one))?;
     put_result(lines, place, keeps, to)
 }
 

@@ -3,6 +3,7 @@ use Rattle.std.proofs.Common.{◌≡◌, ℕ, zero, suc, pos, ◌+◌, ◌*◌, 
 use Rattle.std.specs.Prelude.{nat_lt, drop, if◌then◌else◌}
 use Rattle.core_lines.specs.declared.comparison.Comparison.{Comparison}
 use Rattle.rv32_isa.specs.declared.instruction.Instr.TheVariants as instr
+use Rattle.cyc_words.specs.declared.faults.Kind.{Kind}
 use Rattle.core_meaning.specs.Memory.{Layout}
 use Rattle.core_meaning.specs.Core.{Binary, Add, Subtract, Multiply, Divide, DivideUnsigned, Remainder, RemainderUnsigned, And, Or, Xor, ShiftLeft}
 use Rattle.core_meaning.specs.Core.{ShiftRight, ShiftRightUnsigned, Equal, NotEqual, Less, LessEqual, LessUnsigned, LessEqualUnsigned, Operation, Constant}
@@ -16,7 +17,7 @@ use Rattle.core_lines.specs.Comparisons.{inverse, branch_if, verdict_code}
 use Rattle.core_lines.specs.Lines.{code_length}
 use Rattle.core_lines.specs.Frames.{is_short, word_code, load_code, save_code, slot_of, environment_code, frame_code, give_code}
 use Rattle.core_lines.specs.Frames.{saves_code, restores_code, leave_code, epilogue_code, raise_code}
-use Rattle.core_lines.specs.Checks.{Failure, Always, ByTest, failure_code, check_code}
+use Rattle.core_lines.specs.Checks.{Failure, Always, ByTest, either_code, failure_code, tested_code, check_code}
 use Rattle.core_lines.specs.Homes.{flag_at}
 use Rattle.core_lines.specs.Loops.{are_words, copy_loop, clear_loop}
 use Rattle.core_lines.specs.Held.{Source, Register, Number, Compared, Holding, source_of, without_register, result_register, same_as, comparison_of}
@@ -28,6 +29,7 @@ use Rattle.core_lines.specs.Selected.{binary_code, turned, immediate_code, immed
 use Rattle.core_lines.specs.Selected.{operand, has_operand, both_code, apply_code, keep_result, computed_kept, applied_kept, get_code, byte_code, put_code}
 use Rattle.core_lines.specs.Straight.{straight_operation, straight_code}
 use Rattle.core_meaning.specs.Core.{Statement, Do}
+use Rattle.core_lines.specs.Selected.{null_source, null_kept}
 use Rattle.core_lines.specs.Selected.{number_in, narrow_kept, exponent_of, times_code, element_code, copy_code, clear_code, bytes_in, bytes_code, operation_code}
 pub use Rattle.core_lines.proofs.labels.BareLines.{are_bare, bare_places, bare_targets, two, three, four, either, one, verdict_bare}
 
@@ -98,17 +100,27 @@ module _ (passed : ℕ) where
       two (into_code passed hs (suc r) t) (values_code passed (without_register (suc r) hs) (suc r) ts) (into_bare hs (suc r) t)
       (values_bare (without_register (suc r) hs) (suc r) ts)
 
-  failure_bare : (hs : List Holding) (f : Failure) → are_bare (failure_code passed hs f) ≡ true
-  failure_bare hs (Always kind) = refl
-  failure_bare hs (ByTest t first second) =
+  either_bare : (hs : List Holding) (t : ℕ) (first second : Kind) (number : Option ℕ) → are_bare (either_code passed hs t first second number) ≡ true
+  either_bare hs t first second None =
       let branch : List Line = Plain (branch_if (inverse (test_in hs 5 t)) (pos 16)) ∷ [] in
       four (test_ready passed hs 5 t) branch (raise_code first) (raise_code second) (test_bare hs 5 t) refl refl refl
+  either_bare hs t first second (Some zero) = refl
+  either_bare hs t first second (Some (suc n)) = refl
 
-  pub check_bare : (hs : List Holding) (t : ℕ) (f : Failure) → are_bare (check_code passed hs t f) ≡ true
-  check_bare hs t f =
+  failure_bare : (hs : List Holding) (f : Failure) → are_bare (failure_code passed hs f) ≡ true
+  failure_bare hs (Always kind) = refl
+  failure_bare hs (ByTest t first second) = either_bare hs t first second (number_in (source_of hs t))
+
+  tested_bare : (hs : List Holding) (t : ℕ) (f : Failure) (number : Option ℕ) → are_bare (tested_code passed hs t f number) ≡ true
+  tested_bare hs t f None =
       let raising = failure_code passed hs f in
       three (test_ready passed hs 5 t) (Plain (branch_if (test_in hs 5 t) (pos (4 + code_length raising))) ∷ []) raising (test_bare hs 5 t) refl
       (failure_bare hs f)
+  tested_bare hs t f (Some zero) = failure_bare hs f
+  tested_bare hs t f (Some (suc n)) = refl
+
+  pub check_bare : (hs : List Holding) (t : ℕ) (f : Failure) → are_bare (check_code passed hs t f) ≡ true
+  check_bare hs t f = tested_bare hs t f (number_in (source_of hs t))
 
   pub return_bare : (hs : List Holding) (ts : List ℕ) (exit : ℕ) → are_bare (return_code passed hs ts exit) ≡ true
   return_bare hs ts exit = two (values_code passed hs 9 ts) (Jump exit ∷ []) (values_bare hs 9 ts) refl
@@ -287,6 +299,12 @@ module _ (u : Surroundings) where
         kept_bare t (operand u 5 x ++ line) (two (operand u 5 x) line (of_bare 5 x) refl)
     narrow_bare t x (Some w) = number_kept_bare u.passed keeps t (w % 256)
 
+    null_bare : (t p : ℕ) (known : Option Source) → are_bare (null_kept keeps u t p known) ≡ true
+    null_bare t p None =
+        let line : List Line = Plain (instr.Sltiu (result_register t) (has_operand u 5 p) (pos 1)) ∷ [] in
+        kept_bare t (operand u 5 p ++ line) (two (operand u 5 p) line (of_bare 5 p) refl)
+    null_bare t p (Some s) = move_bare u.passed keeps (result_register t) t p (Some s)
+
     straight_operation_bare : (home : ℕ) (o : Operation) → are_bare (straight_operation keeps u home o) ≡ true
     straight_operation_bare home (Apply o t x y) =
         two (apply_code u o home x y) (keep_code keeps u.passed home t) (apply_bare o home x y) (keep_bare u.passed keeps home t)
@@ -323,9 +341,7 @@ module _ (u : Surroundings) where
         (write_bare (has_operand u 6 x) d.width (has_operand u 5 p) d.bytes)
     operation_bare (Copy to from l) = copies_bare to from l
     operation_bare (Clear p l count) = clears_bare p l count
-    operation_bare (IsNull t p) =
-        let line : List Line = Plain (instr.Sltiu (result_register t) (has_operand u 5 p) (pos 1)) ∷ [] in
-        kept_bare t (operand u 5 p ++ line) (two (operand u 5 p) line (of_bare 5 p) refl)
+    operation_bare (IsNull t p) = null_bare t p (null_source (source_of u.held p))
     operation_bare (SamePlace t p q) =
         let lines = binary_code Equal (result_register t) (has_operand u 5 p) (has_operand u 6 q) in
         kept_bare t (operand u 5 p ++ operand u 6 q ++ lines) (three (operand u 5 p) (operand u 6 q) lines (of_bare 5 p) (of_bare 6 q) refl)

@@ -18,9 +18,9 @@ use Rattle.core_lines.specs.Lines.{code_length}
 use Rattle.core_lines.specs.Frames.{is_short, word_code, load_code, save_code, slot_of, environment_code}
 use Rattle.core_lines.specs.Loops.{are_words, copy_loop, clear_loop}
 use Rattle.core_lines.specs.Comparisons.{verdict_on, verdict_code}
-use Rattle.core_lines.specs.Held.{Source, Register, Number, Compared, Holding, source_of, result_register, same_as, comparison_of}
+use Rattle.core_lines.specs.Held.{Source, Register, Number, Compared, Holding, source_of, is_zero, result_register, same_as, comparison_of}
 use Rattle.core_lines.specs.Operands.{number_code, bring_code, operand_code, fetch_code, into_code, keep_code, number_kept}
-use Rattle.core_lines.specs.Operands.{verdict_kept, move_kept, ready_code, test_ready}
+use Rattle.core_lines.specs.Operands.{verdict_kept, move_kept, ready_code, test_ready, stored_in, stored_code}
 use Rattle.core_lines.specs.Selected.{Surroundings, nth, local_offset, local_home, from_temp, to_temp, far_code, read_line, read_code, write_line, write_code}
 use Rattle.core_lines.specs.Selected.{binary_code, turned, immediate_code, immediate_for, operand, has_operand, both_code, apply_code, keep_result}
 use Rattle.core_lines.specs.Selected.{computed_kept, applied_kept, address_code, get_code, byte_code, put_code}
@@ -90,6 +90,9 @@ operand_within passed hs spare t = by (source_of hs t)
     by (Some (Register r)) = nothing_within 12
     by (Some (Number w)) = less_within 8 12 _ (omega arith) (number_within spare w)
     by (Some (Compared c)) = less_within 8 12 _ (omega arith) (verdict_within spare c)
+
+stored_within : (passed : ℕ) (hs : List Holding) (spare t : ℕ) → IsWithin 12 (stored_code passed hs spare t)
+stored_within passed hs spare t = if_within 12 (is_zero (source_of hs t)) _ _ (nothing_within 12) (operand_within passed hs spare t)
 
 pub test_within : (passed : ℕ) (hs : List Holding) (spare t : ℕ) → IsWithin 12 (test_ready passed hs spare t)
 test_within passed hs spare t = by (source_of hs t)
@@ -295,7 +298,8 @@ get_within keeps u (suc h) t width offset = less_within 12 64 _ (omega arith) (k
 put_within : (u : Surroundings) (home width offset x : ℕ) → IsWithin 64 (put_code u home width offset x)
 put_within u zero width offset x =
     less_within 24 64 _ (omega arith)
-    (with_within 12 u 6 x (write_code (has_operand u 6 x) width 2 offset) (write_within (has_operand u 6 x) width 2 offset))
+    (both_within 12 12 (stored_code u.passed u.held 6 x) (write_code (stored_in u.held 6 x) width 2 offset) (stored_within u.passed u.held 6 x)
+    (write_within (stored_in u.held 6 x) width 2 offset))
 put_within u (suc h) width offset x =
     less_within 16 64 _ (omega arith)
     (if_within 16 (nat_eq width 1) (byte_code u (suc h) x) (into_code u.passed u.held (suc h) x)
@@ -349,8 +353,9 @@ operation_within keeps u (Load t p d) =
     (with_within 12 u 5 p lines (read_within (result_register t) d.width (has_operand u 5 p) d.bytes))
 operation_within keeps u (Store p d x) =
     less_within 36 64 _ (omega arith)
-    (both_within 24 12 (operand u 5 p ++ operand u 6 x) (write_code (has_operand u 6 x) d.width (has_operand u 5 p) d.bytes) (operands_within u p x)
-    (write_within (has_operand u 6 x) d.width (has_operand u 5 p) d.bytes))
+    (both_within 24 12 (operand u 5 p ++ stored_code u.passed u.held 6 x) (write_code (stored_in u.held 6 x) d.width (has_operand u 5 p) d.bytes)
+    (with_within 12 u 5 p (stored_code u.passed u.held 6 x) (stored_within u.passed u.held 6 x))
+    (write_within (stored_in u.held 6 x) d.width (has_operand u 5 p) d.bytes))
 operation_within keeps u (Copy to from layout) =
     if_within 64 (nat_eq layout.bytes 0) _ _ (nothing_within 64)
     (less_within (36 + 20) 64 _ (omega arith)

@@ -8,6 +8,7 @@ pub mod Raising
 pub mod Comparing
 pub mod Reaching
 pub mod Writing
+pub mod Stored
 pub mod Operations
 pub mod Nulls
 pub mod Computing

@@ -9,7 +9,7 @@ use Rattle.core_lines.specs.Frames.{upper_of, lower_of, is_short, word_code, loa
 use Rattle.core_lines.specs.declared.comparison.Comparison.{Comparison}
 use Rattle.core_lines.specs.Held.{nth, nth_block, Source, Register, Number, Compared, Holding, source_of, result_register}
 use Rattle.core_lines.specs.Operands.{number_code, operand_in, operand_code, into_code, keep_code}
-use Rattle.core_lines.specs.Operands.{number_kept, verdict_kept, move_kept}
+use Rattle.core_lines.specs.Operands.{number_kept, verdict_kept, move_kept, stored_in, stored_code}
 
 -- ---- operations
 
@@ -192,7 +192,7 @@ abbrev pub byte_code : Surroundings → ℕ → ℕ → List Line
 byte_code u h x = operand u 6 x ++ (Plain (instr.Andi h (has_operand u 6 x) (pos 255)) ∷ [])
 
 abbrev pub put_code : Surroundings → ℕ → ℕ → ℕ → ℕ → List Line
-put_code u zero width offset x = operand u 6 x ++ write_code (has_operand u 6 x) width 2 offset
+put_code u zero width offset x = stored_code u.passed u.held 6 x ++ write_code (stored_in u.held 6 x) width 2 offset
 put_code u (suc h) width offset x = (if nat_eq width 1 then byte_code u (suc h) x else into_code u.passed u.held (suc h) x)
 
 -- the exponent of an element's bytes, where they are a small power of two

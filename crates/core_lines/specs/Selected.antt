@@ -15,7 +15,7 @@ use Rattle.core_lines.specs.Loops.{are_words, copy_loop, clear_loop}
 use Rattle.core_lines.specs.Homes.{homes_in, saved_slot, saved_by, flag_at}
 pub use Rattle.core_lines.specs.Held.{nth, nth_block, Source, Register, Number, Compared, Holding, held_behind, held_behind_all, source_of, number_in}
 pub use Rattle.core_lines.specs.Held.{result_register, same_as, comparison_of, null_source}
-use Rattle.core_lines.specs.Operands.{keep_code}
+use Rattle.core_lines.specs.Operands.{keep_code, stored_in, stored_code}
 use Rattle.core_lines.specs.Operands.{number_kept, move_kept, call_code, return_code, prologue_code}
 use Rattle.core_lines.specs.Choosing.{choice_code, between_code, behind_code}
 use Rattle.core_lines.specs.Checks.{check_of, checked_code}
@@ -67,7 +67,8 @@ operation_code keeps u (Element t p i cells bytes) = element_code u (result_regi
 operation_code keeps u (Get t out local width) = get_code keeps u (local_home u out local) t width (local_offset u out local)
 operation_code keeps u (Put out local width x) = put_code u (local_home u out local) width (local_offset u out local) x
 operation_code keeps u (Load t p d) = operand u 5 p ++ read_code (result_register t) d.width (has_operand u 5 p) d.bytes ++ keep_result keeps u t
-operation_code keeps u (Store p d x) = operand u 5 p ++ operand u 6 x ++ write_code (has_operand u 6 x) d.width (has_operand u 5 p) d.bytes
+operation_code keeps u (Store p d x) =
+    operand u 5 p ++ stored_code u.passed u.held 6 x ++ write_code (stored_in u.held 6 x) d.width (has_operand u 5 p) d.bytes
 operation_code keeps u (Copy to from layout) = copy_code u to from layout
 operation_code keeps u (Clear p layout count) = clear_code u p layout count
 operation_code keeps u (IsNull t p) = null_kept keeps u t p (null_source (source_of u.held p))

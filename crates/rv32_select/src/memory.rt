@@ -11,7 +11,7 @@ ghost use Rattle.rv32_select.specs.Places.{surroundings};
 
 use crate::emit::{FIRST, SECOND, put, put_further, put_number, put_read, put_write};
 use crate::held::result_register;
-use crate::operands::{put_number_kept, put_operand, put_result};
+use crate::operands::{put_number_kept, put_operand, put_result, put_value};
 use crate::place::Place;
 use crate::words::put_binary;
 use core_lines::Line;
@@ -181,7 +181,7 @@ pub fn put_stored_part(
         ++ operation_code true (surroundings place.now) (core.Store pointer.0 (distance_tree distance) from.0)) }
 {
     let to = put_operand(lines, place, FIRST, pointer)?;
-    let value = put_operand(lines, place, SECOND, from)?;
+    let value = put_value(lines, place, from)?;
     put_write(lines, value, distance.width, to, u64::from(distance.bytes))
 }
 

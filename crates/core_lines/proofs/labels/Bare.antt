@@ -20,9 +20,10 @@ use Rattle.core_lines.specs.Frames.{saves_code, restores_code, leave_code, epilo
 use Rattle.core_lines.specs.Checks.{Failure, Always, ByTest, either_code, failure_code, tested_code, check_code}
 use Rattle.core_lines.specs.Homes.{flag_at}
 use Rattle.core_lines.specs.Loops.{are_words, copy_loop, clear_loop}
-use Rattle.core_lines.specs.Held.{Source, Register, Number, Compared, Holding, source_of, without_register, result_register, same_as, comparison_of}
+use Rattle.core_lines.specs.Held.{Source, Register, Number, Compared, Holding, source_of, is_zero, without_register, result_register, same_as}
+use Rattle.core_lines.specs.Held.{comparison_of}
 use Rattle.core_lines.specs.Operands.{number_code, operand_in, bring_code, operand_code, fetch_code, into_code, keep_code, number_kept}
-use Rattle.core_lines.specs.Operands.{verdict_kept, move_kept, test_in, ready_code, test_ready}
+use Rattle.core_lines.specs.Operands.{verdict_kept, move_kept, test_in, ready_code, test_ready, stored_in, stored_code}
 use Rattle.core_lines.specs.Operands.{pass_code, result_code, call_code, values_code, return_code, take_code, prologue_code}
 use Rattle.core_lines.specs.Selected.{Surroundings, local_offset, local_home, nth, from_temp, to_temp, far_code, read_line, read_code, write_line, write_code}
 use Rattle.core_lines.specs.Selected.{binary_code, turned, immediate_code, immediate_for, address_code, further_code}
@@ -69,6 +70,9 @@ module _ (passed : ℕ) where
 
   pub operand_bare : (hs : List Holding) (spare t : ℕ) → are_bare (operand_code passed hs spare t) ≡ true
   operand_bare hs spare t = bring_bare spare t (source_of hs t)
+
+  stored_bare : (hs : List Holding) (spare t : ℕ) → are_bare (stored_code passed hs spare t) ≡ true
+  stored_bare hs spare t = either (is_zero (source_of hs t)) _ _ refl (operand_bare hs spare t)
 
   fetch_bare : (to t : ℕ) (s : Option Source) → are_bare (fetch_code passed to t s) ≡ true
   fetch_bare to t None = load_bare to (slot_of passed t)
@@ -246,7 +250,9 @@ module _ (u : Surroundings) where
       both_bare o to x y (immediate_for o to (has_operand u 5 x) (source_of u.held y)) (immediate_for_bare o to (has_operand u 5 x) (source_of u.held y))
 
   put_bare : (h width w x : ℕ) → are_bare (put_code u h width w x) ≡ true
-  put_bare zero width w x = two (operand u 6 x) (write_code (has_operand u 6 x) width 2 w) (of_bare 6 x) (write_bare (has_operand u 6 x) width 2 w)
+  put_bare zero width w x =
+      two (stored_code u.passed u.held 6 x) (write_code (stored_in u.held 6 x) width 2 w) (stored_bare u.passed u.held 6 x)
+      (write_bare (stored_in u.held 6 x) width 2 w)
   put_bare (suc h) width w x =
       either (nat_eq width 1) (byte_code u (suc h) x) (into_code u.passed u.held (suc h) x)
       (two (operand u 6 x) (Plain (instr.Andi (suc h) (has_operand u 6 x) (pos 255)) ∷ []) (of_bare 6 x) refl) (into_bare u.passed u.held (suc h) x)
@@ -337,8 +343,8 @@ module _ (u : Surroundings) where
         let lines = read_code (result_register t) d.width (has_operand u 5 p) d.bytes in
         kept_bare t (operand u 5 p ++ lines) (two (operand u 5 p) lines (of_bare 5 p) (read_bare (result_register t) d.width (has_operand u 5 p) d.bytes))
     operation_bare (Store p d x) =
-        three (operand u 5 p) (operand u 6 x) (write_code (has_operand u 6 x) d.width (has_operand u 5 p) d.bytes) (of_bare 5 p) (of_bare 6 x)
-        (write_bare (has_operand u 6 x) d.width (has_operand u 5 p) d.bytes)
+        three (operand u 5 p) (stored_code u.passed u.held 6 x) (write_code (stored_in u.held 6 x) d.width (has_operand u 5 p) d.bytes) (of_bare 5 p)
+        (stored_bare u.passed u.held 6 x) (write_bare (stored_in u.held 6 x) d.width (has_operand u 5 p) d.bytes)
     operation_bare (Copy to from l) = copies_bare to from l
     operation_bare (Clear p l count) = clears_bare p l count
     operation_bare (IsNull t p) = null_bare t p (null_source (source_of u.held p))

@@ -75,8 +75,8 @@ abbrev pub check_of : Statements → Statements → Option Failure
 check_of NoStatements those = failure_in those
 check_of (MoreStatements s ss) those = None
 
--- What raises one of two exceptions: the second one's code is behind the 12 bytes of the first one's. Where the temporary is known to be a number, it is that of
--- the one which is raised then.
+-- What raises one of two exceptions: the second one's code is behind the 12 bytes of the first one's. Where the temporary is known to be a number, only the
+-- exception that is raised then has code.
 abbrev pub either_code : (passed : ℕ) → List Holding → (t : ℕ) → (first second : Kind) → Option ℕ → List Line
 either_code passed hs t first second None =
     test_ready passed hs 5 t ++ (Plain (branch_if (inverse (test_in hs 5 t)) (pos 16)) ∷ []) ++ raise_code first ++ raise_code second

@@ -139,7 +139,8 @@ fn put_known_failure(
     first: Kind,
     second: Kind,
 ) -> Result<(), AllocError>
-    ensures { (passed test : ℕ) → (hs : List Holding) → OnOk result (lines.new.items ≡ lines.old.items ++ either_code passed hs test first second (Some number)) }
+    ensures { (passed test : ℕ) → (hs : List Holding) → OnOk result (lines.new.items ≡ lines.old.items
+        ++ either_code passed hs test first second (Some number)) }
 {
     if number == 0 {
         put_raise(lines, second)

@@ -118,17 +118,17 @@ module _ (w : World) (order : IsInOrder w) (x : Waiting) (outer : List Waiting) 
 module _ (w : World) (order : IsInOrder w) (x : Waiting) (outer : List Waiting) where
   -- a choice by a branch, made where the temporary is 0 or NULL, or where it is neither
   abbrev branch_by : Bool → Comparison → Comparison
-  branch_by zero test = (if zero then inverse test else test)
+  branch_by none test = (if none then inverse test else test)
 
-  branch_goes : (kept : List Bool) (fuel : ℕ) (held : List Holding) (t place : ℕ) (skipped : List Line) (zero : Bool) (these those : Config → Step)
+  branch_goes : (kept : List Bool) (fuel : ℕ) (held : List Holding) (t place : ℕ) (skipped : List Line) (none : Bool) (these those : Config → Step)
       → t < x.fn.temporaries → IsServed w (keeping kept x) held t → code_length skipped ≤ 60
-      → Has w place (test_ready x.fn.passed held 5 t ++ (Plain (branch_if (branch_by zero (test_in held 5 t)) (pos (4 + code_length skipped))) ∷ []))
-      → GoesHolding w (keeping kept x) outer fuel (place + code_length (test_ready x.fn.passed held 5 t) + (if zero then 4 else 4 + code_length skipped)) held
+      → Has w place (test_ready x.fn.passed held 5 t ++ (Plain (branch_if (branch_by none (test_in held 5 t)) (pos (4 + code_length skipped))) ∷ []))
+      → GoesHolding w (keeping kept x) outer fuel (place + code_length (test_ready x.fn.passed held 5 t) + (if none then 4 else 4 + code_length skipped)) held
       these
-      → GoesHolding w (keeping kept x) outer fuel (place + code_length (test_ready x.fn.passed held 5 t) + (if zero then 4 + code_length skipped else 4)) held
+      → GoesHolding w (keeping kept x) outer fuel (place + code_length (test_ready x.fn.passed held 5 t) + (if none then 4 + code_length skipped else 4)) held
       those
       → GoesHolding w (keeping kept x) outer fuel place held (λ c. core.branch (c.temps t) (these c) (those c))
-  branch_goes kept fuel held t place skipped zero these those named served few has one other c is = by (c.temps t) refl (tested (c.temps t))
+  branch_goes kept fuel held t place skipped none these those named served few has one other c is = by (c.temps t) refl (tested (c.temps t))
     where
       y : Waiting
       y = with_config (keeping kept x) c
@@ -163,11 +163,11 @@ module _ (w : World) (order : IsInOrder w) (x : Waiting) (outer : List Waiting) 
       by v e (Fails u f) =
           let g : (a b : Step) → core.branch (c.temps t) a b ≡ b = λ a b. ap (λ q. core.branch q a b) e ∙ f a b in
           subst (λ q. Goes w fuel q (R place) (active_of w (x ∷ outer))) (sym (g (these c) (those c)))
-          (goes_from w _ _ fuel (those c) _ (fails zero has g) (other c is))
+          (goes_from w _ _ fuel (those c) _ (fails none has g) (other c is))
       by v e (Holds u f) =
           let g : (a b : Step) → core.branch (c.temps t) a b ≡ a = λ a b. ap (λ q. core.branch q a b) e ∙ f a b in
           subst (λ q. Goes w fuel q (R place) (active_of w (x ∷ outer))) (sym (g (these c) (those c)))
-          (goes_from w _ _ fuel (these c) _ (holds zero has g) (one c is))
+          (goes_from w _ _ fuel (these c) _ (holds none has g) (one c is))
       by v e (Neither u f) =
           subst (λ q. Goes w fuel q (R place) (active_of w (x ∷ outer)))
           (sym (ap (λ q. core.branch q (these c) (those c)) e ∙ f (these c) (those c))) (goes_stuck w _ _ fuel)

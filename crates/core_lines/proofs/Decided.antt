@@ -1,5 +1,5 @@
 -- A choice that is decided where its code is made: what it tests is known to be a number. Only one of its ways has code.
-use Rattle.std.proofs.Common.{◌≡◌, ℕ, zero, suc, Bool, List, ◌∷◌, Option, Some, None, refl, sym, ap, subst, ◌∙◌, arith}
+use Rattle.std.proofs.Common.{◌≡◌, ℕ, suc, Bool, List, ◌∷◌, Option, Some, None, refl, sym, ap, subst, ◌∙◌, arith}
 use Rattle.std.proofs.lemmas.Option.{none-some}
 use Rattle.core_meaning.specs.Memory.{Content}
 use Rattle.core_meaning.specs.Meaning as core

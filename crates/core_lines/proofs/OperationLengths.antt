@@ -14,7 +14,6 @@ use Rattle.core_lines.specs.declared.comparison.Condition.TheVariants as conditi
 use Rattle.core_lines.specs.declared.comparison.Comparison.{Comparison}
 use Rattle.core_lines.specs.declared.line.Line.{Line}
 use Rattle.core_lines.specs.declared.line.Line.TheVariants.{Plain}
-use Rattle.core_lines.specs.Lines.{code_length}
 use Rattle.core_lines.specs.Frames.{is_short, word_code, load_code, save_code, slot_of, environment_code}
 use Rattle.core_lines.specs.Loops.{are_words, copy_loop, clear_loop}
 use Rattle.core_lines.specs.Comparisons.{verdict_on, verdict_code}

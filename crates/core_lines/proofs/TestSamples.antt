@@ -38,7 +38,7 @@ of_index : check_code 0 known 2 (Always ArrayBounds) ≡ Plain (Bltu 8 9 (pos 16
 of_index = refl
 
 -- an array's address is a number: of a failed check of its index only the exception that is raised then has code
-with_address : List Holding
+abbrev with_address : List Holding
 with_address = record { temporary = 5; source = Number 2097152 } ∷ known
 
 of_an_array : check_code 0 with_address 2 (ByTest 5 ArrayBounds NullException)

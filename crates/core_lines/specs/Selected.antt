@@ -1,5 +1,5 @@
 -- The lines that each operation, statement, function and program of Core becomes.
-use Rattle.std.specs.Prelude.{ℕ, Bool, pos, ◌+◌, ◌-◌, ◌*◌, ◌%◌, ◌^◌, List, [], ◌∷◌, ◌++◌, take, drop, nat_eq, if◌then◌else◌, length}
+use Rattle.std.specs.Prelude.{ℕ, Bool, ◌+◌, ◌-◌, ◌*◌, ◌%◌, ◌^◌, List, [], ◌∷◌, ◌++◌, take, drop, nat_eq, if◌then◌else◌, length}
 use Rattle.rv32_isa.specs.declared.instruction.Instr.TheVariants as instr
 use Rattle.rv32_machine.specs.State.{data_base}
 use Rattle.core_meaning.specs.Memory.{Layout}

@@ -3,49 +3,16 @@ use Rattle.rv32_machine.specs.Run.{Run}
 use Rattle.arena_laws.specs.Lawful.{Answer}
 use Rattle.core_lines.specs.Machines.{state_of}
 use Rattle.std.specs.Prelude.{bit_and}
-use Rattle.std.proofs.Common.{
-  ◌≡◌,
-  ℕ,
-  zero,
-  suc,
-  pos,
-  ◌+◌,
-  ◌*◌,
-  ◌%◌,
-  ◌^◌,
-  ◌<◌,
-  ◌≤◌,
-  ◌⊎◌,
-  inl,
-  inr,
-  Bool,
-  true,
-  false,
-  nat_eq,
-  nat_lt,
-  List,
-  [],
-  ◌∷◌,
-  ◌++◌,
-  Option,
-  Some,
-  None,
-  refl,
-  sym,
-  ap,
-  subst,
-  ◌∙◌,
-  arith,
-}
+use Rattle.std.proofs.Common.{◌≡◌, ℕ, zero, suc, pos, ◌+◌, ◌*◌, ◌%◌, ◌^◌, ◌<◌, ◌≤◌, ◌⊎◌, inl, inr, Bool, true, false, nat_eq, List, [], ◌∷◌, ◌++◌, Option, Some, None, refl, sym, ap, subst, ◌∙◌, arith}
 use Rattle.std.proofs.lemmas.Nat.{and_mask}
-use Rattle.std.proofs.lemmas.Bool.{lt-ltb, le-ltb, cases_lt}
+use Rattle.std.proofs.lemmas.Bool.{cases_lt}
 use Rattle.cyc_words.specs.Words.{word}
 use Rattle.rv32_isa.specs.declared.instruction.Instr.{Instr}
 use Rattle.rv32_isa.specs.declared.instruction.Instr.TheVariants as instr
-use Rattle.core_meaning.specs.Memory.{Spot, Content, Word, Null, Pointer, Birth, Memory}
+use Rattle.core_meaning.specs.Memory.{Content, Word, Birth, Memory}
 use Rattle.core_lines.specs.Machines.{Machine, Store}
-use Rattle.core_lines.specs.Lies.{Maps, Shows, Points, Slot}
-use Rattle.rv32_machine.specs.Step.{truth, effect, gives}
+use Rattle.core_lines.specs.Lies.{Maps, Shows, Slot}
+use Rattle.rv32_machine.specs.Step.{effect, gives}
 use Rattle.rv32_machine.specs.Audit.{AccessIsLawful}
 use Rattle.rv32_machine.specs.State.{word_at}
 use Rattle.core_lines.specs.declared.line.Line.{Line}

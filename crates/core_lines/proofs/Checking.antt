@@ -1,6 +1,6 @@
 -- What the code of a check does: a branch over what raises its exception.
 use Rattle.std.specs.Prelude.{not, if◌then◌else◌}
-use Rattle.std.proofs.Common.{◌≡◌, ℕ, pos, ◌+◌, ◌%◌, ◌<◌, ◌≤◌, Bool, true, false, List, [], ◌∷◌, ◌++◌, Option, Some, None}
+use Rattle.std.proofs.Common.{◌≡◌, ℕ, zero, suc, pos, ◌+◌, ◌%◌, ◌<◌, ◌≤◌, Bool, true, false, List, [], ◌∷◌, ◌++◌, Option, Some, None}
 use Rattle.std.proofs.Common.{refl, sym, ap, subst, ◌∙◌, arith}
 use Rattle.std.proofs.lemmas.Option.{none-some}
 use Rattle.cyc_words.specs.declared.faults.Kind.{Kind}
@@ -18,10 +18,10 @@ use Rattle.core_lines.specs.declared.line.Line.TheVariants.{Plain}
 use Rattle.core_lines.specs.Machines.{Machine, state_of}
 use Rattle.core_lines.specs.Lines.{code_length}
 use Rattle.core_lines.specs.Frames.{raise_code}
-use Rattle.core_lines.specs.Held.{Holding, held_behind}
+use Rattle.core_lines.specs.Held.{Holding, source_of, number_in, held_behind}
 use Rattle.core_lines.specs.Operands.{test_in, test_ready}
 use Rattle.core_lines.specs.Checks.{kind_of, kind_in, Failure, Always, ByTest, either_failure, failure_of, failure_in, check_of}
-use Rattle.core_lines.specs.Checks.{failure_code, check_code, checked_code}
+use Rattle.core_lines.specs.Checks.{either_code, failure_code, tested_code, check_code, checked_code}
 use Rattle.core_lines.specs.Completing.{can_complete}
 use Rattle.core_lines.specs.Lies.{Maps}
 use Rattle.core_lines.proofs.Lengths.{failure_within}
@@ -38,6 +38,7 @@ use Rattle.core_lines.proofs.operations.EachOperation.{scoped}
 use Rattle.core_lines.proofs.Loads.{statements_below}
 use Rattle.core_lines.proofs.Ways.{Needs, Does, Tested, Fails, Holds, Neither}
 use Rattle.core_lines.proofs.Shown.{AreWhole, showing, showing_all, first_way, second_way, choice_served}
+use Rattle.core_lines.proofs.Decided.{number_found, fails_known, holds_known}
 use Rattle.core_lines.proofs.Tests.{isnt_so, is_so_where, Tells, ready, tested}
 
 -- ---- a branch over code, behind a test
@@ -117,17 +118,17 @@ module _ (w : World) (order : IsInOrder w) (x : Waiting) (outer : List Waiting) 
 module _ (w : World) (order : IsInOrder w) (x : Waiting) (outer : List Waiting) where
   -- a choice by a branch, made where the temporary is 0 or NULL, or where it is neither
   abbrev branch_by : Bool → Comparison → Comparison
-  branch_by zero test = (if zero then inverse test else test)
+  branch_by none test = (if none then inverse test else test)
 
-  branch_goes : (kept : List Bool) (fuel : ℕ) (held : List Holding) (t place : ℕ) (skipped : List Line) (zero : Bool) (these those : Config → Step)
+  branch_goes : (kept : List Bool) (fuel : ℕ) (held : List Holding) (t place : ℕ) (skipped : List Line) (none : Bool) (these those : Config → Step)
       → t < x.fn.temporaries → IsServed w (keeping kept x) held t → code_length skipped ≤ 60
-      → Has w place (test_ready x.fn.passed held 5 t ++ (Plain (branch_if (branch_by zero (test_in held 5 t)) (pos (4 + code_length skipped))) ∷ []))
-      → GoesHolding w (keeping kept x) outer fuel (place + code_length (test_ready x.fn.passed held 5 t) + (if zero then 4 else 4 + code_length skipped)) held
+      → Has w place (test_ready x.fn.passed held 5 t ++ (Plain (branch_if (branch_by none (test_in held 5 t)) (pos (4 + code_length skipped))) ∷ []))
+      → GoesHolding w (keeping kept x) outer fuel (place + code_length (test_ready x.fn.passed held 5 t) + (if none then 4 else 4 + code_length skipped)) held
       these
-      → GoesHolding w (keeping kept x) outer fuel (place + code_length (test_ready x.fn.passed held 5 t) + (if zero then 4 + code_length skipped else 4)) held
+      → GoesHolding w (keeping kept x) outer fuel (place + code_length (test_ready x.fn.passed held 5 t) + (if none then 4 + code_length skipped else 4)) held
       those
       → GoesHolding w (keeping kept x) outer fuel place held (λ c. core.branch (c.temps t) (these c) (those c))
-  branch_goes kept fuel held t place skipped zero these those named served few has one other c is = by (c.temps t) refl (tested (c.temps t))
+  branch_goes kept fuel held t place skipped none these those named served few has one other c is = by (c.temps t) refl (tested (c.temps t))
     where
       y : Waiting
       y = with_config (keeping kept x) c
@@ -162,11 +163,11 @@ module _ (w : World) (order : IsInOrder w) (x : Waiting) (outer : List Waiting) 
       by v e (Fails u f) =
           let g : (a b : Step) → core.branch (c.temps t) a b ≡ b = λ a b. ap (λ q. core.branch q a b) e ∙ f a b in
           subst (λ q. Goes w fuel q (R place) (active_of w (x ∷ outer))) (sym (g (these c) (those c)))
-          (goes_from w _ _ fuel (those c) _ (fails zero has g) (other c is))
+          (goes_from w _ _ fuel (those c) _ (fails none has g) (other c is))
       by v e (Holds u f) =
           let g : (a b : Step) → core.branch (c.temps t) a b ≡ a = λ a b. ap (λ q. core.branch q a b) e ∙ f a b in
           subst (λ q. Goes w fuel q (R place) (active_of w (x ∷ outer))) (sym (g (these c) (those c)))
-          (goes_from w _ _ fuel (these c) _ (holds zero has g) (one c is))
+          (goes_from w _ _ fuel (these c) _ (holds none has g) (one c is))
       by v e (Neither u f) =
           subst (λ q. Goes w fuel q (R place) (active_of w (x ∷ outer)))
           (sym (ap (λ q. core.branch q (these c) (those c)) e ∙ f (these c) (those c))) (goes_stuck w _ _ fuel)
@@ -179,13 +180,22 @@ module _ (w : World) (order : IsInOrder w) (x : Waiting) (outer : List Waiting) 
       goes_any w y outer fuel place held (core.statements (MoreStatements (Raise kind) NoStatements) k)
       (λ c is. raise_goes w order (with_config y c) outer c.memory fuel kind place (active_of w (x ∷ outer)) has)
 
-  -- one or another
+  -- one or another, of which only one has code where the test is known to be a number
   either_goes : (kept : List Bool) (fuel : ℕ) (held : List Holding) (t : ℕ) (first second : Kind) (place : ℕ) (k : Exit → Config → Step)
-      → t < x.fn.temporaries → IsServed w (keeping kept x) held t → Has w place (failure_code x.fn.passed held (ByTest t first second))
+      (number : Option ℕ) → number_in (source_of held t) ≡ number
+      → t < x.fn.temporaries → IsServed w (keeping kept x) held t → Has w place (either_code x.fn.passed held t first second number)
       → GoesHolding w (keeping kept x) outer fuel place held
       (λ c. core.branch (c.temps t) (core.statements (MoreStatements (Raise first) NoStatements) k c)
       (core.statements (MoreStatements (Raise second) NoStatements) k c))
-  either_goes kept fuel held t first second place k named served has =
+  either_goes kept fuel held t first second place k (Some zero) e named served has =
+      fails_known w x outer kept fuel held t place (core.statements (MoreStatements (Raise first) NoStatements) k)
+      (core.statements (MoreStatements (Raise second) NoStatements) k) (number_found (source_of held t) 0 e)
+      (raised_goes kept fuel held second place k has)
+  either_goes kept fuel held t first second place k (Some (suc n)) e named served has =
+      holds_known w x outer kept fuel held t place n (core.statements (MoreStatements (Raise first) NoStatements) k)
+      (core.statements (MoreStatements (Raise second) NoStatements) k) (number_found (source_of held t) (suc n) e)
+      (raised_goes kept fuel held first place k has)
+  either_goes kept fuel held t first second place k None e named served has =
       let operand = test_ready x.fn.passed held 5 t in
       let branch : List Line = Plain (branch_if (inverse (test_in held 5 t)) (pos 16)) ∷ [] in
       let front = operand ++ branch in
@@ -283,12 +293,13 @@ module _ (w : World) (order : IsInOrder w) (x : Waiting) (outer : List Waiting) 
       let other = showing_all w hss names held needs inner in
       goes_fewer w x outer fuel place held (core.statements inner k) start other
       (second_way w x hss names held needs t NoStatements inner whole (statements_below w.data_offsets (scoped w x ns) hss names held inner has.2))
-      (either_goes w order x outer other fuel held p first second place (λ exit. core.falls_to exit (core.statements NoStatements k) k) has.2.0.0
+      (either_goes w order x outer other fuel held p first second place (λ exit. core.falls_to exit (core.statements NoStatements k) k)
+      (number_in (source_of held p)) refl has.2.0.0
       (choice_served w x hss names held needs p a b whole has.2.0.0) lines)
 
   check_does : (f : Failure) → HasLinesIn (scoped w x ns) (If t NoStatements (failing f))
       → Choice_does NoStatements (failing f) (check_code x.fn.passed held t f)
-  check_does f has = by f has (knows_all f)
+  check_does f has = by f has (knows_all f) (number_in (source_of held t)) refl
     where
       -- what is known behind it is what was known before
       knows_all : (f : Failure) → held_behind hss w.data_offsets held (If t NoStatements (failing f)) ≡ held
@@ -296,9 +307,24 @@ module _ (w : World) (order : IsInOrder w) (x : Waiting) (outer : List Waiting) 
       knows_all (ByTest p first second) = refl
 
       by : (f : Failure) → HasLinesIn (scoped w x ns) (If t NoStatements (failing f))
-          → held_behind hss w.data_offsets held (If t NoStatements (failing f)) ≡ held
-          → Choice_does NoStatements (failing f) (check_code x.fn.passed held t f)
-      by f has known = record {
+          → held_behind hss w.data_offsets held (If t NoStatements (failing f)) ≡ held → (number : Option ℕ) → number_in (source_of held t) ≡ number
+          → Choice_does NoStatements (failing f) (tested_code x.fn.passed held t f number)
+      by f has known (Some zero) e = record {
+        goes = λ place fuel le k aligned lines ways.
+            fails_known w x outer (showing w hss names held needs (If t NoStatements (failing f))) fuel held t place (core.statements NoStatements k)
+            (core.statements (failing f) k) (number_found (source_of held t) 0 e) (failure_goes f fuel place k has lines);
+      }
+      by f has known (Some (suc n)) e = record {
+        goes = λ place fuel le k aligned lines ways.
+            let start = showing w hss names held needs (If t NoStatements (failing f)) in
+            holds_known w x outer start fuel held t place n (core.statements NoStatements k) (core.statements (failing f) k)
+            (number_found (source_of held t) (suc n) e)
+            (goes_fewer w x outer fuel place held (k Falls) start needs.after (first_way w x hss names held needs t NoStatements (failing f) whole)
+            (subst (λ h. GoesHolding w (keeping needs.after x) outer fuel place h (k Falls)) known
+            (subst (λ p. GoesHolding w (keeping needs.after x) outer fuel p (held_behind hss w.data_offsets held (If t NoStatements (failing f))) (k Falls))
+            (omega arith) (ways.falls refl))));
+      }
+      by f has known None e = record {
         goes = λ place fuel le k aligned lines ways.
             let start = showing w hss names held needs (If t NoStatements (failing f)) in
             let operand = test_ready x.fn.passed held 5 t in

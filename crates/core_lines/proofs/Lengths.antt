@@ -5,16 +5,18 @@ use Rattle.std.specs.Prelude.{pos, Option, Some, None, drop}
 use Rattle.core_lines.specs.declared.comparison.Comparison.{Comparison}
 use Rattle.core_lines.specs.Comparisons.{inverse, branch_if}
 use Rattle.core_lines.specs.declared.line.Line.{Line}
+use Rattle.cyc_words.specs.declared.faults.Kind.{Kind}
 use Rattle.core_meaning.specs.Core.{Statement, Do, If, While, Block, Leave, Break, Continue, Call, Return, Raise, Statements, NoStatements}
 use Rattle.core_meaning.specs.Core.{MoreStatements, Function, Program}
 use Rattle.core_lines.specs.declared.line.Line.TheVariants.{Plain, Label, Jump, JumpUnless, BranchUnless, CallTo}
 use Rattle.core_lines.specs.Lines.{code_length}
 use Rattle.core_lines.specs.Frames.{is_short, slot_of, load_code, save_code, environment_code, stack_start_code, frame_code, saves_code}
 use Rattle.core_lines.specs.Frames.{epilogue_code, raise_code}
-use Rattle.core_lines.specs.Held.{Source, Register, Number, Compared, Holding, source_of, without_register, result_register, held_behind, held_behind_all}
+use Rattle.core_lines.specs.Held.{Source, Register, Number, Compared, Holding, source_of, number_in, without_register, result_register, held_behind}
+use Rattle.core_lines.specs.Held.{held_behind_all}
 use Rattle.core_lines.specs.Operands.{operand_in, operand_code, into_code, keep_code, pass_code, result_code, values_code, return_code}
 use Rattle.core_lines.specs.Operands.{test_in, ready_code, test_ready, take_code, prologue_code}
-use Rattle.core_lines.specs.Checks.{Failure, Always, ByTest, check_of, failure_code, check_code, checked_code}
+use Rattle.core_lines.specs.Checks.{Failure, Always, ByTest, check_of, either_code, failure_code, tested_code, check_code, checked_code}
 use Rattle.core_lines.specs.Choosing.{jump_unless, choice_code, between_code, behind_code}
 use Rattle.core_lines.specs.Completing.{can_complete, can_complete_all, ends_in_return_all}
 use Rattle.core_lines.specs.Saved.{results_in, results_all, live_at_start, saves_at}
@@ -84,14 +86,20 @@ behind_within : (those : Statements) (behind : ℕ) → IsWithin 0 (behind_code 
 behind_within NoStatements behind = record { is = omega arith }
 behind_within (MoreStatements s ss) behind = record { is = omega arith }
 
-pub failure_within : (passed : ℕ) (hs : List Holding) (f : Failure) → IsWithin 40 (failure_code passed hs f)
-failure_within passed hs (Always kind) = record { is = omega arith }
-failure_within passed hs (ByTest t first second) =
+either_within : (passed : ℕ) (hs : List Holding) (t : ℕ) (first second : Kind) (number : Option ℕ)
+    → IsWithin 40 (either_code passed hs t first second number)
+either_within passed hs t first second (Some zero) = record { is = omega arith }
+either_within passed hs t first second (Some (suc n)) = record { is = omega arith }
+either_within passed hs t first second None =
     let branch : List Line = Plain (branch_if (inverse (test_in hs 5 t)) (pos 16)) ∷ [] in
     both_within 28 12 (test_ready passed hs 5 t ++ branch ++ raise_code first) (raise_code second)
     (both_within 16 12 (test_ready passed hs 5 t ++ branch) (raise_code first)
     (both_within 12 4 (test_ready passed hs 5 t) branch (test_within passed hs 5 t) (record { is = omega arith })) (record { is = omega arith }))
     (record { is = omega arith })
+
+pub failure_within : (passed : ℕ) (hs : List Holding) (f : Failure) → IsWithin 40 (failure_code passed hs f)
+failure_within passed hs (Always kind) = record { is = omega arith }
+failure_within passed hs (ByTest t first second) = either_within passed hs t first second (number_in (source_of hs t))
 
 -- each of its lines has four bytes
 four_both : (first second : List Line) → code_length first ≡ 4 * length first → code_length second ≡ 4 * length second
@@ -112,23 +120,34 @@ test_four passed hs t = by (source_of hs t)
     by (Some (Number n)) = four_if (is_short n) _ _ refl (four_if (nat_eq (n % 2 ^ 12) 0) _ _ refl refl)
     by (Some (Compared c)) = refl
 
-pub failure_four : (passed : ℕ) (hs : List Holding) (f : Failure) → code_length (failure_code passed hs f) ≡ 4 * length (failure_code passed hs f)
-failure_four passed hs (Always kind) = refl
-failure_four passed hs (ByTest t first second) =
+either_four : (passed : ℕ) (hs : List Holding) (t : ℕ) (first second : Kind) (number : Option ℕ)
+    → code_length (either_code passed hs t first second number) ≡ 4 * length (either_code passed hs t first second number)
+either_four passed hs t first second (Some zero) = refl
+either_four passed hs t first second (Some (suc n)) = refl
+either_four passed hs t first second None =
     let branch : List Line = Plain (branch_if (inverse (test_in hs 5 t)) (pos 16)) ∷ [] in
     let ready = test_ready passed hs 5 t in
     four_both (ready ++ branch ++ raise_code first) (raise_code second)
     (four_both (ready ++ branch) (raise_code first) (four_both ready branch (test_four passed hs t) refl) refl) refl
 
+pub failure_four : (passed : ℕ) (hs : List Holding) (f : Failure) → code_length (failure_code passed hs f) ≡ 4 * length (failure_code passed hs f)
+failure_four passed hs (Always kind) = refl
+failure_four passed hs (ByTest t first second) = either_four passed hs t first second (number_in (source_of hs t))
+
+tested_within : (passed : ℕ) (hs : List Holding) (t : ℕ) (f : Failure) (number : Option ℕ) → IsWithin 56 (tested_code passed hs t f number)
+tested_within passed hs t f None =
+    let raising = failure_code passed hs f in
+    let branch : List Line = Plain (branch_if (test_in hs 5 t) (pos (4 + code_length raising))) ∷ [] in
+    both_within 16 40 (test_ready passed hs 5 t ++ branch) raising
+    (both_within 12 4 (test_ready passed hs 5 t) branch (test_within passed hs 5 t) (record { is = omega arith })) (failure_within passed hs f)
+tested_within passed hs t f (Some zero) = less_within 40 56 _ (omega arith) (failure_within passed hs f)
+tested_within passed hs t f (Some (suc n)) = nothing_within 56
+
 checked_within : (n passed : ℕ) (hs : List Holding) (t : ℕ) (check : Option Failure) (lines : List Line) → 56 ≤ n → IsWithin n lines
     → IsWithin n (checked_code passed hs t check lines)
 checked_within n passed hs t None lines few is = is
 checked_within n passed hs t (Some f) lines few is =
-    let raising = failure_code passed hs f in
-    let branch : List Line = Plain (branch_if (test_in hs 5 t) (pos (4 + code_length raising))) ∷ [] in
-    less_within 56 n (check_code passed hs t f) few
-    (both_within 16 40 (test_ready passed hs 5 t ++ branch) raising
-    (both_within 12 4 (test_ready passed hs 5 t) branch (test_within passed hs 5 t) (record { is = omega arith })) (failure_within passed hs f))
+    less_within 56 n (check_code passed hs t f) few (tested_within passed hs t f (number_in (source_of hs t)))
 
 -- an exception alone is three lines
 branch_within : (flags : List Bool) (u : Surroundings) (next out again : ℕ) (ss : Statements) (n : ℕ)

@@ -22,10 +22,12 @@ pub mod Pairs
 pub mod EachStatement
 pub mod Returning
 pub mod Endings
+pub mod Decided
 pub mod Checking
 pub mod Loads
 pub mod Live
 pub mod DoesAsCore
+pub mod Within
 pub mod OperationLengths
 pub mod Lengths
 pub mod Promised

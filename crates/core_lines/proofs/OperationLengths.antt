@@ -14,38 +14,21 @@ use Rattle.core_lines.specs.declared.comparison.Condition.TheVariants as conditi
 use Rattle.core_lines.specs.declared.comparison.Comparison.{Comparison}
 use Rattle.core_lines.specs.declared.line.Line.{Line}
 use Rattle.core_lines.specs.declared.line.Line.TheVariants.{Plain}
-use Rattle.core_lines.specs.Lines.{code_length}
 use Rattle.core_lines.specs.Frames.{is_short, word_code, load_code, save_code, slot_of, environment_code}
 use Rattle.core_lines.specs.Loops.{are_words, copy_loop, clear_loop}
 use Rattle.core_lines.specs.Comparisons.{verdict_on, verdict_code}
-use Rattle.core_lines.specs.Held.{Source, Register, Number, Compared, Holding, source_of, result_register, same_as, comparison_of}
+use Rattle.core_lines.specs.Held.{Source, Register, Number, Compared, Holding, source_of, is_zero, result_register, same_as, comparison_of}
 use Rattle.core_lines.specs.Operands.{number_code, bring_code, operand_code, fetch_code, into_code, keep_code, number_kept}
-use Rattle.core_lines.specs.Operands.{verdict_kept, move_kept, ready_code, test_ready}
+use Rattle.core_lines.specs.Operands.{verdict_kept, move_kept, ready_code, test_ready, stored_in, stored_code}
 use Rattle.core_lines.specs.Selected.{Surroundings, nth, local_offset, local_home, from_temp, far_code, read_line, read_code, write_line, write_code}
 use Rattle.core_lines.specs.Selected.{binary_code, turned, immediate_code, immediate_for, operand, has_operand, both_code, apply_code, keep_result}
 use Rattle.core_lines.specs.Selected.{computed_kept, applied_kept, address_code, get_code, byte_code, put_code}
+use Rattle.core_lines.specs.Selected.{null_source, null_kept}
 use Rattle.core_lines.specs.Selected.{number_in, narrow_kept, exponent_of, times_code, element_code, bytes_code, further_code, bytes_in, operation_code}
 use Rattle.core_lines.specs.Selected.{argument_code, keep_answer}
 use Rattle.core_lines.specs.Straight.{straight_operation}
-use Rattle.core_lines.proofs.memory.Access.{length_of_both}
 use Rattle.core_meaning.specs.Bounds.{operation_count}
-
--- lines take no more than so many bytes
-pub record IsWithin (n : ℕ) (lines : List Line) : Type 0 where
-  pub is : code_length lines ≤ n
-
-pub both_within : (n m : ℕ) (xs ys : List Line) → IsWithin n xs → IsWithin m ys → IsWithin (n + m) (xs ++ ys)
-both_within n m xs ys h g = record { is = let e = length_of_both xs ys in let a = h.is in let b = g.is in omega (arith, e, a, b) }
-
-pub less_within : (n m : ℕ) (xs : List Line) → n ≤ m → IsWithin n xs → IsWithin m xs
-less_within n m xs l h = record { is = let a = h.is in omega (arith, a, l) }
-
-pub if_within : (n : ℕ) (c : Bool) (xs ys : List Line) → IsWithin n xs → IsWithin n ys → IsWithin n (if c then xs else ys)
-if_within n true xs ys h g = h
-if_within n false xs ys h g = g
-
-pub nothing_within : (n : ℕ) → IsWithin n []
-nothing_within n = record { is = omega arith }
+pub use Rattle.core_lines.proofs.Within.{IsWithin, both_within, less_within, if_within, nothing_within}
 
 -- ---- slots and words
 
@@ -107,6 +90,9 @@ operand_within passed hs spare t = by (source_of hs t)
     by (Some (Register r)) = nothing_within 12
     by (Some (Number w)) = less_within 8 12 _ (omega arith) (number_within spare w)
     by (Some (Compared c)) = less_within 8 12 _ (omega arith) (verdict_within spare c)
+
+stored_within : (passed : ℕ) (hs : List Holding) (spare t : ℕ) → IsWithin 12 (stored_code passed hs spare t)
+stored_within passed hs spare t = if_within 12 (is_zero (source_of hs t)) _ _ (nothing_within 12) (operand_within passed hs spare t)
 
 pub test_within : (passed : ℕ) (hs : List Holding) (spare t : ℕ) → IsWithin 12 (test_ready passed hs spare t)
 test_within passed hs spare t = by (source_of hs t)
@@ -319,7 +305,8 @@ get_within keeps u (suc h) t width offset = less_within 12 64 _ (omega arith) (k
 put_within : (u : Surroundings) (home width offset x : ℕ) → IsWithin 64 (put_code u home width offset x)
 put_within u zero width offset x =
     less_within 24 64 _ (omega arith)
-    (with_within 12 u 6 x (write_code (has_operand u 6 x) width 2 offset) (write_within (has_operand u 6 x) width 2 offset))
+    (both_within 12 12 (stored_code u.passed u.held 6 x) (write_code (stored_in u.held 6 x) width 2 offset) (stored_within u.passed u.held 6 x)
+    (write_within (stored_in u.held 6 x) width 2 offset))
 put_within u (suc h) width offset x =
     less_within 16 64 _ (omega arith)
     (if_within 16 (nat_eq width 1) (byte_code u (suc h) x) (into_code u.passed u.held (suc h) x)
@@ -337,6 +324,12 @@ narrow_within keeps u t x None =
     let line : List Line = Plain (instr.Andi (result_register t) (has_operand u 5 x) (pos 255)) ∷ [] in
     result_within 16 keeps u t (operand u 5 x ++ line) (omega arith) (with_within 4 u 5 x line (record { is = omega arith }))
 narrow_within keeps u t x (Some w) = number_kept_within keeps u.passed t (w % 256)
+
+null_within : (keeps : Bool) (u : Surroundings) (t p : ℕ) (known : Option Source) → IsWithin 64 (null_kept keeps u t p known)
+null_within keeps u t p None =
+    let line : List Line = Plain (instr.Sltiu (result_register t) (has_operand u 5 p) (pos 1)) ∷ [] in
+    result_within 16 keeps u t (operand u 5 p ++ line) (omega arith) (with_within 4 u 5 p line (record { is = omega arith }))
+null_within keeps u t p (Some s) = move_within keeps u.passed (result_register t) t p (Some s)
 
 pub operation_within : (keeps : Bool) (u : Surroundings) (o : Operation) → IsWithin (64 * operation_count o) (operation_code keeps u o)
 operation_within keeps u (Constant t w) = number_kept_within keeps u.passed t (w % 2 ^ 32)
@@ -367,8 +360,9 @@ operation_within keeps u (Load t p d) =
     (with_within 12 u 5 p lines (read_within (result_register t) d.width (has_operand u 5 p) d.bytes))
 operation_within keeps u (Store p d x) =
     less_within 36 64 _ (omega arith)
-    (both_within 24 12 (operand u 5 p ++ operand u 6 x) (write_code (has_operand u 6 x) d.width (has_operand u 5 p) d.bytes) (operands_within u p x)
-    (write_within (has_operand u 6 x) d.width (has_operand u 5 p) d.bytes))
+    (both_within 24 12 (operand u 5 p ++ stored_code u.passed u.held 6 x) (write_code (stored_in u.held 6 x) d.width (has_operand u 5 p) d.bytes)
+    (with_within 12 u 5 p (stored_code u.passed u.held 6 x) (stored_within u.passed u.held 6 x))
+    (write_within (stored_in u.held 6 x) d.width (has_operand u 5 p) d.bytes))
 operation_within keeps u (Copy to from layout) =
     if_within 64 (nat_eq layout.bytes 0) _ _ (nothing_within 64)
     (less_within (36 + 20) 64 _ (omega arith)
@@ -381,9 +375,7 @@ operation_within keeps u (Clear p layout count) =
     (both_within 24 12 (from_temp u 5 p ++ further_code 7 5 (bytes_in layout count)) (clear_loop (are_words layout))
     (both_within 12 12 (from_temp u 5 p) (further_code 7 5 (bytes_in layout count)) (from_within u 5 p) (further_within 7 5 (bytes_in layout count)))
     (clear_within (are_words layout))))
-operation_within keeps u (IsNull t p) =
-    let line : List Line = Plain (instr.Sltiu (result_register t) (has_operand u 5 p) (pos 1)) ∷ [] in
-    result_within 16 keeps u t (operand u 5 p ++ line) (omega arith) (with_within 4 u 5 p line (record { is = omega arith }))
+operation_within keeps u (IsNull t p) = null_within keeps u t p (null_source (source_of u.held p))
 operation_within keeps u (SamePlace t p q) =
     let lines = binary_code Equal (result_register t) (has_operand u 5 p) (has_operand u 6 q) in
     result_within 32 keeps u t (operand u 5 p ++ operand u 6 q ++ lines) (omega arith)

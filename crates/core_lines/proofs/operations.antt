@@ -9,7 +9,9 @@ pub mod Raising
 pub mod Comparing
 pub mod Reaching
 pub mod Writing
+pub mod Stored
 pub mod Operations
+pub mod Nulls
 pub mod Computing
 pub mod Applying
 pub mod Parts

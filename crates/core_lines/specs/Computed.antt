@@ -9,7 +9,7 @@ use Rattle.core_lines.specs.Frames.{upper_of, lower_of, is_short, word_code, loa
 use Rattle.core_lines.specs.declared.comparison.Comparison.{Comparison}
 use Rattle.core_lines.specs.Held.{nth, nth_block, Source, Register, Number, Compared, Holding, source_of, result_register}
 use Rattle.core_lines.specs.Operands.{number_code, operand_in, operand_code, into_code, keep_code}
-use Rattle.core_lines.specs.Operands.{number_kept, verdict_kept, move_kept}
+use Rattle.core_lines.specs.Operands.{number_kept, verdict_kept, move_kept, stored_in, stored_code}
 
 -- ---- operations
 
@@ -177,6 +177,12 @@ narrow_kept keeps u t x None =
     operand u 5 x ++ (Plain (instr.Andi (result_register t) (has_operand u 5 x) (pos 255)) ∷ []) ++ keep_result keeps u t
 narrow_kept keeps u t x (Some w) = number_kept keeps u.passed t (w % 256)
 
+-- whether a word is 0, which may be known to be a number or a comparison
+abbrev pub null_kept : Bool → Surroundings → (t p : ℕ) → Option Source → List Line
+null_kept keeps u t p None =
+    operand u 5 p ++ (Plain (instr.Sltiu (result_register t) (has_operand u 5 p) (pos 1)) ∷ []) ++ keep_result keeps u t
+null_kept keeps u t p (Some s) = move_kept keeps u.passed (result_register t) t p (Some s)
+
 -- a local into a temporary, and back: where it lies in the frame, or in its register, of which a byte is kept as the word that it is
 abbrev pub get_code : Bool → Surroundings → ℕ → ℕ → ℕ → ℕ → List Line
 get_code keeps u zero t width offset = read_code (result_register t) width 2 offset ++ keep_result keeps u t
@@ -186,7 +192,7 @@ abbrev pub byte_code : Surroundings → ℕ → ℕ → List Line
 byte_code u h x = operand u 6 x ++ (Plain (instr.Andi h (has_operand u 6 x) (pos 255)) ∷ [])
 
 abbrev pub put_code : Surroundings → ℕ → ℕ → ℕ → ℕ → List Line
-put_code u zero width offset x = operand u 6 x ++ write_code (has_operand u 6 x) width 2 offset
+put_code u zero width offset x = stored_code u.passed u.held 6 x ++ write_code (stored_in u.held 6 x) width 2 offset
 put_code u (suc h) width offset x = (if nat_eq width 1 then byte_code u (suc h) x else into_code u.passed u.held (suc h) x)
 
 -- the exponent of an element's bytes, where they are a small power of two

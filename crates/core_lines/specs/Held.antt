@@ -184,6 +184,16 @@ abbrev pub with_computed : ℕ → Option Comparison → List Holding → List H
 with_computed t None hs = with_result t hs
 with_computed t (Some c) hs = with_source t (Compared c) hs
 
+-- ---- tests of NULL
+
+-- What is known of whether a word is 0, as NULL is: it is a number where the word is one, and else a comparison of the register that has the word with x0.
+abbrev pub null_source : Option Source → Option Source
+null_source None = None
+null_source (Some (Register r)) = Some (Compared (record { condition = condition.Equal; left = r; right = 0 }))
+null_source (Some (Number zero)) = Some (Number 1)
+null_source (Some (Number (suc w))) = Some (Number 0)
+null_source (Some (Compared c)) = None
+
 -- a temporary gets what an operation on two gives
 abbrev pub with_applied : ℕ → Option ℕ → Option Comparison → List Holding → List Holding
 with_applied t None c hs = with_computed t c hs
@@ -242,7 +252,7 @@ held_behind_operation homes statics hs (Load t p d) = with_result t hs
 held_behind_operation homes statics hs (Store p d x) = hs
 held_behind_operation homes statics hs (Copy to from layout) = []
 held_behind_operation homes statics hs (Clear p layout count) = []
-held_behind_operation homes statics hs (IsNull t p) = with_result t hs
+held_behind_operation homes statics hs (IsNull t p) = with_moved t (null_source (source_of hs p)) hs
 held_behind_operation homes statics hs (SamePlace t p q) = with_result t hs
 held_behind_operation homes statics hs (Getchar t) = with_answer t hs
 held_behind_operation homes statics hs (Putchar t x) = with_answer t hs

@@ -9,7 +9,7 @@ use Rattle.core_lines.specs.Homes.{flag_at}
 use Rattle.core_lines.specs.declared.comparison.Comparison.{Comparison}
 use Rattle.core_lines.specs.declared.comparison.Condition.TheVariants.{NotEqual}
 use Rattle.core_lines.specs.Comparisons.{verdict_code}
-use Rattle.core_lines.specs.Held.{Source, Register, Number, Compared, Holding, source_of, without_register, result_register}
+use Rattle.core_lines.specs.Held.{Source, Register, Number, Compared, Holding, source_of, is_zero, without_register, result_register}
 
 -- a word into a register: ADDI alone where the lower part is the word, LUI alone where there is none
 abbrev pub number_code : ℕ → ℕ → List Line
@@ -38,6 +38,13 @@ bring_code passed spare t (Some (Compared c)) = verdict_code spare c
 
 abbrev pub operand_code : (passed : ℕ) → List Holding → ℕ → ℕ → List Line
 operand_code passed hs spare t = bring_code passed spare t (source_of hs t)
+
+-- The register of a word that is stored: x0 where it is known to be 0, which needs no code.
+abbrev pub stored_in : List Holding → ℕ → ℕ → ℕ
+stored_in hs spare t = (if is_zero (source_of hs t) then 0 else operand_in hs spare t)
+
+abbrev pub stored_code : (passed : ℕ) → List Holding → ℕ → ℕ → List Line
+stored_code passed hs spare t = (if is_zero (source_of hs t) then [] else operand_code passed hs spare t)
 
 -- a register's word into another one
 abbrev pub copied_code : ℕ → ℕ → List Line

@@ -1,5 +1,5 @@
 -- The lines that each operation, statement, function and program of Core becomes.
-use Rattle.std.specs.Prelude.{ℕ, Bool, pos, ◌+◌, ◌-◌, ◌*◌, ◌%◌, ◌^◌, List, [], ◌∷◌, ◌++◌, take, drop, nat_eq, if◌then◌else◌, length}
+use Rattle.std.specs.Prelude.{ℕ, Bool, ◌+◌, ◌-◌, ◌*◌, ◌%◌, ◌^◌, List, [], ◌∷◌, ◌++◌, take, drop, nat_eq, if◌then◌else◌, length}
 use Rattle.rv32_isa.specs.declared.instruction.Instr.TheVariants as instr
 use Rattle.rv32_machine.specs.State.{data_base}
 use Rattle.core_meaning.specs.Memory.{Layout}
@@ -14,8 +14,8 @@ use Rattle.core_lines.specs.Frames.{word_code, stack_start_code, epilogue_code, 
 use Rattle.core_lines.specs.Loops.{are_words, copy_loop, clear_loop}
 use Rattle.core_lines.specs.Homes.{homes_in, saved_slot, saved_by, flag_at}
 pub use Rattle.core_lines.specs.Held.{nth, nth_block, Source, Register, Number, Compared, Holding, held_behind, held_behind_all, source_of, number_in}
-pub use Rattle.core_lines.specs.Held.{result_register, same_as, comparison_of}
-use Rattle.core_lines.specs.Operands.{into_code, keep_code}
+pub use Rattle.core_lines.specs.Held.{result_register, same_as, comparison_of, null_source}
+use Rattle.core_lines.specs.Operands.{into_code, keep_code, stored_in, stored_code}
 use Rattle.core_lines.specs.Operands.{number_kept, move_kept, call_code, return_code, prologue_code}
 use Rattle.core_lines.specs.Choosing.{choice_code, between_code, behind_code}
 use Rattle.core_lines.specs.Checks.{check_of, checked_code}
@@ -28,7 +28,7 @@ pub use Rattle.core_lines.specs.LocalPlaces.{frame_bytes, datum_local, datum_loc
 pub use Rattle.core_lines.specs.Computed.{Surroundings, local_offset, local_home, from_temp, to_temp, far_code, read_line, read_code, write_line, write_code}
 pub use Rattle.core_lines.specs.Computed.{inverted, binary_code, short_code, shift_code, turned, difference_code, immediate_code, immediate_for, address_code}
 pub use Rattle.core_lines.specs.Computed.{further_code, operand, has_operand, both_code, apply_code, keep_result, computed_kept, applied_kept, get_code, byte_code, put_code}
-pub use Rattle.core_lines.specs.Computed.{exponent_of, times_code, element_code, narrow_kept}
+pub use Rattle.core_lines.specs.Computed.{exponent_of, times_code, element_code, narrow_kept, null_kept}
 
 -- ---- whole objects
 
@@ -79,11 +79,11 @@ operation_code keeps u (Element t p i cells bytes) = element_code u (result_regi
 operation_code keeps u (Get t out local width) = get_code keeps u (local_home u out local) t width (local_offset u out local)
 operation_code keeps u (Put out local width x) = put_code u (local_home u out local) width (local_offset u out local) x
 operation_code keeps u (Load t p d) = operand u 5 p ++ read_code (result_register t) d.width (has_operand u 5 p) d.bytes ++ keep_result keeps u t
-operation_code keeps u (Store p d x) = operand u 5 p ++ operand u 6 x ++ write_code (has_operand u 6 x) d.width (has_operand u 5 p) d.bytes
+operation_code keeps u (Store p d x) =
+    operand u 5 p ++ stored_code u.passed u.held 6 x ++ write_code (stored_in u.held 6 x) d.width (has_operand u 5 p) d.bytes
 operation_code keeps u (Copy to from layout) = copy_code u to from layout
 operation_code keeps u (Clear p layout count) = clear_code u p layout count
-operation_code keeps u (IsNull t p) =
-    operand u 5 p ++ (Plain (instr.Sltiu (result_register t) (has_operand u 5 p) (pos 1)) ∷ []) ++ keep_result keeps u t
+operation_code keeps u (IsNull t p) = null_kept keeps u t p (null_source (source_of u.held p))
 operation_code keeps u (SamePlace t p q) =
     operand u 5 p ++ operand u 6 q ++ binary_code Equal (result_register t) (has_operand u 5 p) (has_operand u 6 q) ++ keep_result keeps u t
 operation_code keeps u (Getchar t) = environment_code 2 ++ keep_answer keeps u t

@@ -7,8 +7,8 @@ use Rattle.core_lines.specs.declared.line.Line.{Line}
 use Rattle.core_lines.specs.Selected.{bytes_of, first_of, rest_of, shrink, shrunk, homes_here, homes_after, offsets_from, end_from, rounded, nth}
 use Rattle.rv32_select.specs.Marks.{first_homes}
 use Rattle.core_lines.specs.Held.{result_register}
-use Rattle.core_lines.specs.Operands.{into_code, keep_code}
-use Rattle.core_lines.specs.Selected.{Surroundings, get_code, put_code, byte_code, read_code, write_code, keep_result, operand, has_operand}
+use Rattle.core_lines.specs.Operands.{into_code, keep_code, stored_in, stored_code}
+use Rattle.core_lines.specs.Selected.{Surroundings, get_code, put_code, byte_code, read_code, write_code, keep_result}
 
 -- ---- one local
 
@@ -34,10 +34,11 @@ module _ (keeps : Bool) (u : Surroundings) (t width offset : ℕ) where
   got_with before after home (suc h) is some a = a ∙ ap (λ r. before ++ keep_code keeps u.passed r t) is
 
 module _ (u : Surroundings) (width offset t : ℕ) where
-  pub stored_without : (before loaded after : List Line) (value h : ℕ) → h ≡ 0 → loaded ≡ before ++ operand u 6 t → value ≡ has_operand u 6 t
-      → after ≡ loaded ++ write_code value width 2 offset → after ≡ before ++ put_code u h width offset t
+  pub stored_without : (before loaded after : List Line) (value h : ℕ) → h ≡ 0 → loaded ≡ before ++ stored_code u.passed u.held 6 t
+      → value ≡ stored_in u.held 6 t → after ≡ loaded ++ write_code value width 2 offset → after ≡ before ++ put_code u h width offset t
   stored_without before loaded after value zero none l v a =
-      a ∙ (λ i. l i ++ write_code (v i) width 2 offset) ∙ append_assoc before (operand u 6 t) (write_code (has_operand u 6 t) width 2 offset)
+      a ∙ (λ i. l i ++ write_code (v i) width 2 offset) ∙ append_assoc before (stored_code u.passed u.held 6 t)
+      (write_code (stored_in u.held 6 t) width 2 offset)
   stored_without before loaded after value (suc h) none l v a = absurd (omega (arith, none))
 
   pub stored_with : (before after : List Line) (home h : ℕ) → home ≡ h → 0 < home

@@ -8,6 +8,7 @@ ghost use Rattle.rv32_select.specs.Places.{surroundings};
 
 use crate::answers::{hold_answer, hold_asked};
 use crate::held::Source;
+use crate::nulls::hold_null;
 use crate::place::{HEAP, Place};
 use cyc_core::Operation;
 use std::alloc::AllocError;
@@ -42,12 +43,12 @@ pub fn hold_behind(place: &mut Place, operation: Operation) -> Result<(), AllocE
             place.held.hold_applied(binary, to, left, right)
         }
         Operation::Narrow(to, from) => place.held.hold_narrowed(to, from),
+        Operation::IsNull(to, pointer) => hold_null(&mut place.held, to, pointer),
         Operation::LocalAddress(to, _)
         | Operation::OwnAddress(to, _)
         | Operation::Offset(to, _, _, _)
         | Operation::Element(to, _, _, _, _)
         | Operation::Load(to, _, _)
-        | Operation::IsNull(to, _)
         | Operation::SamePlace(to, _, _) => place.held.hold_result(to),
         Operation::Getchar(to)
         | Operation::Putchar(to, _)

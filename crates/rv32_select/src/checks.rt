@@ -1,8 +1,10 @@
 // Checks: choices that go on where a temporary isn't 0, and else do no more than raise an exception.
 
-ghost use Rattle.std.specs.Prelude.{◌≡◌, ◌≤◌, ◌+◌, ◌*◌, ◌∷◌, [], ◌++◌, IfOk, OnOk, option_map, length, pos};
+ghost use Rattle.std.specs.Prelude.{◌≡◌, ◌≤◌, ℕ, List, ◌+◌, ◌*◌, ◌∷◌, [], ◌++◌, IfOk, OnOk, None, Some, option_map, length, pos};
 ghost use Rattle.core_lines.specs.declared.line.Line.TheVariants.{Plain};
-ghost use Rattle.core_lines.specs.Checks.{kind_of, kind_in, either_failure, failure_of, failure_in, check_of, failure_code, check_code};
+ghost use Rattle.core_lines.specs.Checks.{kind_of, kind_in, either_failure, failure_of, failure_in, check_of};
+ghost use Rattle.core_lines.specs.Checks.{either_code, failure_code, tested_code, check_code};
+ghost use Rattle.core_lines.specs.Held.{Holding, source_of, number_in};
 ghost use Rattle.core_lines.specs.Frames.{kind_number, raise_code};
 ghost use Rattle.core_lines.specs.Lines.{code_length};
 ghost use Rattle.cyc_core.specs.Trees.{statement_tree, body_tree};
@@ -129,19 +131,65 @@ pub fn put_raise(lines: &mut Vec<Line>, kind: Kind) -> Result<(), AllocError>
     put_environment(lines, RAISE)
 }
 
+/// Appends what raises one of two exceptions, by a test of what is known to be this number.
+#[tactic(auto, using(crate::proofs::Decided::second_raised, crate::proofs::Decided::first_raised))]
+fn put_known_failure(
+    lines: &mut Vec<Line>,
+    number: u64,
+    first: Kind,
+    second: Kind,
+) -> Result<(), AllocError>
+    ensures { (passed test : ℕ) → (hs : List Holding) → OnOk result (lines.new.items ≡ lines.old.items
+        ++ either_code passed hs test first second (Some number)) }
+{
+    if number == 0 {
+        put_raise(lines, second)
+    } else {
+        put_raise(lines, first)
+    }
+}
+
+/// Appends what raises one of two exceptions, by a branch.
+fn put_branched_failure(
+    lines: &mut Vec<Line>,
+    place: &Place,
+    test: Temporary,
+    first: Kind,
+    second: Kind,
+) -> Result<(), AllocError>
+    ensures { OnOk result (lines.new.items ≡ lines.old.items ++ either_code place.now.passed place.now.held test.0 first second None) }
+{
+    let comparison = put_test(lines, place, FIRST, test)?;
+    let over = BranchOffset::new(16);
+    put(lines, comparison.inverse().branch(over))?;
+    put_raise(lines, first)?;
+    put_raise(lines, second)
+}
+
+/// Appends what raises one of two exceptions.
+fn put_either(
+    lines: &mut Vec<Line>,
+    place: &Place,
+    test: Temporary,
+    first: Kind,
+    second: Kind,
+) -> Result<(), AllocError>
+    ensures { OnOk result (lines.new.items ≡ lines.old.items
+        ++ either_code place.now.passed place.now.held test.0 first second (number_in (source_of place.now.held test.0))) }
+{
+    match place.held.number(test) {
+        Some(number) => put_known_failure(lines, number, first, second),
+        None => put_branched_failure(lines, place, test, first, second),
+    }
+}
+
 /// Appends what raises a failed check's exception.
 fn put_failure(lines: &mut Vec<Line>, place: &Place, failure: Failure) -> Result<(), AllocError>
     ensures { OnOk result (lines.new.items ≡ lines.old.items ++ failure_code place.now.passed place.now.held (failure_tree failure)) }
 {
     match failure {
         Failure::Always(kind) => put_raise(lines, kind),
-        Failure::ByTest(test, first, second) => {
-            let comparison = put_test(lines, place, FIRST, test)?;
-            let over = BranchOffset::new(16);
-            put(lines, comparison.inverse().branch(over))?;
-            put_raise(lines, first)?;
-            put_raise(lines, second)
-        }
+        Failure::ByTest(test, first, second) => put_either(lines, place, test, first, second),
     }
 }
 
@@ -169,7 +217,40 @@ fn put_over(
     put_lines(lines, skipped)
 }
 
-/// Appends a check of a temporary. What raises its exception is made apart, since the branch over that has its length.
+/// Appends a check by a branch. What raises its exception is made apart, since the branch over that has its length.
+fn put_branched_check(
+    lines: &mut Vec<Line>,
+    place: &Place,
+    test: Temporary,
+    failure: Failure,
+) -> Result<(), AllocError>
+    ensures { OnOk result (lines.new.items ≡ lines.old.items
+        ++ tested_code place.now.passed place.now.held test.0 (failure_tree failure) None) }
+{
+    let raising = failure_lines(place, failure)?;
+    let comparison = put_test(lines, place, FIRST, test)?;
+    put_over(lines, comparison, &raising)
+}
+
+/// Appends a check of what is known to be this number.
+#[tactic(auto, using(crate::proofs::Decided::fails_check, crate::proofs::Decided::passes_check))]
+fn put_known_check(
+    lines: &mut Vec<Line>,
+    place: &Place,
+    number: u64,
+    failure: Failure,
+) -> Result<(), AllocError>
+    ensures { (test : ℕ) → OnOk result (lines.new.items ≡ lines.old.items
+        ++ tested_code place.now.passed place.now.held test (failure_tree failure) (Some number)) }
+{
+    if number == 0 {
+        put_failure(lines, place, failure)
+    } else {
+        Ok(())
+    }
+}
+
+/// Appends a check of a temporary.
 fn put_check(
     lines: &mut Vec<Line>,
     place: &Place,
@@ -178,9 +259,10 @@ fn put_check(
 ) -> Result<(), AllocError>
     ensures { OnOk result (lines.new.items ≡ lines.old.items ++ check_code place.now.passed place.now.held test.0 (failure_tree failure)) }
 {
-    let raising = failure_lines(place, failure)?;
-    let comparison = put_test(lines, place, FIRST, test)?;
-    put_over(lines, comparison, &raising)
+    match place.held.number(test) {
+        Some(number) => put_known_check(lines, place, number, failure),
+        None => put_branched_check(lines, place, test, failure),
+    }
 }
 
 /// Appends a check. Answers the next free label.

@@ -222,7 +222,7 @@ impl Known {
 
     /// Whether a temporary's word is known to be 0.
     #[tactic(auto, using(crate::proofs::Knowing::zero_number, crate::proofs::Knowing::zero_register, crate::proofs::Knowing::zero_compared, crate::proofs::Knowing::zero_none))]
-    fn is_zero(&self, temporary: Temporary) -> bool
+    pub fn is_zero(&self, temporary: Temporary) -> bool
         ensures { result ≡ is_zero (source_of self.now temporary.0) }
     {
         match self.source(temporary) {

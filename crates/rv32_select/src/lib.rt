@@ -33,6 +33,7 @@ mod loads;
 mod locals;
 mod marks;
 mod memory;
+mod nulls;
 mod operands;
 mod operation;
 mod place;

@@ -10,7 +10,7 @@ ghost use Rattle.rv32_select.specs.Places.{surroundings};
 
 use crate::emit::{SECOND, put, put_address, put_read, put_write};
 use crate::held::result_register;
-use crate::operands::{put_into, put_kept, put_operand, put_result};
+use crate::operands::{put_into, put_kept, put_operand, put_result, put_value};
 use crate::place::Place;
 use core_lines::Line;
 use cyc_core::{Temporary, Variable, Width};
@@ -74,7 +74,7 @@ pub fn put_put(
 {
     let (offset, home) = place.local(variable);
     if home.number() == 0 {
-        let value = put_operand(lines, place, SECOND, from)?;
+        let value = put_value(lines, place, from)?;
         put_write(lines, value, width, Register::STACK_POINTER, offset)
     } else {
         put_home(lines, place, home, width, from)

@@ -11,12 +11,12 @@ ghost use Rattle.rv32_select.specs.Places.{surroundings};
 
 use crate::emit::{FIRST, SECOND, put, put_further, put_number, put_read, put_write};
 use crate::held::result_register;
-use crate::operands::{put_number_kept, put_operand, put_result};
+use crate::operands::{put_number_kept, put_operand, put_result, put_value};
 use crate::place::Place;
 use crate::words::put_binary;
 use core_lines::Line;
 use cyc_core::{Binary, Distance, Temporary};
-use rv32_isa::{Instr, Register, ShiftAmount, Signed12};
+use rv32_isa::{Instr, Register, ShiftAmount};
 use std::alloc::AllocError;
 
 /// Appends what gives a temporary the address so many bytes behind that in another one.
@@ -133,23 +133,6 @@ pub fn put_element(
     put_result(lines, place, keeps, to)
 }
 
-/// Appends what gives a temporary whether another one is NULL.
-pub fn put_is_null(
-    lines: &mut Vec<Line>,
-    place: &Place,
-    keeps: bool,
-    to: Temporary,
-    pointer: Temporary,
-) -> Result<(), AllocError>
-    ensures { OnOk result (lines.new.items ≡ lines.old.items
-        ++ operation_code keeps (surroundings place.now) (core.IsNull to.0 pointer.0)) }
-{
-    let from = put_operand(lines, place, FIRST, pointer)?;
-    let one = Signed12::new(1);
-    put(lines, Instr::Sltiu(result_register(to), from, one))?;
-    put_result(lines, place, keeps, to)
-}
-
 /// Appends what gives a temporary whether two others are the same pointer.
 pub fn put_same(
     lines: &mut Vec<Line>,
@@ -198,7 +181,7 @@ pub fn put_stored_part(
         ++ operation_code true (surroundings place.now) (core.Store pointer.0 (distance_tree distance) from.0)) }
 {
     let to = put_operand(lines, place, FIRST, pointer)?;
-    let value = put_operand(lines, place, SECOND, from)?;
+    let value = put_value(lines, place, from)?;
     put_write(lines, value, distance.width, to, u64::from(distance.bytes))
 }
 

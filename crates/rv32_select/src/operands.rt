@@ -3,11 +3,12 @@
 ghost use Rattle.std.specs.Prelude.{◌≡◌, ◌++◌, IfOk, OnOk};
 ghost use Rattle.core_lines.specs.Held.{result_register, source_of};
 ghost use Rattle.core_lines.specs.Operands.{into_code, keep_code, number_kept, verdict_kept, move_kept, test_in, test_ready};
+ghost use Rattle.core_lines.specs.Operands.{stored_in, stored_code};
 ghost use Rattle.core_lines.specs.Selected.{from_temp, to_temp, operand, has_operand, keep_result};
 ghost use Rattle.rv32_select.specs.Places.{surroundings};
 
 use crate::comparing::{is_some, put_verdict};
-use crate::emit::{FIRST, put_copied, put_load, put_number, put_save};
+use crate::emit::{FIRST, SECOND, put_copied, put_load, put_number, put_save};
 use crate::held::{Source, result_register};
 use crate::place::Place;
 use core_lines::{Comparison, Line};
@@ -65,6 +66,22 @@ pub fn put_operand(
             put_from(lines, place, spare, from)?;
             Ok(spare)
         }
+    }
+}
+
+/// Appends what brings a word that is stored into a register, if it is in none. Answers which one it is: x0 where the word is known to be 0.
+pub fn put_value(
+    lines: &mut Vec<Line>,
+    place: &Place,
+    from: Temporary,
+) -> Result<Register, AllocError>
+    ensures code { OnOk result (lines.new.items ≡ lines.old.items ++ stored_code place.now.passed place.now.held 6 from.0) }
+    ensures register { IfOk result (λ register. register ≡ stored_in place.now.held 6 from.0) }
+{
+    if place.held.is_zero(from) {
+        Ok(Register::ZERO)
+    } else {
+        put_operand(lines, place, SECOND, from)
     }
 }
 

@@ -9,9 +9,9 @@ ghost use Rattle.rv32_select.specs.Places.{surroundings, calls_environment};
 use crate::emit::put_environment;
 use crate::locals::{put_get, put_own_address, put_put};
 use crate::memory::{
-    put_data_address, put_element, put_is_null, put_loaded_part, put_offset, put_same,
-    put_stored_part,
+    put_data_address, put_element, put_loaded_part, put_offset, put_same, put_stored_part,
 };
+use crate::nulls::put_is_null;
 use crate::operands::{put_into, put_kept, put_moved, put_number_kept};
 use crate::place::{HEAP, Place};
 use crate::words::{put_apply, put_narrow};

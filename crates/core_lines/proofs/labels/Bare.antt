@@ -3,6 +3,7 @@ use Rattle.std.proofs.Common.{◌≡◌, ℕ, zero, suc, pos, ◌+◌, ◌*◌, 
 use Rattle.std.specs.Prelude.{nat_lt, drop, if◌then◌else◌}
 use Rattle.core_lines.specs.declared.comparison.Comparison.{Comparison}
 use Rattle.rv32_isa.specs.declared.instruction.Instr.TheVariants as instr
+use Rattle.cyc_words.specs.declared.faults.Kind.{Kind}
 use Rattle.core_meaning.specs.Memory.{Layout}
 use Rattle.core_meaning.specs.Core.{Binary, Add, Subtract, Multiply, Divide, DivideUnsigned, Remainder, RemainderUnsigned, And, Or, Xor, ShiftLeft}
 use Rattle.core_meaning.specs.Core.{ShiftRight, ShiftRightUnsigned, Equal, NotEqual, Less, LessEqual, LessUnsigned, LessEqualUnsigned, Operation, Constant}
@@ -16,18 +17,20 @@ use Rattle.core_lines.specs.Comparisons.{inverse, branch_if, verdict_code}
 use Rattle.core_lines.specs.Lines.{code_length}
 use Rattle.core_lines.specs.Frames.{is_short, word_code, load_code, save_code, slot_of, environment_code, frame_code, give_code}
 use Rattle.core_lines.specs.Frames.{saves_code, restores_code, leave_code, epilogue_code, raise_code}
-use Rattle.core_lines.specs.Checks.{Failure, Always, ByTest, failure_code, check_code}
+use Rattle.core_lines.specs.Checks.{Failure, Always, ByTest, either_code, failure_code, tested_code, check_code}
 use Rattle.core_lines.specs.Homes.{flag_at}
 use Rattle.core_lines.specs.Loops.{are_words, copy_loop, clear_loop}
-use Rattle.core_lines.specs.Held.{Source, Register, Number, Compared, Holding, source_of, without_register, result_register, same_as, comparison_of}
+use Rattle.core_lines.specs.Held.{Source, Register, Number, Compared, Holding, source_of, is_zero, without_register, result_register, same_as}
+use Rattle.core_lines.specs.Held.{comparison_of}
 use Rattle.core_lines.specs.Operands.{number_code, operand_in, bring_code, operand_code, fetch_code, into_code, keep_code, number_kept}
-use Rattle.core_lines.specs.Operands.{verdict_kept, move_kept, test_in, ready_code, test_ready}
+use Rattle.core_lines.specs.Operands.{verdict_kept, move_kept, test_in, ready_code, test_ready, stored_in, stored_code}
 use Rattle.core_lines.specs.Operands.{pass_code, result_code, call_code, values_code, return_code, take_code, prologue_code}
 use Rattle.core_lines.specs.Selected.{Surroundings, local_offset, local_home, nth, from_temp, far_code, read_line, read_code, write_line, write_code}
 use Rattle.core_lines.specs.Selected.{binary_code, turned, immediate_code, immediate_for, address_code, further_code}
 use Rattle.core_lines.specs.Selected.{operand, has_operand, both_code, apply_code, keep_result, computed_kept, applied_kept, get_code, byte_code, put_code}
 use Rattle.core_lines.specs.Straight.{straight_operation, straight_code}
 use Rattle.core_meaning.specs.Core.{Statement, Do}
+use Rattle.core_lines.specs.Selected.{null_source, null_kept}
 use Rattle.core_lines.specs.Selected.{number_in, narrow_kept, exponent_of, times_code, element_code, copy_code, clear_code, bytes_in, bytes_code, operation_code}
 use Rattle.core_lines.specs.Selected.{argument_code, keep_answer}
 pub use Rattle.core_lines.proofs.labels.BareLines.{are_bare, bare_places, bare_targets, two, three, four, either, one, verdict_bare}
@@ -69,6 +72,9 @@ module _ (passed : ℕ) where
   pub operand_bare : (hs : List Holding) (spare t : ℕ) → are_bare (operand_code passed hs spare t) ≡ true
   operand_bare hs spare t = bring_bare spare t (source_of hs t)
 
+  stored_bare : (hs : List Holding) (spare t : ℕ) → are_bare (stored_code passed hs spare t) ≡ true
+  stored_bare hs spare t = either (is_zero (source_of hs t)) _ _ refl (operand_bare hs spare t)
+
   fetch_bare : (to t : ℕ) (s : Option Source) → are_bare (fetch_code passed to t s) ≡ true
   fetch_bare to t None = load_bare to (slot_of passed t)
   fetch_bare to t (Some (Register r)) = either (nat_eq r to) _ _ refl refl
@@ -99,17 +105,27 @@ module _ (passed : ℕ) where
       two (into_code passed hs (suc r) t) (values_code passed (without_register (suc r) hs) (suc r) ts) (into_bare hs (suc r) t)
       (values_bare (without_register (suc r) hs) (suc r) ts)
 
-  failure_bare : (hs : List Holding) (f : Failure) → are_bare (failure_code passed hs f) ≡ true
-  failure_bare hs (Always kind) = refl
-  failure_bare hs (ByTest t first second) =
+  either_bare : (hs : List Holding) (t : ℕ) (first second : Kind) (number : Option ℕ) → are_bare (either_code passed hs t first second number) ≡ true
+  either_bare hs t first second None =
       let branch : List Line = Plain (branch_if (inverse (test_in hs 5 t)) (pos 16)) ∷ [] in
       four (test_ready passed hs 5 t) branch (raise_code first) (raise_code second) (test_bare hs 5 t) refl refl refl
+  either_bare hs t first second (Some zero) = refl
+  either_bare hs t first second (Some (suc n)) = refl
 
-  pub check_bare : (hs : List Holding) (t : ℕ) (f : Failure) → are_bare (check_code passed hs t f) ≡ true
-  check_bare hs t f =
+  failure_bare : (hs : List Holding) (f : Failure) → are_bare (failure_code passed hs f) ≡ true
+  failure_bare hs (Always kind) = refl
+  failure_bare hs (ByTest t first second) = either_bare hs t first second (number_in (source_of hs t))
+
+  tested_bare : (hs : List Holding) (t : ℕ) (f : Failure) (number : Option ℕ) → are_bare (tested_code passed hs t f number) ≡ true
+  tested_bare hs t f None =
       let raising = failure_code passed hs f in
       three (test_ready passed hs 5 t) (Plain (branch_if (test_in hs 5 t) (pos (4 + code_length raising))) ∷ []) raising (test_bare hs 5 t) refl
       (failure_bare hs f)
+  tested_bare hs t f (Some zero) = failure_bare hs f
+  tested_bare hs t f (Some (suc n)) = refl
+
+  pub check_bare : (hs : List Holding) (t : ℕ) (f : Failure) → are_bare (check_code passed hs t f) ≡ true
+  check_bare hs t f = tested_bare hs t f (number_in (source_of hs t))
 
   pub return_bare : (hs : List Holding) (ts : List ℕ) (exit : ℕ) → are_bare (return_code passed hs ts exit) ≡ true
   return_bare hs ts exit = two (values_code passed hs 9 ts) (Jump exit ∷ []) (values_bare hs 9 ts) refl
@@ -232,7 +248,9 @@ module _ (u : Surroundings) where
       both_bare o to x y (immediate_for o to (has_operand u 5 x) (source_of u.held y)) (immediate_for_bare o to (has_operand u 5 x) (source_of u.held y))
 
   put_bare : (h width w x : ℕ) → are_bare (put_code u h width w x) ≡ true
-  put_bare zero width w x = two (operand u 6 x) (write_code (has_operand u 6 x) width 2 w) (of_bare 6 x) (write_bare (has_operand u 6 x) width 2 w)
+  put_bare zero width w x =
+      two (stored_code u.passed u.held 6 x) (write_code (stored_in u.held 6 x) width 2 w) (stored_bare u.passed u.held 6 x)
+      (write_bare (stored_in u.held 6 x) width 2 w)
   put_bare (suc h) width w x =
       either (nat_eq width 1) (byte_code u (suc h) x) (into_code u.passed u.held (suc h) x)
       (two (operand u 6 x) (Plain (instr.Andi (suc h) (has_operand u 6 x) (pos 255)) ∷ []) (of_bare 6 x) refl) (into_bare u.passed u.held (suc h) x)
@@ -285,6 +303,12 @@ module _ (u : Surroundings) where
         kept_bare t (operand u 5 x ++ line) (two (operand u 5 x) line (of_bare 5 x) refl)
     narrow_bare t x (Some w) = number_kept_bare u.passed keeps t (w % 256)
 
+    null_bare : (t p : ℕ) (known : Option Source) → are_bare (null_kept keeps u t p known) ≡ true
+    null_bare t p None =
+        let line : List Line = Plain (instr.Sltiu (result_register t) (has_operand u 5 p) (pos 1)) ∷ [] in
+        kept_bare t (operand u 5 p ++ line) (two (operand u 5 p) line (of_bare 5 p) refl)
+    null_bare t p (Some s) = move_bare u.passed keeps (result_register t) t p (Some s)
+
     straight_operation_bare : (home : ℕ) (o : Operation) → are_bare (straight_operation keeps u home o) ≡ true
     straight_operation_bare home (Apply o t x y) =
         two (apply_code u o home x y) (keep_code keeps u.passed home t) (apply_bare o home x y) (keep_bare u.passed keeps home t)
@@ -323,13 +347,11 @@ module _ (u : Surroundings) where
         let lines = read_code (result_register t) d.width (has_operand u 5 p) d.bytes in
         kept_bare t (operand u 5 p ++ lines) (two (operand u 5 p) lines (of_bare 5 p) (read_bare (result_register t) d.width (has_operand u 5 p) d.bytes))
     operation_bare (Store p d x) =
-        three (operand u 5 p) (operand u 6 x) (write_code (has_operand u 6 x) d.width (has_operand u 5 p) d.bytes) (of_bare 5 p) (of_bare 6 x)
-        (write_bare (has_operand u 6 x) d.width (has_operand u 5 p) d.bytes)
+        three (operand u 5 p) (stored_code u.passed u.held 6 x) (write_code (stored_in u.held 6 x) d.width (has_operand u 5 p) d.bytes) (of_bare 5 p)
+        (stored_bare u.passed u.held 6 x) (write_bare (stored_in u.held 6 x) d.width (has_operand u 5 p) d.bytes)
     operation_bare (Copy to from l) = copies_bare to from l
     operation_bare (Clear p l count) = clears_bare p l count
-    operation_bare (IsNull t p) =
-        let line : List Line = Plain (instr.Sltiu (result_register t) (has_operand u 5 p) (pos 1)) ∷ [] in
-        kept_bare t (operand u 5 p ++ line) (two (operand u 5 p) line (of_bare 5 p) refl)
+    operation_bare (IsNull t p) = null_bare t p (null_source (source_of u.held p))
     operation_bare (SamePlace t p q) =
         let lines = binary_code Equal (result_register t) (has_operand u 5 p) (has_operand u 6 q) in
         kept_bare t (operand u 5 p ++ operand u 6 q ++ lines) (three (operand u 5 p) (operand u 6 q) lines (of_bare 5 p) (of_bare 6 q) refl)

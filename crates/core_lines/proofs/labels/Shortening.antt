@@ -44,7 +44,7 @@ use Rattle.core_meaning.specs.Core.{
 use Rattle.core_lines.specs.Lines.{AreOnce}
 use Rattle.core_lines.specs.Frames.{environment_code, raise_code, stack_start_code, epilogue_code}
 use Rattle.core_lines.specs.Homes.{saved_by, saved_slot, flag_at}
-use Rattle.core_lines.specs.Held.{Holding, held_behind, held_behind_all, source_of, result_register, same_as, comparison_of}
+use Rattle.core_lines.specs.Held.{Source, Holding, held_behind, held_behind_all, source_of, result_register, same_as, comparison_of, null_source}
 use Rattle.core_lines.specs.declared.comparison.Comparison.{Comparison}
 use Rattle.core_lines.specs.Operands.{test_in, test_ready, keep_code, call_code, return_code, prologue_code}
 use Rattle.core_lines.specs.Checks.{Failure, check_of, check_code, checked_code}
@@ -52,7 +52,7 @@ use Rattle.core_lines.specs.Choosing.{far, jump_unless, choice_code, between_cod
 use Rattle.core_lines.specs.Completing.{can_complete, can_complete_all, ends_in_return_all}
 use Rattle.core_lines.specs.Saved.{results_in, results_all, live_at_start, saves_at}
 use Rattle.core_lines.specs.Selected.{Surroundings, frame_bytes, offsets_from, datum_locals, local_home, local_offset, immediate_for, has_operand, both_code}
-use Rattle.core_lines.specs.Selected.{number_in, keep_result, narrow_kept, applied_kept, get_code, put_code, operation_code, labels_in, labels_of}
+use Rattle.core_lines.specs.Selected.{number_in, keep_result, narrow_kept, null_kept, applied_kept, get_code, put_code, operation_code, labels_in, labels_of}
 use Rattle.core_lines.specs.Selected.{labels_within, holding, naming, names_after, names_after_all, within_block, statement_code, statements_code, around}
 use Rattle.core_lines.specs.Selected.{ended_code, function_code, functions_code, program_code, statements_behind, home_behind, first_code, later_code}
 use Rattle.core_lines.specs.Straight.{straight_operation, straight_code}
@@ -153,7 +153,11 @@ operation_same f g keeps u (Load t p d) = refl
 operation_same f g keeps u (Store p d x) = refl
 operation_same f g keeps u (Copy to from layout) = refl
 operation_same f g keeps u (Clear p layout count) = refl
-operation_same f g keeps u (IsNull t p) = refl
+operation_same f g keeps u (IsNull t p) = by (null_source (source_of u.held p))
+  where
+    by : (known : Option Source) → null_kept keeps (with_wide f u) t p known ≡ null_kept keeps (with_wide g u) t p known
+    by None = refl
+    by (Some s) = refl
 operation_same f g keeps u (SamePlace t p q) = refl
 operation_same f g keeps u (Getchar t) = refl
 operation_same f g keeps u (Putchar t x) = refl

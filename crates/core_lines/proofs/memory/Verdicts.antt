@@ -66,7 +66,7 @@ is_zero a b l m = grind (arith, nat_tests)
 pub is_some : (a b : ℕ) → a < 2 ^ 32 → b < 2 ^ 32 → nat_lt 0 (difference_of a b) ≡ not (nat_eq a b)
 is_some a b l m = grind (arith, nat_tests)
 
-below_one : (a : ℕ) → nat_lt a 1 ≡ nat_eq a 0
+pub below_one : (a : ℕ) → nat_lt a 1 ≡ nat_eq a 0
 below_one a = grind (arith, nat_tests)
 
 above_none : (a : ℕ) → nat_lt 0 a ≡ not (nat_eq a 0)

@@ -57,7 +57,8 @@ use Rattle.core_lines.proofs.frames.Bodies.{with_config, IsIn, GoesHolding}
 use Rattle.core_lines.proofs.operations.Registers.{having, AtHolding, fewer_holding, served_one, served_two, follows_none, number_into}
 use Rattle.core_lines.proofs.homes.Nests.{BlocksAre, nth_is}
 use Rattle.core_lines.proofs.homes.Fine.{IsFineOperation}
-use Rattle.core_lines.proofs.operations.Operations.{constant, heap_handle, move, lowest, null_is, pointer_is}
+use Rattle.core_lines.proofs.operations.Operations.{constant, heap_handle, move, lowest}
+use Rattle.core_lines.proofs.operations.Nulls.{null_is, pointer_is}
 use Rattle.core_lines.proofs.operations.Applying.{applied}
 use Rattle.core_lines.proofs.memory.Zero.{null_pointer}
 use Rattle.core_lines.proofs.operations.Parts.{object_address}
@@ -265,9 +266,9 @@ module _ (w : World) (order : IsInOrder w) (x : Waiting) (outer : List Waiting) 
       let served = served_one w x held p kept in
       null_goes w (At_first c) active fuel (c.temps p) (λ n. next (with_temp t (Word n) c))
       (λ e. gives (IsNull t p) keeps after c t (Word 1) is
-      (null_is w order y outer c.memory keeps after t named.0 follows p place held named.1 served has e) ends)
+      (null_is w order y outer c.memory keeps after t named.0 follows p place held named.1 served e has) ends)
       (λ s b e. gives (IsNull t p) keeps after c t (Word 0) is
-      (pointer_is w order y outer c.memory keeps after t named.0 follows p place held named.1 served has s b e) ends)
+      (pointer_is w order y outer c.memory keeps after t named.0 follows p place held named.1 served s b e has) ends)
   operation_goes (SamePlace t p q) keeps after named kept follows fine has ends c is =
       let y = with_config x c in
       let served = served_two w x held p q kept in

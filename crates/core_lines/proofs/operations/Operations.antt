@@ -3,49 +3,16 @@ use Rattle.rv32_machine.specs.Run.{Run}
 use Rattle.arena_laws.specs.Lawful.{Answer}
 use Rattle.core_lines.specs.Machines.{state_of}
 use Rattle.std.specs.Prelude.{bit_and}
-use Rattle.std.proofs.Common.{
-  ◌≡◌,
-  ℕ,
-  zero,
-  suc,
-  pos,
-  ◌+◌,
-  ◌*◌,
-  ◌%◌,
-  ◌^◌,
-  ◌<◌,
-  ◌≤◌,
-  ◌⊎◌,
-  inl,
-  inr,
-  Bool,
-  true,
-  false,
-  nat_eq,
-  nat_lt,
-  List,
-  [],
-  ◌∷◌,
-  ◌++◌,
-  Option,
-  Some,
-  None,
-  refl,
-  sym,
-  ap,
-  subst,
-  ◌∙◌,
-  arith,
-}
+use Rattle.std.proofs.Common.{◌≡◌, ℕ, zero, suc, pos, ◌+◌, ◌*◌, ◌%◌, ◌^◌, ◌<◌, ◌≤◌, ◌⊎◌, inl, inr, Bool, true, false, nat_eq, List, [], ◌∷◌, ◌++◌, Option, Some, None, refl, sym, ap, subst, ◌∙◌, arith}
 use Rattle.std.proofs.lemmas.Nat.{and_mask}
-use Rattle.std.proofs.lemmas.Bool.{lt-ltb, le-ltb, cases_lt}
+use Rattle.std.proofs.lemmas.Bool.{cases_lt}
 use Rattle.cyc_words.specs.Words.{word}
 use Rattle.rv32_isa.specs.declared.instruction.Instr.{Instr}
 use Rattle.rv32_isa.specs.declared.instruction.Instr.TheVariants as instr
-use Rattle.core_meaning.specs.Memory.{Spot, Content, Word, Null, Pointer, Birth, Memory}
+use Rattle.core_meaning.specs.Memory.{Content, Word, Birth, Memory}
 use Rattle.core_lines.specs.Machines.{Machine, Store}
-use Rattle.core_lines.specs.Lies.{Maps, Shows, Points, Slot}
-use Rattle.rv32_machine.specs.Step.{truth, effect, gives}
+use Rattle.core_lines.specs.Lies.{Maps, Shows, Slot}
+use Rattle.rv32_machine.specs.Step.{effect, gives}
 use Rattle.rv32_machine.specs.Audit.{AccessIsLawful}
 use Rattle.rv32_machine.specs.State.{word_at}
 use Rattle.core_lines.specs.declared.line.Line.{Line}
@@ -270,7 +237,7 @@ module _ (w : World) (order : IsInOrder w) (x : Waiting) (outer : List Waiting) 
     -- ---- operations on one word
 
     -- the result of an instruction on an operand
-    one_more : (y place : ℕ) (v : Content) (hs : List Holding) (instr : ℕ → Instr) (value : ℕ → ℕ) → y < x.fn.temporaries → IsServed w x hs y
+    pub one_more : (y place : ℕ) (v : Content) (hs : List Holding) (instr : ℕ → Instr) (value : ℕ → ℕ) → y < x.fn.temporaries → IsServed w x hs y
         → Has w place (operand hs 5 y ++ (Plain (instr (operand_in hs 5 y)) ∷ []) ++ kept_lines)
         → ((q here : ℕ) (registers bytes : ℕ → ℕ) (st : Store) (answer : Answer)
         → effect w.areas answer (instr (suc q)) (state_of (state_at here registers bytes st)) ≡ gives (result_register t) (value (registers (suc q)))
@@ -320,29 +287,3 @@ module _ (w : World) (order : IsInOrder w) (x : Waiting) (outer : List Waiting) 
             let found = there_found hs y (Number k) x.config.temps a.maps s.registers a.holds e in
             let same : k ≡ n = subst (λ v. Shows a.maps v k) is found.0 in
             ap (λ j. j % 256) same) has
-
-    -- a pointer, or none
-    abbrev null_lines : List Holding → ℕ → List Line
-    null_lines hs y = operand hs 5 y ++ (Plain (instr.Sltiu (result_register t) (operand_in hs 5 y) (pos 1)) ∷ []) ++ kept_lines
-
-    module _ (y place : ℕ) (hs : List Holding) (named' : y < x.fn.temporaries) (served : IsServed w x hs y) (has : Has w place (null_lines hs y)) where
-      abbrev Told : ℕ → Type 0
-      Told n = Comes w (AtHolding w x outer mem place hs)
-          (AtHolding w (with_value (Word n)) outer mem (place + code_length (null_lines hs y)) (with_result t hs))
-
-      is_null_as : (n : ℕ) → n < 2 ^ 32 → ((m : Maps) (k : ℕ) → Shows m (x.config.temps y) k → truth (nat_lt k 1) ≡ n) → Told n
-      is_null_as n small gets =
-          one_more y place (Word n) hs (λ q. instr.Sltiu (result_register t) q (pos 1)) (λ k. truth (nat_lt k 1)) named' served has
-          (λ q here r b st a. refl) (λ q _. tt)
-          (λ m k shows few. let same = gets m k shows in (same, subst (λ j. j < 2 ^ 32) (sym same) small))
-
-      pub null_is : x.config.temps y ≡ Null → Told 1
-      null_is is = is_null_as 1 (omega arith) (λ m k shows.
-          let none : k ≡ 0 = subst (λ v. Shows m v k) is shows in
-          ap truth (lt-ltb k 1 (omega (arith, none))))
-
-      pub pointer_is : (s : Spot) (b : ℕ) → x.config.temps y ≡ Pointer s b → Told 0
-      pointer_is s b is = is_null_as 0 (omega arith) (λ m k shows.
-          let points : Points m s b k = subst (λ v. Shows m v k) is shows in
-          let positive = points.positive in
-          ap truth (le-ltb k 1 (omega (arith, positive))))

@@ -9,7 +9,7 @@ use Rattle.core_lines.specs.declared.line.Line.{Line}
 use Rattle.core_lines.specs.Machines.{Machine}
 use Rattle.core_lines.specs.Lines.{code_length}
 use Rattle.core_lines.specs.Held.{Holding, result_register, with_result, with_local, with_put, with_source, without_register, Register}
-use Rattle.core_lines.specs.Operands.{operand_in, operand_code, into_code, keep_code}
+use Rattle.core_lines.specs.Operands.{operand_in, operand_code, into_code, keep_code, stored_in, stored_code}
 use Rattle.core_lines.specs.Selected.{Surroundings, nth, nth_block, read_code, write_code, get_code, byte_code, put_code}
 use Rattle.core_lines.specs.Homes.{is_home}
 use Rattle.core_lines.specs.Lies.{Maps, Activation}
@@ -111,6 +111,9 @@ module _ (w : World) (order : IsInOrder w) (x : Waiting) (outer : List Waiting) 
   abbrev operand : ℕ → ℕ → List Line
   operand spare t = operand_code x.fn.passed held spare t
 
+  abbrev value : ℕ → List Line
+  value y = stored_code x.fn.passed held 6 y
+
   abbrev kept_lines : Bool → ℕ → List Line
   kept_lines keeps t = keep_code keeps x.fn.passed (result_register t) t
 
@@ -139,7 +142,7 @@ module _ (w : World) (order : IsInOrder w) (x : Waiting) (outer : List Waiting) 
       named' served points has) ends)
 
   abbrev store_lines : ℕ → ℕ → ℕ → ℕ → List Line
-  store_lines p y width off = operand 5 p ++ operand 6 y ++ write_code (operand_in held 6 y) width (operand_in held 5 p) off
+  store_lines p y width off = operand 5 p ++ value y ++ write_code (stored_in held 6 y) width (operand_in held 5 p) off
 
   pub store_goes : (c : Config) (p y cells j off b : ℕ) (s : Spot) → IsIn x c → p < x.fn.temporaries → y < x.fn.temporaries → IsServed w x held p
       → IsServed w x held y → c.temps p ≡ Pointer s b
@@ -205,16 +208,16 @@ module _ (w : World) (order : IsInOrder w) (x : Waiting) (outer : List Waiting) 
       put_goes : (c : Config) (y out local k : ℕ) → IsIn x c → y < x.fn.temporaries → IsServed w x held y → IsLocal ns out local
           → home_of (nth_block hss out) local ≡ None → slice_get c.blocks out ≡ Some k
           → (part : Part) → c.memory.parts (local_spot k local) 0 ≡ Some part → is_live (c.memory.standing (Frame k)) ≡ true → part.offset ≡ 0
-          → (width : ℕ) → part.width ≡ width → Has w place (operand 6 y ++ write_code (operand_in held 6 y) width 2 (lies_at out local))
-          → Ends held (operand 6 y ++ write_code (operand_in held 6 y) width 2 (lies_at out local))
+          → (width : ℕ) → part.width ≡ width → Has w place (value y ++ write_code (stored_in held 6 y) width 2 (lies_at out local))
+          → Ends held (value y ++ write_code (stored_in held 6 y) width 2 (lies_at out local))
           → Goes w fuel (next (with_memory (local_with c k local part (fitting width (c.temps y))) c)) (At_first c) active
       put_goes c y out local k is named served has_local none block part part_is live offset width wide =
-          subst (λ k'. Has w place (operand 6 y ++ write_code (operand_in held 6 y) k' 2 (lies_at out local))
-          → Ends held (operand 6 y ++ write_code (operand_in held 6 y) k' 2 (lies_at out local))
+          subst (λ k'. Has w place (value y ++ write_code (stored_in held 6 y) k' 2 (lies_at out local))
+          → Ends held (value y ++ write_code (stored_in held 6 y) k' 2 (lies_at out local))
           → Goes w fuel (next (with_memory (local_with c k local part (fitting k' (c.temps y))) c))
           (At_first c) active) wide
           (λ has ends. puts_part c (local_with c k local part (fitting part.width (c.temps y))) held
-          (operand 6 y ++ write_code (operand_in held 6 y) part.width 2 (lies_at out local)) is
+          (value y ++ write_code (stored_in held 6 y) part.width 2 (lies_at out local)) is
           (put w order (with_config x c) outer c.memory held (Frame k) local (lies_at out local) (local_few out local has_local)
           (local_lies c out local k has_local none block) part part_is live offset y place named served has) ends)
 

@@ -12,7 +12,7 @@ use Rattle.core_lines.specs.declared.line.Line.TheVariants.{Plain}
 use Rattle.core_lines.specs.Lines.{code_length}
 use Rattle.core_lines.specs.Frames.{is_short, lower_of, word_code}
 use Rattle.core_lines.specs.Held.{Holding, without_register, result_index, result_register, with_result}
-use Rattle.core_lines.specs.Operands.{operand_in, operand_code, keep_code}
+use Rattle.core_lines.specs.Operands.{operand_in, operand_code, keep_code, stored_in, stored_code}
 use Rattle.core_lines.specs.Selected.{address_code, read_code, write_code}
 use Rattle.core_lines.proofs.memory.Relations.{World, IsInOrder, Has, Waiting, Follows, keeping, back_of, FrameShows}
 use Rattle.core_lines.proofs.memory.Moving.{Comes, comes_then, comes_as}
@@ -21,7 +21,7 @@ use Rattle.core_lines.proofs.memory.Words.{short_word}
 use Rattle.core_lines.proofs.memory.Fitting.{below_end}
 use Rattle.core_lines.proofs.homes.Homes.{other_register}
 use Rattle.core_lines.proofs.frames.Passing.{has_first, has_second}
-use Rattle.core_lines.proofs.operations.Holding.{having, Stable, InOperand, result_stays, operand_some, operand_stays, there_kept, there_without}
+use Rattle.core_lines.proofs.operations.Holding.{having, Stable, InOperand, result_stays, operand_some, there_kept, there_without}
 use Rattle.core_lines.proofs.operations.Registers.{
   AtWith,
   AtHolding,
@@ -35,12 +35,12 @@ use Rattle.core_lines.proofs.operations.Registers.{
   with_there,
   as_holding,
   now_known,
-  operands_into,
   result_into,
   brings,
 }
 use Rattle.core_lines.proofs.operations.Reaching.{Reaches, Far, operand_not_7, reads}
 use Rattle.core_lines.proofs.operations.Writing.{stored, writes}
+use Rattle.core_lines.proofs.operations.Stored.{InStored, stored_stays, stores_alone, stores_behind}
 use Rattle.core_lines.proofs.Offsets.{Midway}
 
 module _ (w : World) (order : IsInOrder w) (x : Waiting) (outer : List Waiting) (mem : Memory) (hs : List Holding) where
@@ -57,18 +57,21 @@ module _ (w : World) (order : IsInOrder w) (x : Waiting) (outer : List Waiting) 
   left : (t : ℕ) (m : Maps) (new old : ℕ → ℕ) → Kept (result_register t) new old → Known m old → Left t m new
   left t m new old kept there = there_without (result_index t) hs x.config.temps m new old kept there
 
-  -- an operand to be stored, and what is known
+  -- a word to be stored, and what is known
   abbrev Valued : ℕ → Maps → (ℕ → ℕ) → Type 0
-  Valued y m registers = InOperand 6 (operand_in hs 6 y) (x.config.temps y) m registers × Known m registers
+  Valued y m registers = InStored (stored_in hs 6 y) (x.config.temps y) m registers × Known m registers
 
   valued_stays : (y : ℕ) → Stable 7 (Valued y)
   valued_stays y m new old kept h = (
-    operand_stays 6 (operand_in hs 6 y) 7 (x.config.temps y) refl refl refl m new old kept h.0,
+    stored_stays (stored_in hs 6 y) (x.config.temps y) m new old kept h.0,
     there_kept 6 hs x.config.temps refl m new old kept h.1,
   )
 
   abbrev operand : ℕ → ℕ → List Line
   operand spare t = operand_code x.fn.passed hs spare t
+
+  abbrev value : ℕ → List Line
+  value y = stored_code x.fn.passed hs 6 y
 
   abbrev kept_lines : Bool → ℕ → List Line
   kept_lines keeps t = keep_code keeps x.fn.passed (result_register t) t
@@ -127,24 +130,24 @@ module _ (w : World) (order : IsInOrder w) (x : Waiting) (outer : List Waiting) 
         (operand_some hs 4 p) (there_kept 6 hs x.config.temps refl) (left t) (has_second w place first second has)))
 
     abbrev store_lines : ℕ → ℕ → List Line
-    store_lines p y = operand 5 p ++ operand 6 y ++ write_code (operand_in hs 6 y) part.width (operand_in hs 5 p) off
+    store_lines p y = operand 5 p ++ value y ++ write_code (stored_in hs 6 y) part.width (operand_in hs 5 p) off
 
     pub store : (p y place : ℕ) → p < x.fn.temporaries → y < x.fn.temporaries → IsServed w x hs p → IsServed w x hs y → x.config.temps p ≡ Pointer s b
         → Has w place (store_lines p y)
         → Comes w (AtHolding w x outer mem place hs)
         (AtHolding w x outer (stored w order x outer mem there j part is live (x.config.temps y)) (place + code_length (store_lines p y)) hs)
     store p y place named named' served served' points has =
-        let first = operand 5 p ++ operand 6 y in
-        let second = write_code (operand_in hs 6 y) part.width (operand_in hs 5 p) off in
+        let first = operand 5 p ++ value y in
+        let second = write_code (stored_in hs 6 y) part.width (operand_in hs 5 p) off in
         let mem' = stored w order x outer mem there j part is live (x.config.temps y) in
         holds_on mem' y place (place + code_length (first ++ second))
         (in_turn w (AtWith w x outer mem place Known) (λ q. AtWith w x outer mem q (OnFrom p (Valued y)))
         (λ q. AtWith w x outer mem' q (Valued y)) place first second
         (now_known w order x outer mem (place + code_length first) _ _ (OnFrom p (Valued y))
         (λ m registers h. on_from p (Valued y) m registers points h.0 (h.1, h.2))
-        (operands_into w order x outer mem p y place hs named named' served served' (has_first w place first second has)))
-        (writes w order x outer mem there j part is live (x.config.temps y) (operand_in hs 6 y) (operand_in hs 5 p) off (place + code_length first) (Valued y)
-        (operand_some hs 5 y) (operand_some hs 4 p) (valued_stays y) (λ m registers h. h.0.0) (has_second w place first second has)))
+        (stores_behind w order x outer mem hs p y place named named' served served' (has_first w place first second has)))
+        (writes w order x outer mem there j part is live (x.config.temps y) (stored_in hs 6 y) (operand_in hs 5 p) off (place + code_length first) (Valued y)
+        (operand_some hs 4 p) (valued_stays y) (λ m registers h. h.0.0) (has_second w place first second has)))
 
   -- ---- objects of a frame: locals, and unnamed values
 
@@ -206,22 +209,22 @@ module _ (w : World) (order : IsInOrder w) (x : Waiting) (outer : List Waiting) 
           (there_kept 6 hs x.config.temps refl) (left t) has))
 
       abbrev put_lines : ℕ → List Line
-      put_lines y = operand 6 y ++ write_code (operand_in hs 6 y) part.width 2 off
+      put_lines y = value y ++ write_code (stored_in hs 6 y) part.width 2 off
 
       pub put : (y place : ℕ) → y < x.fn.temporaries → IsServed w x hs y → Has w place (put_lines y)
           → Comes w (AtHolding w x outer mem place hs)
           (AtHolding w x outer (stored w order x outer mem (first_spot) 0 part is live (x.config.temps y)) (place + code_length (put_lines y)) hs)
       put y place named served has =
-          let first = operand 6 y in
-          let second = write_code (operand_in hs 6 y) part.width 2 off in
+          let first = value y in
+          let second = write_code (stored_in hs 6 y) part.width 2 off in
           let mem' = stored w order x outer mem (first_spot) 0 part is live (x.config.temps y) in
           holds_on mem' y place (place + code_length (first ++ second))
           (in_turn w (AtWith w x outer mem place Known) (λ q. AtWith w x outer mem q (Within (Valued y)))
           (λ q. AtWith w x outer mem' q (Valued y)) place first second
-          (comes_then w _ _ _ (brings w order x outer mem 5 y place hs named served refl (has_first w place first second has))
+          (comes_then w _ _ _ (stores_alone w order x outer mem hs y place named served (has_first w place first second has))
           (knows_object (place + code_length first) (Valued y) (Within (Valued y)) (in_frame (Valued y))))
-          (writes w order x outer mem (first_spot) 0 part is live (x.config.temps y) (operand_in hs 6 y) 2 off (place + code_length first) (Valued y)
-          (operand_some hs 5 y) (1, refl) (valued_stays y) (λ m registers h. h.0.0) (has_second w place first second has)))
+          (writes w order x outer mem (first_spot) 0 part is live (x.config.temps y) (stored_in hs 6 y) 2 off (place + code_length first) (Valued y)
+          (1, refl) (valued_stays y) (λ m registers h. h.0.0) (has_second w place first second has)))
 
     -- the address, into a result's register
     module _ (t : ℕ) where

@@ -133,6 +133,6 @@ take_code bytes passed start k zero = []
 take_code bytes passed start k (suc more) =
     load_code (result_register k) (bytes / 4 + 1 + k) ++ keep_code (flag_at start k) passed (result_register k) k ++ take_code bytes passed start (k + 1) more
 
-abbrev pub prologue_code : ℕ → (passed : ℕ) → ℕ → List ℕ → List Bool → ℕ → List Line
-prologue_code bytes passed first saved start parameters =
-    frame_code bytes ++ save_code 1 0 ++ saves_code first saved ++ take_code bytes passed start 0 parameters
+abbrev pub prologue_code : (refused : ℕ) → ℕ → (passed : ℕ) → ℕ → List ℕ → List Bool → ℕ → List Line
+prologue_code refused bytes passed first saved start parameters =
+    frame_code refused bytes ++ save_code 1 0 ++ saves_code first saved ++ take_code bytes passed start 0 parameters

@@ -154,31 +154,33 @@ mutual
       let later = holding (held_behind u.homes u.statics u.held s) (naming (names_after s u.names) u) in
       if_long (can_complete s) (statements_code left later (next + labels_in s) out again ss) (codes_long left later (next + labels_in s) out again ss all)
 
-function_long : (statics : List ℕ) (number next : ℕ) (f : Function) → are_long (function_code far statics number next f) ≡ true
-function_long statics number next f =
+function_long : (statics : List ℕ) (refused number next : ℕ) (f : Function) → are_long (function_code far statics refused number next f) ≡ true
+function_long statics refused number next f =
     let bytes = frame_bytes f in
     let start = live_at_start statics f in
     let flags = saves_at statics f in
-    let prologue = prologue_code bytes f.passed (saved_slot f) (saved_by f) start f.parameters in
+    let prologue = prologue_code refused bytes f.passed (saved_slot f) (saved_by f) start f.parameters in
     let all = statements_code flags (around far statics next f) (next + 1) number number f.body in
     let returns = ends_in_return_all f.body in
     let body = ended_code returns all in
     let epilogue = epilogue_code bytes (saved_slot f) (saved_by f) in
     five (Label number ∷ []) prologue body (Label next ∷ []) epilogue refl
-    (none_long prologue (prologue_none bytes f.passed (saved_slot f) (saved_by f) start f.parameters))
+    (none_long prologue (prologue_none refused bytes f.passed (saved_slot f) (saved_by f) start f.parameters))
     (ended (λ less lines. are_long lines ≡ true → are_long less ≡ true) next (λ lines is. is)
     (λ before is. first_long before (Jump next ∷ []) is) returns all
     (statements_jump_last flags (around far statics next f) (next + 1) number number f.body)
     (codes_long flags (around far statics next f) (next + 1) number number f.body refl)) refl
     (none_long epilogue (epilogue_none bytes (saved_slot f) (saved_by f)))
 
-functions_long : (statics : List ℕ) (number next : ℕ) (fs : List Function) → are_long (functions_code far statics number next fs) ≡ true
-functions_long statics number next [] = refl
-functions_long statics number next (f ∷ fs) =
-    both (function_code far statics number next f) (functions_code far statics (number + 1) (next + labels_within f) fs) (function_long statics number next f)
-    (functions_long statics (number + 1) (next + labels_within f) fs)
+functions_long : (statics : List ℕ) (refused number next : ℕ) (fs : List Function)
+    → are_long (functions_code far statics refused number next fs) ≡ true
+functions_long statics refused number next [] = refl
+functions_long statics refused number next (f ∷ fs) =
+    both (function_code far statics refused number next f) (functions_code far statics refused (number + 1) (next + labels_within f) fs)
+    (function_long statics refused number next f) (functions_long statics refused (number + 1) (next + labels_within f) fs)
 
 pub program_long : (p : Program) (lines : List Line) → lines ≡ program_code far p → are_long lines ≡ true
 program_long p lines same =
-    let functions = functions_long (offsets_from 0 (datum_locals p.data_objects)) 0 (length p.functions) p.functions in
+    let n = length p.functions in
+    let functions = functions_long (offsets_from 0 (datum_locals p.data_objects)) n 0 (n + 1) p.functions in
     subst (λ ls. are_long ls ≡ true) (sym same) functions

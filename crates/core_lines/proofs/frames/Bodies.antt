@@ -305,7 +305,7 @@ activation w order f fn is outer mem arguments offsets high =
 -- how it begins
 abbrev pub prologue_of : World → ℕ → Function → ℕ → List Line
 prologue_of w f fn parameters =
-    prologue_code (w.frame_bytes f) fn.passed (saved_slot fn) (saved_by fn) (live_at_start w.data_offsets fn) parameters
+    prologue_code w.refused (w.frame_bytes f) fn.passed (saved_slot fn) (saved_by fn) (live_at_start w.data_offsets fn) parameters
 
 -- What is asked of each function: its unnamed values lie behind its slots, in its frame; its prologue is at its label; and its statements, from behind the
 -- prologue on, do as Core, where calls with less fuel do and the frame is no larger than the stack.

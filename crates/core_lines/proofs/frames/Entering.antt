@@ -190,7 +190,7 @@ module _ (w : World) (order : IsInOrder w) (f : ℕ) (fn : Function) (is : slice
   -- ---- from the call to the first line behind the prologue
 
   abbrev lines : List Line
-  lines = prologue_code size fn.passed (saved_slot fn) (saved_by fn) start (length arguments)
+  lines = prologue_code w.refused size fn.passed (saved_slot fn) (saved_by fn) start (length arguments)
 
   abbrev entry : ℕ
   entry = w.places f
@@ -204,14 +204,14 @@ module _ (w : World) (order : IsInOrder w) (f : ℕ) (fn : Function) (is : slice
   abbrev behind_move : List Line
   behind_move = save_code 1 0 ++ (saving_lines ++ taking_lines)
 
-  apart : lines ≡ frame_code size ++ behind_move
+  apart : lines ≡ frame_code w.refused size ++ behind_move
   apart =
-      append_assoc (frame_code size ++ save_code 1 0) saving_lines taking_lines
-      ∙ append_assoc (frame_code size) (save_code 1 0) (saving_lines ++ taking_lines)
+      append_assoc (frame_code w.refused size ++ save_code 1 0) saving_lines taking_lines
+      ∙ append_assoc (frame_code w.refused size) (save_code 1 0) (saving_lines ++ taking_lines)
 
   -- where x2 has moved
   abbrev below : ℕ
-  below = entry + code_length (frame_code size)
+  below = entry + code_length (frame_code w.refused size)
 
   abbrev moving : ℕ
   moving = if nat_lt size 2048 then 2 else 6
@@ -228,9 +228,9 @@ module _ (w : World) (order : IsInOrder w) (f : ℕ) (fn : Function) (is : slice
       let within = order.stack_within in
       let room = order.frames f fn is (omega (arith, fits, high, within)) in
       let parts = subst (Has w entry) apart has in
-      let has_frame = has_first w entry (frame_code size) behind_move parts in
+      let has_frame = has_first w entry (frame_code w.refused size) behind_move parts in
       let has_save : Has w below (save_code 1 0) =
-      has_first w below (save_code 1 0) (saving_lines ++ taking_lines) (has_second w entry (frame_code size) behind_move parts) in
+      has_first w below (save_code 1 0) (saving_lines ++ taking_lines) (has_second w entry (frame_code w.refused size) behind_move parts) in
       let g = taken w order f fn is outer mem s r.maps r.frames r.sp entry r.stands ends.0 high fits has_frame in
       let low = r.sp - size in
       let s1 = state_at below g.new s.bytes s.store in
@@ -260,7 +260,7 @@ module _ (w : World) (order : IsInOrder w) (f : ℕ) (fn : Function) (is : slice
       let stands : Stands w mem' below r.maps (a ∷ r.frames) low low s1 = record {
         runs = refl;
         there = refl;
-        aligned = behind entry (frame_code size) (order.labels f).aligned;
+        aligned = behind entry (frame_code w.refused size) (order.labels f).aligned;
         pointer = g.pointer;
         stack_start = g.stack_start;
         small = r.stands.small;
@@ -331,7 +331,7 @@ module _ (w : World) (order : IsInOrder w) (f : ℕ) (fn : Function) (is : slice
       let parts = subst (Has w entry) apart has in
       let begin = below + code_length (save_code 1 0) in
       let has_both : Has w begin both =
-      has_second w below (save_code 1 0) both (has_second w entry (frame_code size) behind_move parts) in
+      has_second w below (save_code 1 0) both (has_second w entry (frame_code w.refused size) behind_move parts) in
       let middle = begin + code_length saving_lines in
       let plain : saved_slot fn + 0 ≡ saved_slot fn = omega arith in
       let has_save = subst (λ k. Has w begin (saves_code k (saved_by fn))) (sym plain) (has_first w begin saving_lines taking_lines has_both) in
@@ -347,7 +347,7 @@ module _ (w : World) (order : IsInOrder w) (f : ℕ) (fn : Function) (is : slice
       omega (
         arith,
         ap code_length apart,
-        length_of_both (frame_code size) behind_move,
+        length_of_both (frame_code w.refused size) behind_move,
         length_of_both (save_code 1 0) both,
         length_of_both saving_lines taking_lines,
       ) in
@@ -355,7 +355,7 @@ module _ (w : World) (order : IsInOrder w) (f : ℕ) (fn : Function) (is : slice
         count,
         λ s r.
             let ends = stack_low w.areas order.stack_pages r.frames r.sp r.stands.stacked in
-            let has_frame = has_first w entry (frame_code size) behind_move parts in
+            let has_frame = has_first w entry (frame_code w.refused size) behind_move parts in
             ⊎_elim
             (λ (short : r.sp < stack_base + size).
             let x = refused w order f fn is outer mem s r.maps r.frames r.sp entry r.stands ends.0 ends.1 short has_frame in

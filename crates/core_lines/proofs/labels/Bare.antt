@@ -366,9 +366,9 @@ take_bare bytes passed start k (suc more) =
     (take_code bytes passed start (k + 1) more) (load_bare (result_register k) (bytes / 4 + 1 + k))
     (keep_bare passed (flag_at start k) (result_register k) k) (take_bare bytes passed start (k + 1) more)
 
-pub prologue_bare : (bytes passed first : ℕ) (saved : List ℕ) (start : List Bool) (parameters : ℕ)
-    → are_bare (prologue_code bytes passed first saved start parameters) ≡ true
-prologue_bare bytes passed first saved start parameters =
-    two (frame_code bytes ++ save_code 1 0 ++ saves_code first saved) (take_code bytes passed start 0 parameters)
-    (three (frame_code bytes) (save_code 1 0) (saves_code first saved) (either (nat_lt bytes 2048) _ _ refl refl) (save_bare 1 0) (saves_bare first saved))
+pub prologue_bare : (refused bytes passed first : ℕ) (saved : List ℕ) (start : List Bool) (parameters : ℕ)
+    → are_bare (prologue_code refused bytes passed first saved start parameters) ≡ true
+prologue_bare refused bytes passed first saved start parameters =
+    two (frame_code refused bytes ++ save_code 1 0 ++ saves_code first saved) (take_code bytes passed start 0 parameters)
+    (three (frame_code refused bytes) (save_code 1 0) (saves_code first saved) (either (nat_lt bytes 2048) _ _ refl refl) (save_bare 1 0) (saves_bare first saved))
     (take_bare bytes passed start 0 parameters)

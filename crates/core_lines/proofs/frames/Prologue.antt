@@ -197,8 +197,8 @@ module _ (w : World) (order : IsInOrder w) (f : ℕ) (fn : Function) (is : slice
             last = e.0;
             moves = subst (λ (t : Machine). Moves w.areas 7 t e.0) (sym here)
                 (and_then w.areas _ s1 e.0 1 6 down.moves (and_then w.areas s1 s2 e.0 1 5 m2 (and_then w.areas s2 s3 e.0 1 4 m3
-                (and_then w.areas s3 s4 e.0 1 3 m4 e.1.0))));
-            over = e.1.1;
+                (and_then w.areas s3 s4 e.0 1 3 m4 e.1))));
+            over = e.2;
           }
 
     -- ---- a large frame, for which the stack is tested first

@@ -17,6 +17,7 @@ use Rattle.core_lines.specs.Operands.{test_in, ready_code, test_ready, take_code
 use Rattle.core_lines.specs.Checks.{Failure, Always, ByTest, check_of, failure_code, check_code, checked_code}
 use Rattle.core_lines.specs.Choosing.{jump_unless, choice_code, between_code, behind_code}
 use Rattle.core_lines.specs.Completing.{can_complete, can_complete_all, ends_in_return_all}
+use Rattle.core_lines.specs.Parameters.{parameter_registers}
 use Rattle.core_lines.specs.Saved.{results_in, results_all, live_at_start, saves_at}
 use Rattle.core_lines.specs.Homes.{saved_slot, saved_by, flag_at}
 use Rattle.core_lines.specs.Selected.{offsets_from, frame_bytes, datum_locals, Surroundings, labels_in, labels_of, names_after, names_after_all}
@@ -218,34 +219,35 @@ mutual
 
 -- ---- functions and programs
 
-take_within : (bytes passed : ℕ) (start : List Bool) (k more : ℕ) → IsWithin (24 * more) (take_code bytes passed start k more)
-take_within bytes passed start k zero = nothing_within 0
-take_within bytes passed start k (suc more) =
-    let load = load_code (result_register k) (bytes / 4 + 1 + k) in
-    let keep = keep_code (flag_at start k) passed (result_register k) k in
+take_within : (bytes passed : ℕ) (start : List Bool) (registers : ℕ → ℕ) (k more : ℕ)
+    → IsWithin (24 * more) (take_code bytes passed start registers k more)
+take_within bytes passed start registers k zero = nothing_within 0
+take_within bytes passed start registers k (suc more) =
+    let load = load_code (registers k) (bytes / 4 + 1 + k) in
+    let keep = keep_code (flag_at start k) passed (registers k) k in
     less_within (24 + 24 * more) (24 * suc more) _ (omega arith)
-    (both_within 24 (24 * more) (load ++ keep) (take_code bytes passed start (k + 1) more)
-    (both_within 12 12 load keep (load_within (result_register k) (bytes / 4 + 1 + k)) (keep_within (flag_at start k) passed (result_register k) k))
-    (take_within bytes passed start (k + 1) more))
+    (both_within 24 (24 * more) (load ++ keep) (take_code bytes passed start registers (k + 1) more)
+    (both_within 12 12 load keep (load_within (registers k) (bytes / 4 + 1 + k)) (keep_within (flag_at start k) passed (registers k) k))
+    (take_within bytes passed start registers (k + 1) more))
 
-prologue_within : (refused bytes passed first : ℕ) (saved : List ℕ) (start : List Bool) (parameters : ℕ)
-    → IsWithin (52 + code_length (saves_code first saved) + 24 * parameters) (prologue_code refused bytes passed first saved start parameters)
-prologue_within refused bytes passed first saved start parameters =
+prologue_within : (refused bytes passed first : ℕ) (saved : List ℕ) (start : List Bool) (registers : ℕ → ℕ) (parameters : ℕ)
+    → IsWithin (52 + code_length (saves_code first saved) + 24 * parameters) (prologue_code refused bytes passed first saved start registers parameters)
+prologue_within refused bytes passed first saved start registers parameters =
     let s = code_length (saves_code first saved) in
-    both_within (52 + s) (24 * parameters) (frame_code refused bytes ++ save_code 1 0 ++ saves_code first saved) (take_code bytes passed start 0 parameters)
+    both_within (52 + s) (24 * parameters) (frame_code refused bytes ++ save_code 1 0 ++ saves_code first saved) (take_code bytes passed start registers 0 parameters)
     (both_within 52 s (frame_code refused bytes ++ save_code 1 0) (saves_code first saved)
     (both_within 40 12 (frame_code refused bytes) (save_code 1 0)
     (if_within 40 (nat_lt bytes 2048) _ _ (record { is = omega arith }) (record { is = omega arith }))
     (save_within 1 0))
     (record { is = omega arith }))
-    (take_within bytes passed start 0 parameters)
+    (take_within bytes passed start registers 0 parameters)
 
 function_within : (wide : ℕ → Bool) (statics : List ℕ) (refused number next : ℕ) (f : Function)
     → IsWithin (64 * (8 + (f.parameters + operations_of f.body))) (function_code wide statics refused number next f)
 function_within wide statics refused number next f =
     let p = f.parameters in let o = operations_of f.body in
     let bytes = frame_bytes f in
-    let prologue = prologue_code refused bytes f.passed (saved_slot f) (saved_by f) (live_at_start statics f) p in
+    let prologue = prologue_code refused bytes f.passed (saved_slot f) (saved_by f) (live_at_start statics f) (parameter_registers f) p in
     let all = statements_code (saves_at statics f) (around wide statics next f) (next + 1) number number f.body in
     let returns = ends_in_return_all f.body in
     let body = ended_code returns all in
@@ -261,7 +263,7 @@ function_within wide statics refused number next f =
     (both_within (0 + first + 64 * o) 0 ((Label number ∷ []) ++ prologue ++ body) (Label next ∷ [])
     (both_within (0 + first) (64 * o) ((Label number ∷ []) ++ prologue) body
     (both_within 0 first (Label number ∷ []) prologue (record { is = omega arith })
-    (prologue_within refused bytes f.passed (saved_slot f) (saved_by f) (live_at_start statics f) p))
+    (prologue_within refused bytes f.passed (saved_slot f) (saved_by f) (live_at_start statics f) (parameter_registers f) p))
     (record { is = omega (arith, shorter, most) })) (record { is = omega arith }))
     (record { is = omega arith }))
 

@@ -117,11 +117,6 @@ result_register t = suc (result_index t)
 abbrev pub with_result : ℕ → List Holding → List Holding
 with_result t hs = with_source t (Register (result_register t)) (without_register (result_register t) hs)
 
--- parameters from one on, each in the register of its temporary
-abbrev pub with_taken : ℕ → ℕ → List Holding → List Holding
-with_taken k zero hs = hs
-with_taken k (suc more) hs = with_taken (suc k) more (with_result k hs)
-
 -- a temporary gets the word of another one, by way of its own register where that word isn't known to be elsewhere
 abbrev pub with_moved : ℕ → Option Source → List Holding → List Holding
 with_moved t None hs = with_result t hs
@@ -210,6 +205,11 @@ abbrev pub with_put : Bool → (x home : ℕ) → List Holding → List Holding
 with_put byte x zero hs = hs
 with_put true x (suc h) hs = without_register (suc h) hs
 with_put false x (suc h) hs = with_source x (Register (suc h)) (without_register (suc h) hs)
+
+-- parameters from one on, each in its register
+abbrev pub with_taken : (registers : ℕ → ℕ) → ℕ → ℕ → List Holding → List Holding
+with_taken registers k zero hs = hs
+with_taken registers k (suc more) hs = with_taken registers (suc k) more (with_put false k (registers k) hs)
 
 -- ---- behind operations
 

@@ -21,6 +21,7 @@ use Rattle.core_lines.specs.Choosing.{choice_code, between_code, behind_code}
 use Rattle.core_lines.specs.Checks.{check_of, checked_code}
 use Rattle.core_lines.specs.Completing.{can_complete, can_complete_all, ends_in_return_all}
 pub use Rattle.core_lines.specs.Straight.{home_behind, first_code, later_code}
+use Rattle.core_lines.specs.Parameters.{parameter_registers}
 use Rattle.core_lines.specs.Saved.{results_in, results_all, taken_in, live_at_start, saves_at}
 pub use Rattle.core_lines.specs.LocalPlaces.{rounded, bytes_of, offsets_from, end_from, first_of, rest_of, shrink, shrunk, homes_here, homes_after, names_after}
 pub use Rattle.core_lines.specs.LocalPlaces.{names_after_all, shrunk_in, shrunk_of, placed_body, greater, highest, highest_of, slots_of, own_end, too_many}
@@ -200,7 +201,7 @@ ended_code returns lines = (if returns then take (length lines - 1) lines else l
 -- A function has its number as its label; `next` is where it ends, and the labels behind that are for what stands within it. At `refused` its frame is refused.
 abbrev pub function_code : (ℕ → Bool) → List ℕ → (refused number next : ℕ) → Function → List Line
 function_code wide statics refused number next f =
-    (Label number ∷ []) ++ prologue_code refused (frame_bytes f) f.passed (saved_slot f) (saved_by f) (live_at_start statics f) f.parameters ++
+    (Label number ∷ []) ++ prologue_code refused (frame_bytes f) f.passed (saved_slot f) (saved_by f) (live_at_start statics f) (parameter_registers f) f.parameters ++
     ended_code (ends_in_return_all f.body) (statements_code (saves_at statics f) (around wide statics next f) (next + 1) number number f.body) ++
     (Label next ∷ []) ++ epilogue_code (frame_bytes f) (saved_slot f) (saved_by f)
 

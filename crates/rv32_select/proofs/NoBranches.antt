@@ -30,6 +30,7 @@ use Rattle.core_lines.specs.Operands.{test_in, test_ready, call_code, return_cod
 use Rattle.core_lines.specs.Checks.{Failure, check_of, check_code, checked_code}
 use Rattle.core_lines.specs.Choosing.{far, choice_code, between_code, behind_code}
 use Rattle.core_lines.specs.Completing.{can_complete, can_complete_all, ends_in_return_all}
+use Rattle.core_lines.specs.Parameters.{parameter_registers}
 use Rattle.core_lines.specs.Saved.{results_in, results_all, live_at_start, saves_at}
 use Rattle.core_lines.specs.Selected.{Surroundings, operation_code, labels_in, labels_of, labels_within, holding, naming, names_after, names_after_all}
 use Rattle.core_lines.specs.Selected.{within_block, statement_code, statements_code, frame_bytes, around, ended_code, function_code, functions_code}
@@ -159,13 +160,13 @@ function_long statics refused number next f =
     let bytes = frame_bytes f in
     let start = live_at_start statics f in
     let flags = saves_at statics f in
-    let prologue = prologue_code refused bytes f.passed (saved_slot f) (saved_by f) start f.parameters in
+    let prologue = prologue_code refused bytes f.passed (saved_slot f) (saved_by f) start (parameter_registers f) f.parameters in
     let all = statements_code flags (around far statics next f) (next + 1) number number f.body in
     let returns = ends_in_return_all f.body in
     let body = ended_code returns all in
     let epilogue = epilogue_code bytes (saved_slot f) (saved_by f) in
     five (Label number ∷ []) prologue body (Label next ∷ []) epilogue refl
-    (none_long prologue (prologue_none refused bytes f.passed (saved_slot f) (saved_by f) start f.parameters))
+    (none_long prologue (prologue_none refused bytes f.passed (saved_slot f) (saved_by f) start (parameter_registers f) f.parameters))
     (ended (λ less lines. are_long lines ≡ true → are_long less ≡ true) next (λ lines is. is)
     (λ before is. first_long before (Jump next ∷ []) is) returns all
     (statements_jump_last flags (around far statics next f) (next + 1) number number f.body)

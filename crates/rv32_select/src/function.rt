@@ -7,8 +7,8 @@ ghost use Rattle.core_lines.specs.Frames.{load_code, saves_code, restores_code, 
 ghost use Rattle.core_lines.specs.Operands.{keep_code, take_code, prologue_code};
 ghost use Rattle.core_lines.specs.Choosing.{far};
 ghost use Rattle.core_lines.specs.Promise.{AreLinesOf};
-ghost use Rattle.core_lines.specs.Held.{result_register};
-ghost use Rattle.core_lines.specs.Homes.{flag_at, saved_by, saved_slot};
+ghost use Rattle.core_lines.specs.Parameters.{parameter_register};
+ghost use Rattle.core_lines.specs.Homes.{flag_at, homes_in, saved_by, saved_slot};
 ghost use Rattle.core_lines.specs.Saved.{live_at_start, saves_at};
 ghost use Rattle.core_lines.specs.Selected.{around, highest_of, shrunk_of, labels_within, function_code, functions_code, program_code};
 ghost use Rattle.rv32_select.specs.Listing.{homes_listed};
@@ -20,12 +20,12 @@ use crate::emit::{
     put_word, word_instructions,
 };
 use crate::flags::flag_at;
-use crate::held::result_register;
 use crate::homes::homes_listed;
 use crate::labelled::Labelled;
 use crate::layout::{highest_of, saved_slot, statics, sum};
 use crate::live::find_saves;
 use crate::operands::put_kept;
+use crate::parameters::parameter_register;
 use crate::place::Place;
 use crate::statement::{Ways, following, put_statements};
 use core_lines::Line;
@@ -151,13 +151,14 @@ fn put_parameter(
     lines: &mut Vec<Line>,
     place: &Place,
     bytes: u64,
+    function: &Function,
     live: &[bool],
     parameter: Temporary,
 ) -> Result<(), AllocError>
-    ensures { let register = result_register parameter.0 in OnOk result (lines.new.items ≡ lines.old.items
+    ensures { let register = parameter_register place.now.homes.items (function_tree function.now).body parameter.0 in OnOk result (lines.new.items ≡ lines.old.items
         ++ load_code register (bytes / 4 + 1 + parameter.0) ++ keep_code (flag_at live.now parameter.0) place.now.passed register parameter.0) }
 {
-    let register = result_register(parameter);
+    let register = parameter_register(&place.homes, &function.body, parameter);
     put_load(lines, register, sum(bytes / 4 + 1, u64::from(parameter.0))?)?;
     put_kept(
         lines,
@@ -173,13 +174,14 @@ fn put_parameters(
     lines: &mut Vec<Line>,
     place: &Place,
     bytes: u64,
+    function: &Function,
     live: &[bool],
-    parameters: u32,
 ) -> Result<(), AllocError>
-    ensures { OnOk result (lines.new.items ≡ lines.old.items ++ take_code bytes place.now.passed live.now 0 parameters) }
+    ensures { OnOk result (lines.new.items ≡ lines.old.items ++ take_code bytes place.now.passed live.now
+        (parameter_register place.now.homes.items (function_tree function.now).body) 0 function.now.parameters) }
 {
-    'each: for parameter in 0..parameters {
-        put_parameter(lines, place, bytes, live, Temporary(parameter))?;
+    'each: for parameter in 0..function.parameters {
+        put_parameter(lines, place, bytes, function, live, Temporary(parameter))?;
     }
     Ok(())
 }
@@ -219,12 +221,13 @@ fn put_prologue(
     live: &[bool],
 ) -> Result<(), AllocError>
     ensures { OnOk result (lines.new.items ≡ lines.old.items
-        ++ prologue_code refused bytes place.now.passed (saved_slot (function_tree function.now)) saved.now live.now function.now.parameters) }
+        ++ prologue_code refused bytes place.now.passed (saved_slot (function_tree function.now)) saved.now live.now
+        (parameter_register place.now.homes.items (function_tree function.now).body) function.now.parameters) }
 {
     put_frame(lines, refused, bytes)?;
     put_save(lines, Register::RETURN_ADDRESS, 0)?;
     put_saves(lines, saved_slot(function), saved)?;
-    put_parameters(lines, place, bytes, live, function.parameters)
+    put_parameters(lines, place, bytes, function, live)
 }
 
 /// Appends where a function ends: the registers that it saved come back, and its frame is given back.
@@ -261,6 +264,7 @@ fn put_begun(
     live: &[bool],
 ) -> Result<usize, AllocError>
     requires saved { saved.now ≡ saved_by (function_tree function.now) }
+    requires homes { place.old.homes.items ≡ homes_in (function_tree function.now) }
     requires place { surroundings place.old ≡ around far (surroundings place.old).statics labels.next (function_tree function.now) }
     requires saves { saves_left place.old ≡ saves_at (surroundings place.old).statics (function_tree function.now) }
     requires live { live.now ≡ live_at_start (surroundings place.old).statics (function_tree function.now) }

@@ -34,6 +34,7 @@ mod marks;
 mod memory;
 mod operands;
 mod operation;
+mod parameters;
 mod place;
 mod points;
 mod raising;

@@ -13,8 +13,9 @@ use Rattle.core_lines.specs.Lines.{code_length}
 use Rattle.core_lines.specs.Frames.{save_code, frame_code, saves_code}
 use Rattle.core_lines.specs.Held.{Holding, with_taken}
 use Rattle.core_lines.specs.Operands.{take_code, prologue_code}
+use Rattle.core_lines.specs.Parameters.{parameter_index, parameter_registers}
 use Rattle.core_lines.specs.Lies.{Maps, Activation, Laid}
-use Rattle.core_lines.specs.Homes.{is_home, is_among, saved_by, saved_slot}
+use Rattle.core_lines.specs.Homes.{is_home, is_among, homes_in, saved_by, saved_slot}
 use Rattle.core_lines.proofs.memory.Relations.{Saving, World, IsInOrder, Has, Waiting, slots_in, back_of, FrameShows, StackShows, Stands}
 use Rattle.core_lines.proofs.memory.Relations.{Calling, Passed, active_of}
 use Rattle.core_lines.proofs.memory.Moving.{Reach, Comes, comes_then, comes_as, and_then, Full}
@@ -32,6 +33,7 @@ use Rattle.core_lines.proofs.operations.Standing.{AtHolding, as_holding}
 use Rattle.rv32_machine.specs.Implements.{frames}
 pub use Rattle.core_lines.proofs.frames.Begun.{with_call, call_fits}
 pub use Rattle.core_lines.proofs.frames.Taking.{staged, callee, Taken, takes}
+use Rattle.core_lines.proofs.frames.Parameters.{may_take}
 
 module _ (w : World) (order : IsInOrder w) (f : ℕ) (fn : Function) (is : slice_get w.functions f ≡ Some fn) (outer : List Waiting) (mem : Memory)
     (arguments : List Content) (start : List Bool) where
@@ -190,7 +192,7 @@ module _ (w : World) (order : IsInOrder w) (f : ℕ) (fn : Function) (is : slice
   -- ---- from the call to the first line behind the prologue
 
   abbrev lines : List Line
-  lines = prologue_code w.refused size fn.passed (saved_slot fn) (saved_by fn) start (length arguments)
+  lines = prologue_code w.refused size fn.passed (saved_slot fn) (saved_by fn) start (parameter_registers fn) (length arguments)
 
   abbrev entry : ℕ
   entry = w.places f
@@ -199,7 +201,7 @@ module _ (w : World) (order : IsInOrder w) (f : ℕ) (fn : Function) (is : slice
   saving_lines = saves_code (saved_slot fn) (saved_by fn)
 
   abbrev pub taking_lines : List Line
-  taking_lines = take_code size fn.passed start 0 (length arguments)
+  taking_lines = take_code size fn.passed start (parameter_registers fn) 0 (length arguments)
 
   abbrev behind_move : List Line
   behind_move = save_code 1 0 ++ (saving_lines ++ taking_lines)
@@ -324,7 +326,7 @@ module _ (w : World) (order : IsInOrder w) (f : ℕ) (fn : Function) (is : slice
   -- take more bytes than it has.
   pub enters : length arguments ≤ fn.temporaries → Has w entry lines
       → (count : ℕ) × ((s : Machine) → Calling w f outer mem arguments s
-      → Reach w.areas count (AtHolding w begun outer (with_call mem) (entry + code_length lines) (with_taken 0 (length arguments) [])) s
+      → Reach w.areas count (AtHolding w begun outer (with_call mem) (entry + code_length lines) (with_taken (parameter_registers fn) 0 (length arguments) [])) s
       ⊎ (Full w count s × (w.areas.stack < frames w.bound (w.names f ∷ active_of w outer))))
   enters few has =
       let both = saving_lines ++ taking_lines in
@@ -338,8 +340,9 @@ module _ (w : World) (order : IsInOrder w) (f : ℕ) (fn : Function) (is : slice
       let keep : Comes w (Keeping [] begin) (Keeping (saved_by fn) middle) =
       subst (λ k. Comes w (Keeping [] begin) (Keeping (saved_by fn) (begin + code_length (saves_code k (saved_by fn))))) plain
       (keeps [] (saved_by fn) begin refl (saved_homes fn) has_save) in
-      let take = takes w order f fn is outer mem arguments start [] arguments [] middle refl few (has_second w begin saving_lines taking_lines has_both) in
-      let known = with_taken 0 (length arguments) [] in
+      let take = takes w order f fn is outer mem arguments start (parameter_index (homes_in fn) fn.body) (may_take fn) [] arguments [] middle refl few
+      (has_second w begin saving_lines taking_lines has_both) in
+      let known = with_taken (parameter_registers fn) 0 (length arguments) [] in
       let all : Comes w (Keeping [] begin) (Takes arguments known (middle + code_length taking_lines)) =
       comes_then w _ (Keeping (saved_by fn) middle) _ keep
       (comes_then w _ (Takes [] [] middle) _ (comes_as w _ _ (λ s a. kept_all middle s a)) take) in

@@ -18,6 +18,7 @@ use Rattle.core_lines.specs.Operands.{call_code, return_code, prologue_code}
 use Rattle.core_lines.specs.Checks.{Failure, check_of, check_code, checked_code}
 use Rattle.core_lines.specs.Choosing.{choice_code, between_code, behind_code}
 use Rattle.core_lines.specs.Completing.{can_complete, can_complete_all, ends_in_return_all}
+use Rattle.core_lines.specs.Parameters.{parameter_registers}
 use Rattle.core_lines.specs.Saved.{results_in, results_all, live_at_start, saves_at}
 use Rattle.core_lines.specs.Selected.{operation_code, labels_in, labels_of, labels_within, holding, naming, names_after, names_after_all, within_block}
 use Rattle.core_lines.specs.Selected.{statement_code, statements_code, around, ended_code, function_code, functions_code, program_code}
@@ -213,7 +214,7 @@ record FunctionPlaces (number next : ℕ) (f : Function) (lines : List Line) : T
 function_places : (wide : ℕ → Bool) (statics : List ℕ) (refused number next : ℕ) (f : Function) → number < next
     → FunctionPlaces number next f (function_code wide statics refused number next f)
 function_places wide statics refused number next f less =
-    let prologue = prologue_code refused (frame_bytes f) f.passed (saved_slot f) (saved_by f) (live_at_start statics f) f.parameters in
+    let prologue = prologue_code refused (frame_bytes f) f.passed (saved_slot f) (saved_by f) (live_at_start statics f) (parameter_registers f) f.parameters in
     let all = statements_code (saves_at statics f) (around wide statics next f) (next + 1) number number f.body in
     let returns = ends_in_return_all f.body in
     let body = ended_code returns all in
@@ -233,7 +234,7 @@ function_places wide statics refused number next f less =
     let one : labels_placed (front ++ body) ≡ number ∷ labels_placed body =
     labels_placed-append front body
     ∙ ap (λ ls. ls ++ labels_placed body) (labels_placed-append (Label number ∷ []) prologue
-    ∙ ap (λ ls. number ∷ ls) (prologue_none refused (frame_bytes f) f.passed (saved_slot f) (saved_by f) (live_at_start statics f) f.parameters)) in
+    ∙ ap (λ ls. number ∷ ls) (prologue_none refused (frame_bytes f) f.passed (saved_slot f) (saved_by f) (live_at_start statics f) (parameter_registers f) f.parameters)) in
     let two : labels_placed (((front ++ body) ++ (Label next ∷ [])) ++ leaves) ≡ number ∷ (labels_placed body ++ (next ∷ [])) =
     labels_placed-append ((front ++ body) ++ (Label next ∷ [])) leaves
     ∙ ap (λ ls. labels_placed ((front ++ body) ++ (Label next ∷ [])) ++ ls) (epilogue_none (frame_bytes f) (saved_slot f) (saved_by f))

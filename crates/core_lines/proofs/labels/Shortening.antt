@@ -50,6 +50,7 @@ use Rattle.core_lines.specs.Operands.{test_in, test_ready, keep_code, call_code,
 use Rattle.core_lines.specs.Checks.{Failure, check_of, check_code, checked_code}
 use Rattle.core_lines.specs.Choosing.{far, jump_unless, choice_code, between_code, behind_code}
 use Rattle.core_lines.specs.Completing.{can_complete, can_complete_all, ends_in_return_all}
+use Rattle.core_lines.specs.Parameters.{parameter_registers}
 use Rattle.core_lines.specs.Saved.{results_in, results_all, live_at_start, saves_at}
 use Rattle.core_lines.specs.Selected.{Surroundings, frame_bytes, offsets_from, datum_locals, local_home, local_offset, immediate_for, has_operand, both_code}
 use Rattle.core_lines.specs.Selected.{number_in, keep_result, narrow_kept, applied_kept, get_code, put_code, operation_code, labels_in, labels_of}
@@ -315,7 +316,7 @@ module _ (wide : ℕ → Bool) where
       → shortened_to wide (function_code far statics refused number next f) ≡ function_code wide statics refused number next f
   function_short statics refused number next f =
       let start = live_at_start statics f in
-      let front : List Line = (Label number ∷ []) ++ prologue_code refused (frame_bytes f) f.passed (saved_slot f) (saved_by f) start f.parameters in
+      let front : List Line = (Label number ∷ []) ++ prologue_code refused (frame_bytes f) f.passed (saved_slot f) (saved_by f) start (parameter_registers f) f.parameters in
       let leaves = epilogue_code (frame_bytes f) (saved_slot f) (saved_by f) in
       let exit : List Line = Label next ∷ [] in
       let returns = ends_in_return_all f.body in
@@ -324,7 +325,7 @@ module _ (wide : ℕ → Bool) where
       let a' = ended_code returns (statements_code (saves_at statics f) (around wide statics next f) (next + 1) number number f.body) in
       both ((front ++ a) ++ exit) leaves ((front ++ a') ++ exit) leaves
       (both (front ++ a) exit (front ++ a') exit
-      (both front a front a' (no_targets_stay wide front (prologue_none refused (frame_bytes f) f.passed (saved_slot f) (saved_by f) start f.parameters))
+      (both front a front a' (no_targets_stay wide front (prologue_none refused (frame_bytes f) f.passed (saved_slot f) (saved_by f) start (parameter_registers f) f.parameters))
       (ended_short wide returns all
       ∙ ap (λ ls. ended_code returns ls) (statements_short (saves_at statics f) (around wide statics next f) (next + 1) number number f.body))) refl)
       (no_targets_stay wide leaves (epilogue_none (frame_bytes f) (saved_slot f) (saved_by f)))

@@ -20,6 +20,7 @@ put_begun-requires c =
     let again = c.in_ok-live.ensures.place in
     let is = again ∙ c.in_ok-saved.ensures.place in
     record {
+      homes = c.in_ok-live.ensures.homes ∙ c.in_ok-saved.ensures.homes;
       saved = c.deref.ensures.value ∙ c.in_ok-saved.ensures.saved;
       place = is ∙ ap (λ statics. around far statics c.args.labels.next f) (sym (ap (λ (u : Surroundings). u.statics) is));
       saves = c.in_ok-live.ensures.saves ∙ ap (λ statics. saves_at statics f) (sym (ap (λ (u : Surroundings). u.statics) again));

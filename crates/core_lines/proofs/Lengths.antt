@@ -11,7 +11,7 @@ use Rattle.core_lines.specs.declared.line.Line.TheVariants.{Plain, Label, Jump, 
 use Rattle.core_lines.specs.Lines.{code_length}
 use Rattle.core_lines.specs.Frames.{is_short, slot_of, load_code, save_code, environment_code, stack_start_code, refusal_code, frame_code, saves_code}
 use Rattle.core_lines.specs.Frames.{epilogue_code, raise_code}
-use Rattle.core_lines.specs.Held.{Source, Register, Number, Compared, Holding, source_of, without_register, result_register, held_behind, held_behind_all}
+use Rattle.core_lines.specs.Held.{Source, Register, Number, Compared, Holding, source_of, without_register, held_behind, held_behind_all}
 use Rattle.core_lines.specs.Operands.{operand_in, operand_code, into_code, keep_code, pass_code, result_code, values_code, return_code}
 use Rattle.core_lines.specs.Operands.{test_in, ready_code, test_ready, take_code, prologue_code}
 use Rattle.core_lines.specs.Checks.{Failure, Always, ByTest, check_of, failure_code, check_code, checked_code}

@@ -43,11 +43,11 @@ at_saved homes t (suc k) h (MoreStatements s ss) e = at_saved homes t k h ss e
 
 among_home : (rs : List ℕ) (r : ℕ) → AreHomeRegisters rs → is_among r rs ≡ true → is_home r ≡ true
 among_home [] r are e = absurd (cc e)
-among_home (q ∷ rs) r are e = by (nat_eq r q) refl e
+among_home (q ∷ rs) r are e = by (nat_eq r q) refl (λ later. among_home rs r are.1 later) e
   where
-    by : (c : Bool) → nat_eq r q ≡ c → (c || is_among r rs) ≡ true → is_home r ≡ true
-    by true same e = subst (λ k. is_home k ≡ true) (sym (eqb-true r q same)) are.0
-    by false same e = among_home rs r are.1 e
+    by : (c : Bool) → nat_eq r q ≡ c → (is_among r rs ≡ true → is_home r ≡ true) → (c || is_among r rs) ≡ true → is_home r ≡ true
+    by true same rest e = subst (λ k. is_home k ≡ true) (sym (eqb-true r q same)) are.0
+    by false same rest e = rest e
 
 -- Each register that a parameter is taken into may get it.
 pub may_take : (fn : Function) (k : ℕ) → MayTake fn (suc (parameter_index (homes_in fn) fn.body k))

@@ -136,9 +136,9 @@ no_homes (Some q) none = absurd (none q refl)
 -- another word of a register doesn't matter where no local is in a register, and this one was saved
 module _ (w : World) (order : IsInOrder w) (mem : Memory) (place : ℕ) (m : Maps) (a : Activation) (fs : List Activation) (sp : ℕ) (s : Machine)
     (stands : Stands w mem place m (a ∷ fs) sp sp s) (none : (k o : ℕ) → a.homes k o ≡ None) where
-  stands_taken : (place' r : ℕ) (new : ℕ → ℕ) → place' % 4 ≡ 0 → is_home r ≡ true → a.saves r ≡ true → new r < 2 ^ 32 → Kept r new s.registers
+  into_home : (place' r : ℕ) (new : ℕ → ℕ) → place' % 4 ≡ 0 → is_home r ≡ true → a.saves r ≡ true → new r < 2 ^ 32 → Kept r new s.registers
       → Stands w mem place' m (a ∷ fs) sp sp (state_at place' new s.bytes s.store)
-  stands_taken place' r new aligned home saved below kept =
+  into_home place' r new aligned home saved below kept =
       let h = stands.homes.0 in
       let same : (q : ℕ) → is_home q ≡ true → nat_eq q r ≡ false → new q ≡ s.registers q = λ q is other. kept q (other_home 7 q refl is) other in
       record {
@@ -174,6 +174,15 @@ module _ (w : World) (order : IsInOrder w) (mem : Memory) (place : ℕ) (m : Map
       unsaved : (q : ℕ) (c : Bool) → nat_eq q r ≡ c → a.saves q ≡ false → nat_eq q r ≡ false
       unsaved q true e not = absurd (cc (saved, not, ap a.saves (eqb-true q r e)))
       unsaved q false e not = e
+
+  -- of any register that may get a parameter
+  stands_taken : (fn : Function) (place' r : ℕ) (new : ℕ → ℕ) → place' % 4 ≡ 0 → MayTake fn r → a.saves r ≡ is_among r (saved_by fn) → new r < 2 ^ 32
+      → Kept r new s.registers → Stands w mem place' m (a ∷ fs) sp sp (state_at place' new s.bytes s.store)
+  stands_taken fn place' r new aligned may changed below kept = ⊎_elim
+      (λ (free : stays r ≡ false).
+      stands_behind w order mem place m (a ∷ fs) sp s stands place' new aligned (kept_stays r new s.registers free kept))
+      (λ (home : (is_home r ≡ true) × (is_among r (saved_by fn) ≡ true)). into_home place' r new aligned home.0 (changed ∙ home.1) below kept)
+      may.1
 
 module _ (w : World) (order : IsInOrder w) (f : ℕ) (fn : Function) (is : slice_get w.functions f ≡ Some fn) (outer : List Waiting) (mem : Memory)
     (arguments : List Content) (start : List Bool) where
@@ -260,14 +269,9 @@ module _ (w : World) (order : IsInOrder w) (f : ℕ) (fn : Function) (is : slice
                   frame = r.frame;
                   others = r.others;
                   sp = r.sp;
-                  stands = ⊎_elim
-                      (λ (free : stays (taken_into k) ≡ false). stands_behind w order (with_call mem) place r.maps (r.frame ∷ r.others) r.sp s r.stands place' l.new
-                      aligned (kept_stays (taken_into k) l.new s.registers free l.kept))
-                      (λ (home : (is_home (taken_into k) ≡ true) × (is_among (taken_into k) (saved_by fn) ≡ true)).
-                      stands_taken w order (with_call mem) place r.maps r.frame r.others r.sp s r.stands
-                      (λ j o. no_homes (r.frame.homes j o) (λ q e. r.shows.homes.1 j o q e)) place' (taken_into k) l.new aligned home.0
-                      (r.shows.changed (taken_into k) ∙ home.1) l.below l.kept)
-                      (may k).1;
+                  stands = stands_taken w order (with_call mem) place r.maps r.frame r.others r.sp s r.stands
+                      (λ j o. no_homes (r.frame.homes j o) (λ q e. r.shows.homes.1 j o q e)) fn place' (taken_into k) l.new aligned (may k)
+                      (r.shows.changed (taken_into k)) l.below l.kept;
                   shows = r.shows;
                   stack = r.stack;
                   passed = r.passed;
@@ -297,7 +301,8 @@ module _ (w : World) (order : IsInOrder w) (f : ℕ) (fn : Function) (is : slice
 
         known : (m : Maps) (registers : ℕ → ℕ) → Next done v hs m registers
             → AreThere (with_put false (length done) (taken_into (length done)) hs) (passed_in (done ++ v ∷ [])) m registers
-        known m registers h = subst (λ temps. AreThere (with_put false (length done) (taken_into (length done)) hs) temps m registers) (sym (passed_in_more done v))
+        known m registers h = subst
+            (λ temps. AreThere (with_put false (length done) (taken_into (length done)) hs) temps m registers) (sym (passed_in_more done v))
             (there_source (length done) v (Register (taken_into (length done))) others (passed_in done) m registers (h.0, (may (length done)).0) h.1)
 
         shown : (m : Maps) (a : Activation)

@@ -11,6 +11,7 @@ use Rattle.core_lines.specs.Frames.{epilogue_code}
 use Rattle.core_lines.specs.Operands.{prologue_code}
 use Rattle.core_lines.specs.Held.{held_behind_all}
 use Rattle.core_lines.specs.Completing.{can_complete_all, ends_in_return_all}
+use Rattle.core_lines.specs.Parameters.{parameter_registers}
 use Rattle.core_lines.specs.Saved.{none_of, taken_in, live_at_start, saves_at}
 use Rattle.core_lines.specs.Selected.{frame_bytes, around, statements_code, ended_code}
 use Rattle.core_meaning.specs.Selectable.{IsSelectableIn}
@@ -55,7 +56,7 @@ pub function_does : (w : World) (order : IsInOrder w) (data_objects number : ℕ
     ≡ frame_bytes f
     → (code : IsAtCode w number f) → BodyDoes w order number code.next f → FunctionDoes w order number f
 function_does w order data_objects number f selectable frame code body =
-    let starts : ℕ → List Line = λ size. prologue_code size f.passed (saved_slot f) (saved_by f) (live_at_start w.data_offsets f) f.parameters in
+    let starts : ℕ → List Line = λ size. prologue_code w.refused size f.passed (saved_slot f) (saved_by f) (live_at_start w.data_offsets f) (parameter_registers f) f.parameters in
     let prologue = starts (frame_bytes f) in
     let lines = ended_code (ends_in_return_all f.body)
     (statements_code (saves_at w.data_offsets f) (around w.wide w.data_offsets code.next f) (code.next + 1) number number f.body) in

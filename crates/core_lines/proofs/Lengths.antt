@@ -10,15 +10,15 @@ use Rattle.core_meaning.specs.Core.{Statement, Do, If, While, Block, Leave, Brea
 use Rattle.core_meaning.specs.Core.{MoreStatements, Function, Program}
 use Rattle.core_lines.specs.declared.line.Line.TheVariants.{Plain, Label, Jump, JumpUnless, BranchUnless, CallTo}
 use Rattle.core_lines.specs.Lines.{code_length}
-use Rattle.core_lines.specs.Frames.{is_short, slot_of, load_code, save_code, environment_code, stack_start_code, frame_code, saves_code}
+use Rattle.core_lines.specs.Frames.{is_short, slot_of, load_code, save_code, environment_code, stack_start_code, refusal_code, frame_code, saves_code}
 use Rattle.core_lines.specs.Frames.{epilogue_code, raise_code}
-use Rattle.core_lines.specs.Held.{Source, Register, Number, Compared, Holding, source_of, number_in, without_register, result_register, held_behind}
-use Rattle.core_lines.specs.Held.{held_behind_all}
+use Rattle.core_lines.specs.Held.{Source, Register, Number, Compared, Holding, source_of, number_in, without_register, held_behind, held_behind_all}
 use Rattle.core_lines.specs.Operands.{operand_in, operand_code, into_code, keep_code, pass_code, result_code, values_code, return_code}
 use Rattle.core_lines.specs.Operands.{test_in, ready_code, test_ready, take_code, prologue_code}
 use Rattle.core_lines.specs.Checks.{Failure, Always, ByTest, check_of, either_code, failure_code, tested_code, check_code, checked_code}
 use Rattle.core_lines.specs.Choosing.{jump_unless, choice_code, between_code, behind_code}
 use Rattle.core_lines.specs.Completing.{can_complete, can_complete_all, ends_in_return_all}
+use Rattle.core_lines.specs.Parameters.{parameter_registers}
 use Rattle.core_lines.specs.Saved.{results_in, results_all, live_at_start, saves_at}
 use Rattle.core_lines.specs.Homes.{saved_slot, saved_by, flag_at}
 use Rattle.core_lines.specs.Selected.{offsets_from, frame_bytes, datum_locals, Surroundings, labels_in, labels_of, names_after, names_after_all}
@@ -237,34 +237,35 @@ mutual
 
 -- ---- functions and programs
 
-take_within : (bytes passed : ℕ) (start : List Bool) (k more : ℕ) → IsWithin (24 * more) (take_code bytes passed start k more)
-take_within bytes passed start k zero = nothing_within 0
-take_within bytes passed start k (suc more) =
-    let load = load_code (result_register k) (bytes / 4 + 1 + k) in
-    let keep = keep_code (flag_at start k) passed (result_register k) k in
+take_within : (bytes passed : ℕ) (start : List Bool) (registers : ℕ → ℕ) (k more : ℕ)
+    → IsWithin (24 * more) (take_code bytes passed start registers k more)
+take_within bytes passed start registers k zero = nothing_within 0
+take_within bytes passed start registers k (suc more) =
+    let load = load_code (registers k) (bytes / 4 + 1 + k) in
+    let keep = keep_code (flag_at start k) passed (registers k) k in
     less_within (24 + 24 * more) (24 * suc more) _ (omega arith)
-    (both_within 24 (24 * more) (load ++ keep) (take_code bytes passed start (k + 1) more)
-    (both_within 12 12 load keep (load_within (result_register k) (bytes / 4 + 1 + k)) (keep_within (flag_at start k) passed (result_register k) k))
-    (take_within bytes passed start (k + 1) more))
+    (both_within 24 (24 * more) (load ++ keep) (take_code bytes passed start registers (k + 1) more)
+    (both_within 12 12 load keep (load_within (registers k) (bytes / 4 + 1 + k)) (keep_within (flag_at start k) passed (registers k) k))
+    (take_within bytes passed start registers (k + 1) more))
 
-prologue_within : (bytes passed first : ℕ) (saved : List ℕ) (start : List Bool) (parameters : ℕ)
-    → IsWithin (52 + code_length (saves_code first saved) + 24 * parameters) (prologue_code bytes passed first saved start parameters)
-prologue_within bytes passed first saved start parameters =
+prologue_within : (refused bytes passed first : ℕ) (saved : List ℕ) (start : List Bool) (registers : ℕ → ℕ) (parameters : ℕ)
+    → IsWithin (52 + code_length (saves_code first saved) + 24 * parameters) (prologue_code refused bytes passed first saved start registers parameters)
+prologue_within refused bytes passed first saved start registers parameters =
     let s = code_length (saves_code first saved) in
-    both_within (52 + s) (24 * parameters) (frame_code bytes ++ save_code 1 0 ++ saves_code first saved) (take_code bytes passed start 0 parameters)
-    (both_within 52 s (frame_code bytes ++ save_code 1 0) (saves_code first saved)
-    (both_within 40 12 (frame_code bytes) (save_code 1 0)
+    both_within (52 + s) (24 * parameters) (frame_code refused bytes ++ save_code 1 0 ++ saves_code first saved) (take_code bytes passed start registers 0 parameters)
+    (both_within 52 s (frame_code refused bytes ++ save_code 1 0) (saves_code first saved)
+    (both_within 40 12 (frame_code refused bytes) (save_code 1 0)
     (if_within 40 (nat_lt bytes 2048) _ _ (record { is = omega arith }) (record { is = omega arith }))
     (save_within 1 0))
     (record { is = omega arith }))
-    (take_within bytes passed start 0 parameters)
+    (take_within bytes passed start registers 0 parameters)
 
-function_within : (wide : ℕ → Bool) (statics : List ℕ) (number next : ℕ) (f : Function)
-    → IsWithin (64 * (8 + (f.parameters + operations_of f.body))) (function_code wide statics number next f)
-function_within wide statics number next f =
+function_within : (wide : ℕ → Bool) (statics : List ℕ) (refused number next : ℕ) (f : Function)
+    → IsWithin (64 * (8 + (f.parameters + operations_of f.body))) (function_code wide statics refused number next f)
+function_within wide statics refused number next f =
     let p = f.parameters in let o = operations_of f.body in
     let bytes = frame_bytes f in
-    let prologue = prologue_code bytes f.passed (saved_slot f) (saved_by f) (live_at_start statics f) p in
+    let prologue = prologue_code refused bytes f.passed (saved_slot f) (saved_by f) (live_at_start statics f) (parameter_registers f) p in
     let all = statements_code (saves_at statics f) (around wide statics next f) (next + 1) number number f.body in
     let returns = ends_in_return_all f.body in
     let body = ended_code returns all in
@@ -280,27 +281,27 @@ function_within wide statics number next f =
     (both_within (0 + first + 64 * o) 0 ((Label number ∷ []) ++ prologue ++ body) (Label next ∷ [])
     (both_within (0 + first) (64 * o) ((Label number ∷ []) ++ prologue) body
     (both_within 0 first (Label number ∷ []) prologue (record { is = omega arith })
-    (prologue_within bytes f.passed (saved_slot f) (saved_by f) (live_at_start statics f) p))
+    (prologue_within refused bytes f.passed (saved_slot f) (saved_by f) (live_at_start statics f) (parameter_registers f) p))
     (record { is = omega (arith, shorter, most) })) (record { is = omega arith }))
     (record { is = omega arith }))
 
-functions_within : (wide : ℕ → Bool) (statics : List ℕ) (number next : ℕ) (fs : List Function)
-    → IsWithin (64 * all_operations fs) (functions_code wide statics number next fs)
-functions_within wide statics number next [] = nothing_within 0
-functions_within wide statics number next (f ∷ fs) =
+functions_within : (wide : ℕ → Bool) (statics : List ℕ) (refused number next : ℕ) (fs : List Function)
+    → IsWithin (64 * all_operations fs) (functions_code wide statics refused number next fs)
+functions_within wide statics refused number next [] = nothing_within 0
+functions_within wide statics refused number next (f ∷ fs) =
     let o = 8 + (f.parameters + operations_of f.body) in
     less_within (64 * o + 64 * all_operations fs) (64 * (o + all_operations fs)) _ (omega arith)
-    (both_within (64 * o) (64 * all_operations fs) (function_code wide statics number next f)
-    (functions_code wide statics (number + 1) (next + labels_within f) fs)
-    (function_within wide statics number next f)
-    (functions_within wide statics (number + 1) (next + labels_within f) fs))
+    (both_within (64 * o) (64 * all_operations fs) (function_code wide statics refused number next f)
+    (functions_code wide statics refused (number + 1) (next + labels_within f) fs)
+    (function_within wide statics refused number next f)
+    (functions_within wide statics refused (number + 1) (next + labels_within f) fs))
 
 -- The lines of a program take no more bytes than its operations are counted for, whichever of its jumps are branches alone.
 pub lines_within : (p : Program) (wide : ℕ → Bool) → code_length (program_code wide p) ≤ core_code p
 lines_within p wide =
     let statics = offsets_from 0 (datum_locals p.data_objects) in
     let all = 64 * all_operations p.functions in
-    (less_within (16 + all) (core_code p) (program_code wide p) (omega arith)
-    (both_within 16 all (stack_start_code ++ (CallTo p.main ∷ []) ++ environment_code 0) (functions_code wide statics 0 (length p.functions) p.functions)
-    (record { is = omega arith })
-    (functions_within wide statics 0 (length p.functions) p.functions))).is
+    let n = length p.functions in
+    (less_within (28 + all) (core_code p) (program_code wide p) (omega arith)
+    (both_within 28 all (stack_start_code ++ (CallTo p.main ∷ []) ++ environment_code 0 ++ (Label n ∷ []) ++ refusal_code)
+    (functions_code wide statics n 0 (n + 1) p.functions) (record { is = omega arith }) (functions_within wide statics n 0 (n + 1) p.functions))).is

@@ -25,6 +25,7 @@ use Rattle.std.proofs.Common.{
   Some,
   None,
   refl,
+  sym,
   ap,
   subst,
   arith,
@@ -36,10 +37,10 @@ use Rattle.rv32_machine.specs.State.{State, Areas}
 use Rattle.rv32_machine.specs.Ledger.{unborn}
 use Rattle.core_meaning.specs.Core.{Function, Datum, Program}
 use Rattle.core_lines.specs.declared.line.Line.{Line}
-use Rattle.core_lines.specs.declared.line.Line.TheVariants.{Plain, CallTo}
+use Rattle.core_lines.specs.declared.line.Line.TheVariants.{Plain, Label, CallTo}
 use Rattle.core_lines.specs.Machines.{Machine}
 use Rattle.core_lines.specs.Lines.{code_length}
-use Rattle.core_lines.specs.Frames.{stack_start_code}
+use Rattle.core_lines.specs.Frames.{stack_start_code, refusal_code}
 use Rattle.core_lines.specs.Selected.{frame_bytes, too_many, slots_of, own_end, placed_body, datum_locals, function_code, functions_code, program_code, labels_within}
 use Rattle.core_meaning.specs.Selectable.{AreLayouts, HaveLayouts, IsSelectable}
 use Rattle.core_lines.specs.Running.{AreBounded, Begins, DoesAsCore, data_offsets, data_end}
@@ -91,9 +92,10 @@ world_of wide names bound n places p s = record {
   names = names;
   frame_bytes = frame_of p.functions;
   bound = bound;
-  exits = exit_of (length p.functions) p.functions;
+  exits = exit_of (length p.functions + 1) p.functions;
   wide = wide;
   stub = 8;
+  refused = length p.functions;
   data_offsets = data_offsets p.data_objects;
 }
 
@@ -102,16 +104,16 @@ pub record IsAtCode (w : World) (number : ℕ) (f : Function) : Type 0 where
   pub next : ℕ
   pub place : ℕ
   pub aligned : place % 4 ≡ 0
-  pub has : Has w place (function_code w.wide w.data_offsets number next f)
+  pub has : Has w place (function_code w.wide w.data_offsets w.refused number next f)
   pub exit : w.exits number ≡ next
 
 code_of : (w : World) (functions : List Function) (number next place k : ℕ) (f : Function) → place % 4 ≡ 0
     → ((j : ℕ) → w.exits (number + j) ≡ exit_of next functions j)
-    → Has w place (functions_code w.wide w.data_offsets number next functions) → slice_get functions k ≡ Some f → IsAtCode w (number + k) f
+    → Has w place (functions_code w.wide w.data_offsets w.refused number next functions) → slice_get functions k ≡ Some f → IsAtCode w (number + k) f
 code_of w [] number next place k f aligned exits has is = absurd (none-some f is)
 code_of w (g ∷ gs) number next place zero f aligned exits has is =
-    let first = function_code w.wide w.data_offsets number next g in
-    let others = functions_code w.wide w.data_offsets (number + 1) (next + labels_within g) gs in
+    let first = function_code w.wide w.data_offsets w.refused number next g in
+    let others = functions_code w.wide w.data_offsets w.refused (number + 1) (next + labels_within g) gs in
     let e : number ≡ number + 0 = omega arith in
     subst (λ k. IsAtCode w k f) e (subst (λ (h : Function). IsAtCode w number h) (same_Some g f is)
     (record {
@@ -122,8 +124,8 @@ code_of w (g ∷ gs) number next place zero f aligned exits has is =
       exit = ap (λ k. w.exits k) e ∙ exits 0;
     }))
 code_of w (g ∷ gs) number next place (suc k) f aligned exits has is =
-    let first = function_code w.wide w.data_offsets number next g in
-    let others = functions_code w.wide w.data_offsets (number + 1) (next + labels_within g) gs in
+    let first = function_code w.wide w.data_offsets w.refused number next g in
+    let others = functions_code w.wide w.data_offsets w.refused (number + 1) (next + labels_within g) gs in
     let e : number + 1 + k ≡ number + suc k = omega arith in
     subst (λ k. IsAtCode w k f) e
     (code_of w gs (number + 1) (next + labels_within g) (place + code_length first) k f (behind place first aligned)
@@ -156,6 +158,21 @@ module _ (p : Program) (wide : ℕ → Bool) (names : ℕ → List ℕ) (bound :
       by None is = omega arith
       by (Some f) is = let above = bounded number f is in let frame = frame_bounded f in omega (arith, above, frame)
 
+  abbrev stub : List Line
+  stub = stack_start_code ++ CallTo p.main ∷ Plain (Addi 17 0 (pos 0)) ∷ Plain Ecall ∷ []
+
+  abbrev of_functions : List Line
+  of_functions = functions_code wide (data_offsets p.data_objects) (length p.functions) 0 (length p.functions + 1) p.functions
+
+  abbrev behind_stub : List Line
+  behind_stub = Label (length p.functions) ∷ refusal_code ++ of_functions
+
+  has_behind : Has w 16 behind_stub
+  has_behind = other_lines n s.bytes places 0 stub behind_stub begins.has
+
+  has_refusal : Has w (places (length p.functions)) refusal_code
+  has_refusal = subst (λ q. Has w q refusal_code) (sym has_behind.1) (has_first w 16 refusal_code of_functions has_behind.2)
+
   in_order : IsInOrder w
   in_order = record {
     code_within = begins.code_within;
@@ -166,6 +183,7 @@ module _ (p : Program) (wide : ℕ → Bool) (names : ℕ → List ℕ) (bound :
     pages_within = begins.pages_within;
     labels = begins.labels;
     stub_place = record { aligned = refl; within = omega arith };
+    refusal = has_refusal;
     frames = λ number f is fits.
         let e = frame_is number f is in
         let all = frame_has_all f (omega (arith, e, fits)) in
@@ -184,12 +202,6 @@ module _ (p : Program) (wide : ℕ → Bool) (names : ℕ → List ℕ) (bound :
     data_offsets = refl;
     data_within = let room = begins.data_within in let few = begins.statics_within in omega (arith, room, few);
   }
-
-  abbrev stub : List Line
-  stub = stack_start_code ++ CallTo p.main ∷ Plain (Addi 17 0 (pos 0)) ∷ Plain Ecall ∷ []
-
-  abbrev behind_stub : List Line
-  behind_stub = functions_code wide (data_offsets p.data_objects) 0 (length p.functions) p.functions
 
   abbrev machine : Machine
   machine = record { pc = s.pc; registers = s.registers; bytes = s.bytes; store = record { holdings = s.holdings; ledger = unborn }; mode = s.mode }
@@ -212,9 +224,9 @@ module _ (p : Program) (wide : ℕ → Bool) (names : ℕ → List ℕ) (bound :
   each : FunctionsDo w in_order → (number : ℕ) (f : Function) → slice_get p.functions number ≡ Some f → FunctionDoes w in_order number f
   each does number f is =
       let e : 0 + number ≡ number = omega arith in
-      does number f is (subst (λ k. IsAtCode w k f) e (code_of w p.functions 0 (length p.functions) 16 number f refl
-      (λ j. let s : 0 + j ≡ j = omega arith in ap (λ q. exit_of (length p.functions) p.functions q) s)
-      (other_lines n s.bytes places 0 stub behind_stub begins.has) is))
+      does number f is (subst (λ k. IsAtCode w k f) e (code_of w p.functions 0 (length p.functions + 1) 28 number f refl
+      (λ j. let s : 0 + j ≡ j = omega arith in ap (λ q. exit_of (length p.functions + 1) p.functions q) s)
+      (has_second w 16 refusal_code of_functions has_behind.2) is))
 
 -- The lines of a program do what it does, where the code of each of its functions does.
 pub program_does_as_core : (p : Program) (wide : ℕ → Bool) → IsSelectable p → ((w : World) (order : IsInOrder w) → IsOfProgram w p → FunctionsDo w order) → DoesAsCore p

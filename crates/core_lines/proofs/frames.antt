@@ -5,6 +5,7 @@ pub mod Pointer
 pub mod Prologue
 pub mod Begun
 pub mod Taking
+pub mod Parameters
 pub mod Entering
 pub mod Jumping
 pub mod Results

@@ -7,7 +7,7 @@ use Rattle.rv32_isa.specs.Numbers.{signed}
 use Rattle.rv32_isa.specs.declared.instruction.Instr.TheVariants.{Lui, Jalr, Bgeu, Lw, Sw, Addi, Add, Sub, Ecall}
 use Rattle.rv32_machine.specs.State.{stack_base}
 use Rattle.core_lines.specs.declared.line.Line.{Line}
-use Rattle.core_lines.specs.declared.line.Line.TheVariants.{Plain}
+use Rattle.core_lines.specs.declared.line.Line.TheVariants.{Plain, Jump}
 
 -- ---- words and slots
 
@@ -60,10 +60,14 @@ abbrev pub stack_start_code : List Line
 stack_start_code = Plain (Lui 3 (upper_of stack_base)) ∷ []
 
 -- A frame below 2,048 bytes is taken first, and then x2 is compared with the stack's start. It was there or above, which is far above 2,048, so x2 doesn't
--- wrap. Where it is below the start now, the stack has fewer bytes left than the frame's: x2 goes up again, and the stack is refused.
-abbrev pub small_frame_code : ℕ → List Line
-small_frame_code bytes =
-    Plain (Addi 2 2 (pos 0 -ℤ pos bytes)) ∷ Plain (Bgeu 2 3 (pos 20)) ∷ Plain (Addi 2 2 (pos bytes)) ∷ Plain (Addi 10 0 (pos bytes)) ∷ environment_code 13
+-- wrap. Where it is below the start now, the stack has fewer bytes left than the frame's: these come into x10, and the stack is refused at a label.
+abbrev pub small_frame_code : (refused : ℕ) → ℕ → List Line
+small_frame_code refused bytes =
+    Plain (Addi 2 2 (pos 0 -ℤ pos bytes)) ∷ Plain (Bgeu 2 3 (pos 12)) ∷ Plain (Addi 10 0 (pos bytes)) ∷ Jump refused ∷ []
+
+-- what stands at that label, once in a program: x2 goes up again by the bytes in x10, and the stack is refused
+abbrev pub refusal_code : List Line
+refusal_code = (Plain (Add 2 2 10) ∷ []) ++ environment_code 13
 
 -- A larger one might make x2 wrap. So the stack is refused first, where fewer bytes than the frame's are left of it; then x2 goes down.
 abbrev pub test_code : ℕ → List Line
@@ -74,8 +78,8 @@ abbrev pub move_code : ℕ → List Line
 move_code bytes = word_code 7 bytes ++ (Plain (Sub 2 2 7) ∷ [])
 
 -- a frame is taken: ADDI has room for a small one's bytes, and for their negative
-abbrev pub frame_code : ℕ → List Line
-frame_code bytes = (if nat_lt bytes 2048 then small_frame_code bytes else test_code bytes ++ move_code bytes)
+abbrev pub frame_code : (refused : ℕ) → ℕ → List Line
+frame_code refused bytes = (if nat_lt bytes 2048 then small_frame_code refused bytes else test_code bytes ++ move_code bytes)
 
 -- and given back
 abbrev pub give_code : ℕ → List Line

@@ -117,11 +117,6 @@ result_register t = suc (result_index t)
 abbrev pub with_result : ℕ → List Holding → List Holding
 with_result t hs = with_source t (Register (result_register t)) (without_register (result_register t) hs)
 
--- parameters from one on, each in the register of its temporary
-abbrev pub with_taken : ℕ → ℕ → List Holding → List Holding
-with_taken k zero hs = hs
-with_taken k (suc more) hs = with_taken (suc k) more (with_result k hs)
-
 -- a temporary gets the word of another one, by way of its own register where that word isn't known to be elsewhere
 abbrev pub with_moved : ℕ → Option Source → List Holding → List Holding
 with_moved t None hs = with_result t hs
@@ -230,6 +225,11 @@ without_call hs = without_register 17 (without_register 11 (without_register 10 
 -- a temporary gets the answer
 abbrev pub with_answer : ℕ → List Holding → List Holding
 with_answer t hs = with_source t (Register 10) (without_call hs)
+
+-- parameters from one on, each in its register
+abbrev pub with_taken : (registers : ℕ → ℕ) → ℕ → ℕ → List Holding → List Holding
+with_taken registers k zero hs = hs
+with_taken registers k (suc more) hs = with_taken registers (suc k) more (with_put false k (registers k) hs)
 
 -- ---- behind operations
 

@@ -10,9 +10,10 @@ pub mod Choosing
 pub mod Checks
 pub mod Completing
 pub mod Loaded
-pub mod Saved
 pub mod Computed
 pub mod Straight
+pub mod Parameters
+pub mod Saved
 pub mod Selected
 pub mod Machines
 pub mod Homes

@@ -9,7 +9,7 @@ use Rattle.core_lines.specs.Homes.{flag_at}
 use Rattle.core_lines.specs.declared.comparison.Comparison.{Comparison}
 use Rattle.core_lines.specs.declared.comparison.Condition.TheVariants.{NotEqual}
 use Rattle.core_lines.specs.Comparisons.{verdict_code}
-use Rattle.core_lines.specs.Held.{Source, Register, Number, Compared, Holding, source_of, is_zero, without_register, result_register}
+use Rattle.core_lines.specs.Held.{Source, Register, Number, Compared, Holding, source_of, is_zero, without_register}
 
 -- a word into a register: ADDI alone where the lower part is the word, LUI alone where there is none
 abbrev pub number_code : ℕ → ℕ → List Line
@@ -134,12 +134,12 @@ return_code passed hs values exit = values_code passed hs 9 values ++ (Jump exit
 
 -- ---- the start of a function
 
--- each parameter's word, from the caller's frame above into the register of its temporary; those that are flagged are saved
-abbrev pub take_code : ℕ → (passed : ℕ) → List Bool → ℕ → ℕ → List Line
-take_code bytes passed start k zero = []
-take_code bytes passed start k (suc more) =
-    load_code (result_register k) (bytes / 4 + 1 + k) ++ keep_code (flag_at start k) passed (result_register k) k ++ take_code bytes passed start (k + 1) more
+-- each parameter's word, from the caller's frame above into its register; those that are flagged are saved
+abbrev pub take_code : ℕ → (passed : ℕ) → List Bool → (registers : ℕ → ℕ) → ℕ → ℕ → List Line
+take_code bytes passed start registers k zero = []
+take_code bytes passed start registers k (suc more) =
+    load_code (registers k) (bytes / 4 + 1 + k) ++ keep_code (flag_at start k) passed (registers k) k ++ take_code bytes passed start registers (k + 1) more
 
-abbrev pub prologue_code : ℕ → (passed : ℕ) → ℕ → List ℕ → List Bool → ℕ → List Line
-prologue_code bytes passed first saved start parameters =
-    frame_code bytes ++ save_code 1 0 ++ saves_code first saved ++ take_code bytes passed start 0 parameters
+abbrev pub prologue_code : (refused : ℕ) → ℕ → (passed : ℕ) → ℕ → List ℕ → List Bool → (registers : ℕ → ℕ) → ℕ → List Line
+prologue_code refused bytes passed first saved start registers parameters =
+    frame_code refused bytes ++ save_code 1 0 ++ saves_code first saved ++ take_code bytes passed start registers 0 parameters

@@ -52,6 +52,7 @@ use Rattle.core_meaning.specs.Core.{
 use Rattle.core_lines.specs.Homes.{homes_in, flag_at}
 use Rattle.core_lines.specs.LocalPlaces.{homes_here, homes_after, names_after, names_after_all}
 use Rattle.core_lines.specs.Held.{Holding, with_taken, raises_only, held_behind, held_behind_all}
+use Rattle.core_lines.specs.Parameters.{parameter_registers}
 use Rattle.core_lines.specs.Loaded.{unknown_in, loads_of_operation, loads_of_values, loads_in, loads_of}
 
 -- ---- flags
@@ -213,7 +214,7 @@ none_of f = no_flags f.temporaries
 
 -- what is known where its body begins, and what is loaded from there on
 abbrev pub taken_in : Function → List Holding
-taken_in f = with_taken 0 f.parameters []
+taken_in f = with_taken (parameter_registers f) 0 f.parameters []
 
 abbrev pub live_at_start : List ℕ → Function → List Bool
 live_at_start statics f = live_of [] statics (homes_in f) (taken_in f) (none_of f) (none_of f) (none_of f) f.body

@@ -10,7 +10,7 @@ use Rattle.core_meaning.specs.Core.{Call, Return, Raise, Statements, NoStatement
 use Rattle.core_meaning.specs.Operations.{saturated}
 use Rattle.core_lines.specs.declared.line.Line.{Line}
 use Rattle.core_lines.specs.declared.line.Line.TheVariants.{Plain, Label, Jump, CallTo}
-use Rattle.core_lines.specs.Frames.{word_code, stack_start_code, epilogue_code, environment_code, raise_code}
+use Rattle.core_lines.specs.Frames.{word_code, stack_start_code, refusal_code, epilogue_code, environment_code, raise_code}
 use Rattle.core_lines.specs.Loops.{are_words, copy_loop, clear_loop}
 use Rattle.core_lines.specs.Homes.{homes_in, saved_slot, saved_by, flag_at}
 pub use Rattle.core_lines.specs.Held.{nth, nth_block, Source, Register, Number, Compared, Holding, held_behind, held_behind_all, source_of, number_in}
@@ -21,6 +21,7 @@ use Rattle.core_lines.specs.Choosing.{choice_code, between_code, behind_code}
 use Rattle.core_lines.specs.Checks.{check_of, checked_code}
 use Rattle.core_lines.specs.Completing.{can_complete, can_complete_all, ends_in_return_all}
 pub use Rattle.core_lines.specs.Straight.{home_behind, first_code, later_code}
+use Rattle.core_lines.specs.Parameters.{parameter_registers}
 use Rattle.core_lines.specs.Saved.{results_in, results_all, taken_in, live_at_start, saves_at}
 pub use Rattle.core_lines.specs.LocalPlaces.{rounded, bytes_of, offsets_from, end_from, first_of, rest_of, shrink, shrunk, homes_here, homes_after, names_after}
 pub use Rattle.core_lines.specs.LocalPlaces.{names_after_all, shrunk_in, shrunk_of, placed_body, greater, highest, highest_of, slots_of, own_end, too_many}
@@ -209,21 +210,22 @@ labels_within f = 1 + labels_of f.body
 abbrev pub ended_code : Bool → List Line → List Line
 ended_code returns lines = (if returns then take (length lines - 1) lines else lines)
 
--- a function has its number as its label; `next` is where it ends, and the labels behind that are for what stands within it
-abbrev pub function_code : (ℕ → Bool) → List ℕ → (number next : ℕ) → Function → List Line
-function_code wide statics number next f =
-    (Label number ∷ []) ++ prologue_code (frame_bytes f) f.passed (saved_slot f) (saved_by f) (live_at_start statics f) f.parameters ++
+-- A function has its number as its label; `next` is where it ends, and the labels behind that are for what stands within it. At `refused` its frame is refused.
+abbrev pub function_code : (ℕ → Bool) → List ℕ → (refused number next : ℕ) → Function → List Line
+function_code wide statics refused number next f =
+    (Label number ∷ []) ++ prologue_code refused (frame_bytes f) f.passed (saved_slot f) (saved_by f) (live_at_start statics f) (parameter_registers f) f.parameters ++
     ended_code (ends_in_return_all f.body) (statements_code (saves_at statics f) (around wide statics next f) (next + 1) number number f.body) ++
     (Label next ∷ []) ++ epilogue_code (frame_bytes f) (saved_slot f) (saved_by f)
 
 -- those from a number on
-abbrev pub functions_code : (ℕ → Bool) → List ℕ → (number next : ℕ) → List Function → List Line
-functions_code wide statics number next [] = []
-functions_code wide statics number next (f ∷ fs) =
-    function_code wide statics number next f ++ functions_code wide statics (number + 1) (next + labels_within f) fs
+abbrev pub functions_code : (ℕ → Bool) → List ℕ → (refused number next : ℕ) → List Function → List Line
+functions_code wide statics refused number next [] = []
+functions_code wide statics refused number next (f ∷ fs) =
+    function_code wide statics refused number next f ++ functions_code wide statics refused (number + 1) (next + labels_within f) fs
 
--- The stack's start is put into x3. `main` is called, and what it returns is the status of the exit; then come the functions.
+-- The stack's start is put into x3. `main` is called, and what it returns is the status of the exit. Then comes the refusal of frames, whose label is the one
+-- behind the functions' numbers; then come the functions.
 abbrev pub program_code : (ℕ → Bool) → Program → List Line
 program_code wide p =
-    stack_start_code ++ (CallTo p.main ∷ []) ++ environment_code 0 ++
-    functions_code wide (offsets_from 0 (datum_locals p.data_objects)) 0 (length p.functions) p.functions
+    stack_start_code ++ (CallTo p.main ∷ []) ++ environment_code 0 ++ (Label (length p.functions) ∷ []) ++ refusal_code ++
+    functions_code wide (offsets_from 0 (datum_locals p.data_objects)) (length p.functions) 0 (length p.functions + 1) p.functions

@@ -4,7 +4,7 @@ use Rattle.std.proofs.Common.{◌≡◌, ℕ, zero, suc, ◌+◌, ◌-◌, ◌<�
 use Rattle.std.proofs.lemmas.Bool.{ne_eqb}
 use Rattle.core_lines.specs.Held as lines
 use Rattle.core_lines.specs.Held.{source_of, some_source, is_in, without_register, without_temporary}
-use Rattle.core_lines.specs.Held.{with_moved, with_source, with_result, with_taken, with_local, with_put, is_zero, with_applied}
+use Rattle.core_lines.specs.Held.{with_moved, with_source, with_result, with_local, with_put, is_zero, with_applied}
 use Rattle.core_lines.specs.Held.{number_in, with_narrowed, register_in, with_computed}
 use Rattle.core_lines.specs.declared.comparison.Comparison.{Comparison}
 use Rattle.rv32_select.specs.declared.held.Holding.{Holding}
@@ -76,13 +76,6 @@ module _ (hs : List lines.Holding) where
   pub applied_some : (t z : ℕ) (same : Option ℕ) (compared : Option Comparison) (after : List lines.Holding) → Some z ≡ same
       → after ≡ with_moved t (source_of hs z) hs → after ≡ with_applied t same compared hs
   applied_some t z same compared after is e = e ∙ ap (λ k. with_applied t k compared hs) is
-
-  -- one parameter more
-  pub taken_more : (k n : ℕ) → k < n → with_taken (k + 1) (n - (k + 1)) (with_result k hs) ≡ with_taken k (n - k) hs
-  taken_more k n less =
-      let one : suc k ≡ k + 1 = omega arith in
-      let e : n - k ≡ suc (n - (k + 1)) = omega (arith, less) in
-      sym (ap (λ m. with_taken k m hs) e ∙ ap (λ j. with_taken j (n - (k + 1)) (with_result k hs)) one)
 
 -- a word that is known to be 0
 zero_is : (w : ℕ) → nat_eq w 0 ≡ is_zero (Some (lines.Number w))

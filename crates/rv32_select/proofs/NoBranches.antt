@@ -30,6 +30,7 @@ use Rattle.core_lines.specs.Operands.{test_in, test_ready, call_code, return_cod
 use Rattle.core_lines.specs.Checks.{Failure, check_of, check_code, checked_code}
 use Rattle.core_lines.specs.Choosing.{far, choice_code, between_code, behind_code}
 use Rattle.core_lines.specs.Completing.{can_complete, can_complete_all, ends_in_return_all}
+use Rattle.core_lines.specs.Parameters.{parameter_registers}
 use Rattle.core_lines.specs.Saved.{results_in, results_all, live_at_start, saves_at}
 use Rattle.core_lines.specs.Selected.{Surroundings, operation_code, labels_in, labels_of, labels_within, holding, naming, names_after, names_after_all}
 use Rattle.core_lines.specs.Selected.{within_block, statement_code, statements_code, frame_bytes, around, ended_code, function_code, functions_code}
@@ -154,31 +155,33 @@ mutual
       let later = holding (held_behind u.homes u.statics u.held s) (naming (names_after s u.names) u) in
       if_long (can_complete s) (statements_code left later (next + labels_in s) out again ss) (codes_long left later (next + labels_in s) out again ss all)
 
-function_long : (statics : List ℕ) (number next : ℕ) (f : Function) → are_long (function_code far statics number next f) ≡ true
-function_long statics number next f =
+function_long : (statics : List ℕ) (refused number next : ℕ) (f : Function) → are_long (function_code far statics refused number next f) ≡ true
+function_long statics refused number next f =
     let bytes = frame_bytes f in
     let start = live_at_start statics f in
     let flags = saves_at statics f in
-    let prologue = prologue_code bytes f.passed (saved_slot f) (saved_by f) start f.parameters in
+    let prologue = prologue_code refused bytes f.passed (saved_slot f) (saved_by f) start (parameter_registers f) f.parameters in
     let all = statements_code flags (around far statics next f) (next + 1) number number f.body in
     let returns = ends_in_return_all f.body in
     let body = ended_code returns all in
     let epilogue = epilogue_code bytes (saved_slot f) (saved_by f) in
     five (Label number ∷ []) prologue body (Label next ∷ []) epilogue refl
-    (none_long prologue (prologue_none bytes f.passed (saved_slot f) (saved_by f) start f.parameters))
+    (none_long prologue (prologue_none refused bytes f.passed (saved_slot f) (saved_by f) start (parameter_registers f) f.parameters))
     (ended (λ less lines. are_long lines ≡ true → are_long less ≡ true) next (λ lines is. is)
     (λ before is. first_long before (Jump next ∷ []) is) returns all
     (statements_jump_last flags (around far statics next f) (next + 1) number number f.body)
     (codes_long flags (around far statics next f) (next + 1) number number f.body refl)) refl
     (none_long epilogue (epilogue_none bytes (saved_slot f) (saved_by f)))
 
-functions_long : (statics : List ℕ) (number next : ℕ) (fs : List Function) → are_long (functions_code far statics number next fs) ≡ true
-functions_long statics number next [] = refl
-functions_long statics number next (f ∷ fs) =
-    both (function_code far statics number next f) (functions_code far statics (number + 1) (next + labels_within f) fs) (function_long statics number next f)
-    (functions_long statics (number + 1) (next + labels_within f) fs)
+functions_long : (statics : List ℕ) (refused number next : ℕ) (fs : List Function)
+    → are_long (functions_code far statics refused number next fs) ≡ true
+functions_long statics refused number next [] = refl
+functions_long statics refused number next (f ∷ fs) =
+    both (function_code far statics refused number next f) (functions_code far statics refused (number + 1) (next + labels_within f) fs)
+    (function_long statics refused number next f) (functions_long statics refused (number + 1) (next + labels_within f) fs)
 
 pub program_long : (p : Program) (lines : List Line) → lines ≡ program_code far p → are_long lines ≡ true
 program_long p lines same =
-    let functions = functions_long (offsets_from 0 (datum_locals p.data_objects)) 0 (length p.functions) p.functions in
+    let n = length p.functions in
+    let functions = functions_long (offsets_from 0 (datum_locals p.data_objects)) n 0 (n + 1) p.functions in
     subst (λ ls. are_long ls ≡ true) (sym same) functions

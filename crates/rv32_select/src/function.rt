@@ -2,13 +2,13 @@
 
 ghost use Rattle.std.specs.Prelude.{◌≡◌, ◌/◌, ◌+◌, ◌-◌, ◌%◌, ◌^◌, ◌*◌, ◌≤◌, ◌<◌, ◌++◌, IfOk, OnOk, map, ℕ, length};
 ghost use Rattle.cyc_core.specs.Trees.{body_tree, function_tree, program_tree};
-ghost use Rattle.core_lines.specs.Frames.{stack_start_code, small_frame_code, test_code, move_code, frame_code, give_code};
+ghost use Rattle.core_lines.specs.Frames.{stack_start_code, small_frame_code, refusal_code, test_code, move_code, frame_code, give_code};
 ghost use Rattle.core_lines.specs.Frames.{load_code, saves_code, restores_code, epilogue_code};
 ghost use Rattle.core_lines.specs.Operands.{keep_code, take_code, prologue_code};
 ghost use Rattle.core_lines.specs.Choosing.{far};
 ghost use Rattle.core_lines.specs.Promise.{AreLinesOf};
-ghost use Rattle.core_lines.specs.Held.{result_register};
-ghost use Rattle.core_lines.specs.Homes.{flag_at, saved_by};
+ghost use Rattle.core_lines.specs.Parameters.{parameter_register};
+ghost use Rattle.core_lines.specs.Homes.{flag_at, homes_in, saved_by, saved_slot};
 ghost use Rattle.core_lines.specs.Saved.{live_at_start, saves_at};
 ghost use Rattle.core_lines.specs.Selected.{around, highest_of, shrunk_of, labels_within, function_code, functions_code, program_code};
 ghost use Rattle.rv32_select.specs.Listing.{homes_listed};
@@ -20,12 +20,12 @@ use crate::emit::{
     put_word, word_instructions,
 };
 use crate::flags::flag_at;
-use crate::held::result_register;
 use crate::homes::homes_listed;
 use crate::labelled::Labelled;
 use crate::layout::{highest_of, saved_slot, statics, sum};
 use crate::live::find_saves;
 use crate::operands::put_kept;
+use crate::parameters::parameter_register;
 use crate::place::Place;
 use crate::statement::{Ways, following, put_statements};
 use core_lines::Line;
@@ -76,17 +76,26 @@ fn put_stack_start(lines: &mut Vec<Line>) -> Result<(), AllocError>
     put_number(lines, stack_start(), STACK_BASE)
 }
 
-/// Appends the taking of a small frame, which is given back and refused where x2 comes below x3.
-fn put_small_frame(lines: &mut Vec<Line>, bytes: u64) -> Result<(), AllocError>
+/// Appends the taking of a small frame, which is refused at a label where x2 comes below x3.
+fn put_small_frame(lines: &mut Vec<Line>, refused: usize, bytes: u64) -> Result<(), AllocError>
     requires { bytes < 2048 }
-    ensures { OnOk result (lines.new.items ≡ lines.old.items ++ small_frame_code bytes) }
+    ensures { OnOk result (lines.new.items ≡ lines.old.items ++ small_frame_code refused bytes) }
 {
     let pointer = Register::STACK_POINTER;
     let (down, up) = (Signed12::new(-(bytes as i32)), Signed12::new(bytes as i32));
     let take = Instr::Addi(pointer, pointer, down);
-    let test = Instr::Bgeu(pointer, stack_start(), BranchOffset::new(20));
-    put_three(lines, take, test, Instr::Addi(pointer, pointer, up))?;
-    put(lines, Instr::Addi(Register::ARGUMENT_0, Register::ZERO, up))?;
+    let test = Instr::Bgeu(pointer, stack_start(), BranchOffset::new(12));
+    let ask = Instr::Addi(Register::ARGUMENT_0, Register::ZERO, up);
+    put_three(lines, take, test, ask)?;
+    put_lines(lines, &[Line::Jump(refused)])
+}
+
+/// Appends what stands at that label: x2 goes up again by the frame's bytes, which x10 has, and the stack is refused.
+fn put_refusal(lines: &mut Vec<Line>) -> Result<(), AllocError>
+    ensures { OnOk result (lines.new.items ≡ lines.old.items ++ refusal_code) }
+{
+    let pointer = Register::STACK_POINTER;
+    put(lines, Instr::Add(pointer, pointer, Register::ARGUMENT_0))?;
     put_environment(lines, STACK_REFUSED)
 }
 
@@ -112,11 +121,11 @@ fn put_stack_move(lines: &mut Vec<Line>, bytes: u64) -> Result<(), AllocError>
 }
 
 /// Appends the taking of the stack's next bytes for a frame, which is refused where the stack has fewer.
-fn put_frame(lines: &mut Vec<Line>, bytes: u64) -> Result<(), AllocError>
-    ensures { OnOk result (lines.new.items ≡ lines.old.items ++ frame_code bytes) }
+fn put_frame(lines: &mut Vec<Line>, refused: usize, bytes: u64) -> Result<(), AllocError>
+    ensures { OnOk result (lines.new.items ≡ lines.old.items ++ frame_code refused bytes) }
 {
     if bytes < SMALL {
-        put_small_frame(lines, bytes)
+        put_small_frame(lines, refused, bytes)
     } else {
         put_stack_test(lines, bytes)?;
         put_stack_move(lines, bytes)
@@ -142,13 +151,14 @@ fn put_parameter(
     lines: &mut Vec<Line>,
     place: &Place,
     bytes: u64,
+    function: &Function,
     live: &[bool],
     parameter: Temporary,
 ) -> Result<(), AllocError>
-    ensures { let register = result_register parameter.0 in OnOk result (lines.new.items ≡ lines.old.items
+    ensures { let register = parameter_register place.now.homes.items (function_tree function.now).body parameter.0 in OnOk result (lines.new.items ≡ lines.old.items
         ++ load_code register (bytes / 4 + 1 + parameter.0) ++ keep_code (flag_at live.now parameter.0) place.now.passed register parameter.0) }
 {
-    let register = result_register(parameter);
+    let register = parameter_register(&place.homes, &function.body, parameter);
     put_load(lines, register, sum(bytes / 4 + 1, u64::from(parameter.0))?)?;
     put_kept(
         lines,
@@ -164,13 +174,14 @@ fn put_parameters(
     lines: &mut Vec<Line>,
     place: &Place,
     bytes: u64,
+    function: &Function,
     live: &[bool],
-    parameters: u32,
 ) -> Result<(), AllocError>
-    ensures { OnOk result (lines.new.items ≡ lines.old.items ++ take_code bytes place.now.passed live.now 0 parameters) }
+    ensures { OnOk result (lines.new.items ≡ lines.old.items ++ take_code bytes place.now.passed live.now
+        (parameter_register place.now.homes.items (function_tree function.now).body) 0 function.now.parameters) }
 {
-    'each: for parameter in 0..parameters {
-        put_parameter(lines, place, bytes, live, Temporary(parameter))?;
+    'each: for parameter in 0..function.parameters {
+        put_parameter(lines, place, bytes, function, live, Temporary(parameter))?;
     }
     Ok(())
 }
@@ -203,18 +214,20 @@ fn put_restores(lines: &mut Vec<Line>, first: u64, saved: &[Register]) -> Result
 fn put_prologue(
     lines: &mut Vec<Line>,
     place: &Place,
+    refused: usize,
     bytes: u64,
-    first: u64,
+    function: &Function,
     saved: &[Register],
     live: &[bool],
-    parameters: u32,
 ) -> Result<(), AllocError>
-    ensures { OnOk result (lines.new.items ≡ lines.old.items ++ prologue_code bytes place.now.passed first saved.now live.now parameters) }
+    ensures { OnOk result (lines.new.items ≡ lines.old.items
+        ++ prologue_code refused bytes place.now.passed (saved_slot (function_tree function.now)) saved.now live.now
+        (parameter_register place.now.homes.items (function_tree function.now).body) function.now.parameters) }
 {
-    put_frame(lines, bytes)?;
+    put_frame(lines, refused, bytes)?;
     put_save(lines, Register::RETURN_ADDRESS, 0)?;
-    put_saves(lines, first, saved)?;
-    put_parameters(lines, place, bytes, live, parameters)
+    put_saves(lines, saved_slot(function), saved)?;
+    put_parameters(lines, place, bytes, function, live)
 }
 
 /// Appends where a function ends: the registers that it saved come back, and its frame is given back.
@@ -233,30 +246,41 @@ fn put_epilogue(
     put(lines, Instr::Jalr(none, back, Signed12::new(0)))
 }
 
+/// The labels of a function: where its frame is refused, its number, where it begins, and `next`, where it ends and behind which the labels are free.
+struct Labels {
+    refused: usize,
+    number: usize,
+    next: usize,
+}
+
 /// Appends a function at whose start the place is, where it is known which results are saved. It saves these registers, and loads these temporaries from
 /// their slots. Answers the next free label.
 fn put_begun(
     lines: &mut Vec<Line>,
     place: &mut Place,
-    number: usize,
-    next: usize,
+    labels: Labels,
     function: &Function,
     saved: &[Register],
     live: &[bool],
 ) -> Result<usize, AllocError>
     requires saved { saved.now ≡ saved_by (function_tree function.now) }
-    requires place { surroundings place.old ≡ around far (surroundings place.old).statics next (function_tree function.now) }
+    requires homes { place.old.homes.items ≡ homes_in (function_tree function.now) }
+    requires place { surroundings place.old ≡ around far (surroundings place.old).statics labels.next (function_tree function.now) }
     requires saves { saves_left place.old ≡ saves_at (surroundings place.old).statics (function_tree function.now) }
     requires live { live.now ≡ live_at_start (surroundings place.old).statics (function_tree function.now) }
     ensures code { OnOk result (lines.new.items ≡ lines.old.items
-        ++ function_code far (surroundings place.old).statics number next (function_tree function.now)) }
-    ensures free { IfOk result (λ n. n ≡ next + labels_within (function_tree function.now)) }
+        ++ function_code far (surroundings place.old).statics labels.refused labels.number labels.next (function_tree function.now)) }
+    ensures free { IfOk result (λ n. n ≡ labels.next + labels_within (function_tree function.now)) }
     ensures same { OnOk result (place.new.statics.items ≡ place.old.statics.items) }
 {
+    let Labels {
+        refused,
+        number,
+        next,
+    } = labels;
     let bytes = frame_bytes(place, &function.body)?;
-    let slot = saved_slot(function);
     put_lines(lines, &[Line::Label(number)])?;
-    put_prologue(lines, place, bytes, slot, saved, live, function.parameters)?;
+    put_prologue(lines, place, refused, bytes, function, saved, live)?;
     let ways = Ways {
         out: number,
         again: number,
@@ -265,41 +289,46 @@ fn put_begun(
     let free = put_statements(lines, place, first, ways, &function.body)?;
     end_lines(lines, &function.body);
     put_lines(lines, &[Line::Label(next)])?;
-    put_epilogue(lines, bytes, slot, saved)?;
+    put_epilogue(lines, bytes, saved_slot(function), saved)?;
     Ok(free)
 }
 
-/// Appends a function, whose label is its number, and which ends at the label `next`: its other labels are those behind. Answers the next
-/// free label.
+/// Appends a function with these labels. Answers the next free label.
 fn put_function(
     lines: &mut Vec<Line>,
     place: &mut Place,
-    number: usize,
-    next: usize,
+    labels: Labels,
     function: &Function,
 ) -> Result<usize, AllocError>
-    ensures code { OnOk result (lines.new.items ≡ lines.old.items ++ function_code far place.old.statics.items number next (function_tree function.now)) }
-    ensures free { IfOk result (λ n. n ≡ next + labels_within (function_tree function.now)) }
+    ensures code { OnOk result (lines.new.items ≡ lines.old.items
+        ++ function_code far place.old.statics.items labels.refused labels.number labels.next (function_tree function.now)) }
+    ensures free { IfOk result (λ n. n ≡ labels.next + labels_within (function_tree function.now)) }
     ensures same { OnOk result (place.new.statics.items ≡ place.old.statics.items) }
 {
-    let saved = place.begin(function, next)?;
-    let live = find_saves(place, function, next)?;
-    put_begun(lines, place, number, next, function, &saved, &live)
+    let saved = place.begin(function, labels.next)?;
+    let live = find_saves(place, function, labels.next)?;
+    put_begun(lines, place, labels, function, &saved, &live)
 }
 
-/// Appends functions, the first of which has the number 0.
+/// Appends functions, the first of which has the number 0. Their frames are refused at a label, behind which the labels are free.
 fn put_functions(
     lines: &mut Vec<Line>,
     place: &mut Place,
+    refused: usize,
     functions: &[Function],
 ) -> Result<(), AllocError>
     ensures { OnOk result (lines.new.items
-        ≡ lines.old.items ++ functions_code far place.old.statics.items 0 (length functions.now) (map function_tree functions.now)) }
+        ≡ lines.old.items ++ functions_code far place.old.statics.items refused 0 (refused + 1) (map function_tree functions.now)) }
 {
-    let mut next = functions.len();
+    let mut next = following(refused)?;
     let mut number = 0;
     'each: for function in functions {
-        next = put_function(lines, place, number, next, function)?;
+        let labels = Labels {
+            refused,
+            number,
+            next,
+        };
+        next = put_function(lines, place, labels, function)?;
         number = following(number)?;
     }
     Ok(())
@@ -313,8 +342,11 @@ fn program_lines(alloc: Global, program: &Program) -> Result<Vec<Line>, AllocErr
     put_stack_start(&mut lines)?;
     put_lines(&mut lines, &[Line::CallTo(program.main)])?;
     put_environment(&mut lines, EXIT)?;
+    let refused = program.functions.len();
+    put_lines(&mut lines, &[Line::Label(refused)])?;
+    put_refusal(&mut lines)?;
     let mut place = Place::new(alloc, statics(alloc, &program.globals)?);
-    put_functions(&mut lines, &mut place, &program.functions)?;
+    put_functions(&mut lines, &mut place, refused, &program.functions)?;
     Ok(lines)
 }
 

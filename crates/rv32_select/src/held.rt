@@ -7,12 +7,14 @@ ghost use Rattle.core_lines.specs.Held.{result_register, with_result, with_taken
 ghost use Rattle.core_lines.specs.Held.{number_in, with_narrowed, is_zero, same_as, with_applied};
 ghost use Rattle.core_lines.specs.Held.{comparison_of, register_in, with_computed};
 ghost use Rattle.core_meaning.specs.Core.{Add};
-ghost use Rattle.cyc_core.specs.Trees.{binary_tree, bytes_of, optional_tree, temporary_tree};
+ghost use Rattle.core_lines.specs.Parameters.{parameter_register};
+ghost use Rattle.cyc_core.specs.Trees.{binary_tree, body_tree, bytes_of, optional_tree, temporary_tree};
 ghost use Rattle.rv32_select.specs.Known.{source_tree, holding_tree, keeper_tree};
 
 use crate::keeper::{Keeper, compared, keeper_of};
+use crate::parameters::parameter_register;
 use core_lines::{Comparison, Condition};
-use cyc_core::{Binary, Temporary, Width, Words};
+use cyc_core::{Binary, Statement, Temporary, Width, Words};
 use rv32_isa::Register;
 use std::alloc::{AllocError, Global};
 use std::marker::Model;
@@ -320,13 +322,20 @@ impl Known {
         }
     }
 
-    /// So many parameters are known alone, each in the register of its temporary's results.
-    pub fn hold_taken(&mut self, parameters: u32) -> Result<(), AllocError>
-        ensures { OnOk result (self.new ≡ with_taken 0 parameters []) }
+    /// The parameters of a function with this body are known alone, each in its register, where its locals have these homes.
+    pub fn hold_taken(
+        &mut self,
+        homes: &[Register],
+        body: &[Statement],
+        parameters: u32,
+    ) -> Result<(), AllocError>
+        ensures { OnOk result (self.new ≡ with_taken (parameter_register homes.now (body_tree body.now)) 0 parameters []) }
     {
         self.forget();
         'each: for parameter in 0..parameters {
-            self.hold_result(Temporary(parameter))?;
+            let temporary = Temporary(parameter);
+            let register = parameter_register(homes, body, temporary);
+            self.hold_put(Width::Word, temporary, register)?;
         }
         Ok(())
     }

@@ -36,6 +36,7 @@ mod memory;
 mod nulls;
 mod operands;
 mod operation;
+mod parameters;
 mod place;
 mod points;
 mod raising;

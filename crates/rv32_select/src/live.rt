@@ -387,12 +387,13 @@ pub fn find_saves(
     ensures place { OnOk result (surroundings place.new ≡ surroundings place.old) }
     ensures saves { OnOk result (saves_left place.new ≡ saves_at place.old.statics.items (function_tree function.now)) }
     ensures live { IfOk result (λ live. live.items ≡ live_at_start place.old.statics.items (function_tree function.now)) }
+    ensures homes { OnOk result (place.new.homes.items ≡ place.old.homes.items) }
 {
     let count = function.temporaries as usize;
     let mut saves = Vec::new(place.alloc);
     let mut live = no_flags(place.alloc, count)?;
     let none = no_flags(place.alloc, count)?;
     live_statements(&mut saves, place, &mut live, &none, &none, &function.body)?;
-    place.begin_again(function.parameters, saves)?;
+    place.begin_again(function, saves)?;
     Ok(live)
 }

@@ -6,6 +6,7 @@ ghost use Rattle.core_lines.specs.Frames.{slot_of};
 ghost use Rattle.core_lines.specs.Choosing.{far};
 ghost use Rattle.core_lines.specs.Held.{Holding, raises_only, with_taken};
 ghost use Rattle.core_lines.specs.Homes.{flag_at, homes_in, saved_by};
+ghost use Rattle.core_lines.specs.Parameters.{parameter_register};
 ghost use Rattle.core_lines.specs.Saved.{results_of};
 ghost use Rattle.core_lines.specs.Selected.{slots_of, Surroundings, local_offset, local_home, nth, around, holding, naming, within_block};
 ghost use Rattle.cyc_core.specs.Trees.{body_tree, local_tree, function_tree, operation_tree};
@@ -112,7 +113,8 @@ impl Place {
         self.exit = exit;
         self.blocks = Vec::new(self.alloc);
         self.named = 0;
-        self.held.hold_taken(function.parameters)?;
+        self.held
+            .hold_taken(&self.homes, &function.body, function.parameters)?;
         Ok(())
     }
 
@@ -130,15 +132,18 @@ impl Place {
         Ok(saved)
     }
 
-    /// Goes back to the start of the function, which has so many parameters, and of which these results are saved.
-    pub fn begin_again(&mut self, parameters: u32, saves: Vec<bool>) -> Result<(), AllocError>
-        ensures place { OnOk result (surroundings self.new
-            ≡ holding (with_taken 0 parameters []) (naming self.old.homes.items (surroundings self.old))) }
+    /// Goes back to the start of the function, of which these results are saved.
+    pub fn begin_again(&mut self, function: &Function, saves: Vec<bool>) -> Result<(), AllocError>
+        ensures place { OnOk result (surroundings self.new ≡ holding (with_taken
+            (parameter_register self.old.homes.items (function_tree function.now).body) 0 function.now.parameters [])
+            (naming self.old.homes.items (surroundings self.old))) }
         ensures saves { OnOk result (self.new.saves.items ≡ saves.items) }
+        ensures homes { OnOk result (self.new.homes.items ≡ self.old.homes.items) }
     {
         self.named = 0;
         self.saves = saves;
-        self.held.hold_taken(parameters)
+        self.held
+            .hold_taken(&self.homes, &function.body, function.parameters)
     }
 
     /// Where the next statement begins.

@@ -1,13 +1,13 @@
 // Where in the code functions begin, and where raises and calls are.
 
 use rv32_isa::{Instr, Register, decode};
-use rv32_machine::{CODE_BASE, RAISE, STACK_REFUSED};
+use rv32_machine::{CODE_BASE, RAISE};
 use std::alloc::{AllocError, Global};
 
-/// How many bytes of a function stand before the ECALL of its test of the stack: where its frame is small, and where it is large.
-const BEFORE_SMALL_TEST: u32 = 20;
+/// How many bytes of a function stand before the branch of its test of the stack: where its frame is small, and where it is large.
+const BEFORE_SMALL_TEST: u32 = 4;
 
-const BEFORE_LARGE_TEST: u32 = 24;
+const BEFORE_LARGE_TEST: u32 = 8;
 
 /// The bytes from which on a frame is large.
 const LARGE_FRAME: u32 = 2048;
@@ -15,7 +15,7 @@ const LARGE_FRAME: u32 = 2048;
 /// What is at an address of the code.
 #[derive(Clone, Copy)]
 pub enum Sight {
-    /// The ECALL of a function's test of the stack, for a frame of this size in bytes.
+    /// The branch of a function's test of the stack, for a frame of this size in bytes.
     Test(u32),
     /// An ECALL that raises.
     Raise,
@@ -28,7 +28,11 @@ impl Sight {
     pub fn at(code: &[u8], address: u32) -> Option<Sight> {
         let instruction = instruction_at(code, address)?;
         match instruction {
-            Instr::Ecall => Sight::of_request(code, address),
+            Instr::Ecall => {
+                let number = added_at(code, address.wrapping_sub(4), Register::ARGUMENT_7)?;
+                (number == RAISE).then_some(Sight::Raise)
+            }
+            Instr::Bgeu(left, _, _) => Sight::of_branch(code, address, left),
             Instr::Jal(to, offset) => {
                 let is_call = to.number() == Register::RETURN_ADDRESS.number();
                 is_call.then_some(Sight::Call(address.wrapping_add_signed(offset.value())))
@@ -37,12 +41,12 @@ impl Sight {
         }
     }
 
-    /// What an ECALL is, by the number that is put into x17 before it.
-    fn of_request(code: &[u8], address: u32) -> Option<Sight> {
-        match added_before(code, address, 4, Register::ARGUMENT_7)? {
-            RAISE => Some(Sight::Raise),
-            STACK_REFUSED => Some(Sight::Test(frame_before(code, address)?)),
-            _ => None,
+    /// What a branch is that compares a register: a test of the stack, if that is x2. No other branch compares it.
+    fn of_branch(code: &[u8], address: u32, compared: Register) -> Option<Sight> {
+        if compared.number() == Register::STACK_POINTER.number() {
+            Some(Sight::Test(frame_behind(code, address)?))
+        } else {
+            None
         }
     }
 }
@@ -54,9 +58,9 @@ fn instruction_at(code: &[u8], address: u32) -> Option<Instr> {
     decode(u32::from_le_bytes(*bytes))
 }
 
-/// The number, as a word, that the ADDI to a register adds which stands a distance in bytes before an address.
-fn added_before(code: &[u8], address: u32, distance: u32, register: Register) -> Option<u32> {
-    match instruction_at(code, address.wrapping_sub(distance))? {
+/// The number, as a word, that the ADDI to a register adds which stands at an address.
+fn added_at(code: &[u8], address: u32, register: Register) -> Option<u32> {
+    match instruction_at(code, address)? {
         Instr::Addi(to, _, number) if to.number() == register.number() => {
             Some(0u32.wrapping_add_signed(number.value()))
         }
@@ -64,13 +68,14 @@ fn added_before(code: &[u8], address: u32, distance: u32, register: Register) ->
     }
 }
 
-/// The bytes of a frame, which a test of the stack puts into x10 before its ECALL: by ADDI, with LUI before it where the frame is large.
-fn frame_before(code: &[u8], address: u32) -> Option<u32> {
-    let lower = added_before(code, address, 8, Register::ARGUMENT_0)?;
-    match instruction_at(code, address.wrapping_sub(12))? {
-        Instr::Lui(_, upper) => Some(upper.bits().wrapping_mul(4096).wrapping_add(lower)),
-        _ => Some(lower),
-    }
+/// The bytes of a frame, which come into x10 where the branch of its test isn't made: by ADDI, with LUI before it where the frame is large.
+fn frame_behind(code: &[u8], address: u32) -> Option<u32> {
+    let behind = address.wrapping_add(4);
+    let Instr::Lui(_, upper) = instruction_at(code, behind)? else {
+        return added_at(code, behind, Register::ARGUMENT_0);
+    };
+    let lower = added_at(code, behind.wrapping_add(4), Register::ARGUMENT_0)?;
+    Some(upper.bits().wrapping_mul(4096).wrapping_add(lower))
 }
 
 /// An address of the code at which a function is tested, or a raise or a call is, and how many of its kind stand before it.

@@ -15,6 +15,7 @@ use Rattle.core_lines.specs.Lines.{code_length}
 use Rattle.core_lines.specs.Held.{Register, Holding, with_source, with_taken, with_results as holding_results}
 use Rattle.core_lines.specs.Loaded.{unknown_in, loads_of_values}
 use Rattle.core_lines.specs.Operands.{keep_code, pass_code, result_code, call_code, values_code, return_code, prologue_code}
+use Rattle.core_lines.specs.Parameters.{parameter_registers}
 use Rattle.core_lines.specs.Saved.{all_flagged, flags_of, taken_in, live_at_start}
 use Rattle.core_lines.specs.Lies.{Activation}
 use Rattle.core_lines.proofs.memory.Relations.{StackShows, World, IsInOrder, Has, Waiting, Goes, At, Calling, Returning, Back, Stands, active_of}
@@ -305,7 +306,7 @@ activation w order f fn is outer mem arguments offsets high =
 -- how it begins
 abbrev pub prologue_of : World → ℕ → Function → ℕ → List Line
 prologue_of w f fn parameters =
-    prologue_code (w.frame_bytes f) fn.passed (saved_slot fn) (saved_by fn) (live_at_start w.data_offsets fn) parameters
+    prologue_code w.refused (w.frame_bytes f) fn.passed (saved_slot fn) (saved_by fn) (live_at_start w.data_offsets fn) (parameter_registers fn) parameters
 
 -- What is asked of each function: its unnamed values lie behind its slots, in its frame; its prologue is at its label; and its statements, from behind the
 -- prologue on, do as Core, where calls with less fuel do and the frame is no larger than the stack.
@@ -369,7 +370,7 @@ module _ (w : World) (order : IsInOrder w) (each : (f : ℕ) (fn : Function) →
       let y = activation w order f fn is outer mem arguments d.offsets d.high in
       let way = enters w order f fn is outer mem arguments start (omega (arith, as_many, few)) prologue in
       let place = w.places f + code_length (prologue_of w f fn (length arguments)) in
-      let held = with_taken 0 (length arguments) [] in
+      let held = with_taken (parameter_registers fn) 0 (length arguments) [] in
       let R' = AtHolding w y outer (entered fn arguments mem).memory place held in
       let c = core.statements fn.body (left f mem.calls next) (entered fn arguments mem) in
       let body : Goes w most c R' (w.names f ∷ active_of w outer) =
@@ -377,7 +378,7 @@ module _ (w : World) (order : IsInOrder w) (each : (f : ℕ) (fn : Function) →
       (λ (large : longest_stack < w.frame_bytes f). goes_nowhere w R' (w.names f ∷ active_of w outer) most c
       (λ s a. too_large y outer (entered fn arguments mem).memory place s large (at_any w y outer (entered fn arguments mem).memory place held s a)))
       (λ (fits : w.frame_bytes f ≤ longest_stack).
-      subst (λ k. Goes w most c (AtHolding w y outer (entered fn arguments mem).memory (w.places f + code_length (prologue_of w f fn k)) (with_taken 0 k []))
+      subst (λ k. Goes w most c (AtHolding w y outer (entered fn arguments mem).memory (w.places f + code_length (prologue_of w f fn k)) (with_taken (parameter_registers fn) 0 k []))
       (w.names f ∷ active_of w outer)) (sym as_many)
       (d.does is most fits calls outer mem arguments (left f mem.calls next) (left_goes most f fn is outer mem arguments next goes) (λ c. (refl, refl, refl))))
       (cases_lt (longest_stack) (w.frame_bytes f)) in

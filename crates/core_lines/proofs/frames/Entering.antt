@@ -13,8 +13,9 @@ use Rattle.core_lines.specs.Lines.{code_length}
 use Rattle.core_lines.specs.Frames.{save_code, frame_code, saves_code}
 use Rattle.core_lines.specs.Held.{Holding, with_taken}
 use Rattle.core_lines.specs.Operands.{take_code, prologue_code}
+use Rattle.core_lines.specs.Parameters.{parameter_index, parameter_registers}
 use Rattle.core_lines.specs.Lies.{Maps, Activation, Laid}
-use Rattle.core_lines.specs.Homes.{is_home, is_among, saved_by, saved_slot}
+use Rattle.core_lines.specs.Homes.{is_home, is_among, homes_in, saved_by, saved_slot}
 use Rattle.core_lines.proofs.memory.Relations.{Saving, World, IsInOrder, Has, Waiting, slots_in, back_of, FrameShows, StackShows, Stands}
 use Rattle.core_lines.proofs.memory.Relations.{Calling, Passed, active_of}
 use Rattle.core_lines.proofs.memory.Moving.{Reach, Comes, comes_then, comes_as, and_then, Full}
@@ -32,6 +33,7 @@ use Rattle.core_lines.proofs.operations.Standing.{AtHolding, as_holding}
 use Rattle.rv32_machine.specs.Implements.{frames}
 pub use Rattle.core_lines.proofs.frames.Begun.{with_call, call_fits}
 pub use Rattle.core_lines.proofs.frames.Taking.{staged, callee, Taken, takes}
+use Rattle.core_lines.proofs.frames.Parameters.{may_take}
 
 module _ (w : World) (order : IsInOrder w) (f : ℕ) (fn : Function) (is : slice_get w.functions f ≡ Some fn) (outer : List Waiting) (mem : Memory)
     (arguments : List Content) (start : List Bool) where
@@ -190,7 +192,7 @@ module _ (w : World) (order : IsInOrder w) (f : ℕ) (fn : Function) (is : slice
   -- ---- from the call to the first line behind the prologue
 
   abbrev lines : List Line
-  lines = prologue_code size fn.passed (saved_slot fn) (saved_by fn) start (length arguments)
+  lines = prologue_code w.refused size fn.passed (saved_slot fn) (saved_by fn) start (parameter_registers fn) (length arguments)
 
   abbrev entry : ℕ
   entry = w.places f
@@ -199,19 +201,19 @@ module _ (w : World) (order : IsInOrder w) (f : ℕ) (fn : Function) (is : slice
   saving_lines = saves_code (saved_slot fn) (saved_by fn)
 
   abbrev pub taking_lines : List Line
-  taking_lines = take_code size fn.passed start 0 (length arguments)
+  taking_lines = take_code size fn.passed start (parameter_registers fn) 0 (length arguments)
 
   abbrev behind_move : List Line
   behind_move = save_code 1 0 ++ (saving_lines ++ taking_lines)
 
-  apart : lines ≡ frame_code size ++ behind_move
+  apart : lines ≡ frame_code w.refused size ++ behind_move
   apart =
-      append_assoc (frame_code size ++ save_code 1 0) saving_lines taking_lines
-      ∙ append_assoc (frame_code size) (save_code 1 0) (saving_lines ++ taking_lines)
+      append_assoc (frame_code w.refused size ++ save_code 1 0) saving_lines taking_lines
+      ∙ append_assoc (frame_code w.refused size) (save_code 1 0) (saving_lines ++ taking_lines)
 
   -- where x2 has moved
   abbrev below : ℕ
-  below = entry + code_length (frame_code size)
+  below = entry + code_length (frame_code w.refused size)
 
   abbrev moving : ℕ
   moving = if nat_lt size 2048 then 2 else 6
@@ -228,9 +230,9 @@ module _ (w : World) (order : IsInOrder w) (f : ℕ) (fn : Function) (is : slice
       let within = order.stack_within in
       let room = order.frames f fn is (omega (arith, fits, high, within)) in
       let parts = subst (Has w entry) apart has in
-      let has_frame = has_first w entry (frame_code size) behind_move parts in
+      let has_frame = has_first w entry (frame_code w.refused size) behind_move parts in
       let has_save : Has w below (save_code 1 0) =
-      has_first w below (save_code 1 0) (saving_lines ++ taking_lines) (has_second w entry (frame_code size) behind_move parts) in
+      has_first w below (save_code 1 0) (saving_lines ++ taking_lines) (has_second w entry (frame_code w.refused size) behind_move parts) in
       let g = taken w order f fn is outer mem s r.maps r.frames r.sp entry r.stands ends.0 high fits has_frame in
       let low = r.sp - size in
       let s1 = state_at below g.new s.bytes s.store in
@@ -260,7 +262,7 @@ module _ (w : World) (order : IsInOrder w) (f : ℕ) (fn : Function) (is : slice
       let stands : Stands w mem' below r.maps (a ∷ r.frames) low low s1 = record {
         runs = refl;
         there = refl;
-        aligned = behind entry (frame_code size) (order.labels f).aligned;
+        aligned = behind entry (frame_code w.refused size) (order.labels f).aligned;
         pointer = g.pointer;
         stack_start = g.stack_start;
         small = r.stands.small;
@@ -324,22 +326,23 @@ module _ (w : World) (order : IsInOrder w) (f : ℕ) (fn : Function) (is : slice
   -- take more bytes than it has.
   pub enters : length arguments ≤ fn.temporaries → Has w entry lines
       → (count : ℕ) × ((s : Machine) → Calling w f outer mem arguments s
-      → Reach w.areas count (AtHolding w begun outer (with_call mem) (entry + code_length lines) (with_taken 0 (length arguments) [])) s
+      → Reach w.areas count (AtHolding w begun outer (with_call mem) (entry + code_length lines) (with_taken (parameter_registers fn) 0 (length arguments) [])) s
       ⊎ (Full w count s × (w.areas.stack < frames w.bound (w.names f ∷ active_of w outer))))
   enters few has =
       let both = saving_lines ++ taking_lines in
       let parts = subst (Has w entry) apart has in
       let begin = below + code_length (save_code 1 0) in
       let has_both : Has w begin both =
-      has_second w below (save_code 1 0) both (has_second w entry (frame_code size) behind_move parts) in
+      has_second w below (save_code 1 0) both (has_second w entry (frame_code w.refused size) behind_move parts) in
       let middle = begin + code_length saving_lines in
       let plain : saved_slot fn + 0 ≡ saved_slot fn = omega arith in
       let has_save = subst (λ k. Has w begin (saves_code k (saved_by fn))) (sym plain) (has_first w begin saving_lines taking_lines has_both) in
       let keep : Comes w (Keeping [] begin) (Keeping (saved_by fn) middle) =
       subst (λ k. Comes w (Keeping [] begin) (Keeping (saved_by fn) (begin + code_length (saves_code k (saved_by fn))))) plain
       (keeps [] (saved_by fn) begin refl (saved_homes fn) has_save) in
-      let take = takes w order f fn is outer mem arguments start [] arguments [] middle refl few (has_second w begin saving_lines taking_lines has_both) in
-      let known = with_taken 0 (length arguments) [] in
+      let take = takes w order f fn is outer mem arguments start (parameter_index (homes_in fn) fn.body) (may_take fn) [] arguments [] middle refl few
+      (has_second w begin saving_lines taking_lines has_both) in
+      let known = with_taken (parameter_registers fn) 0 (length arguments) [] in
       let all : Comes w (Keeping [] begin) (Takes arguments known (middle + code_length taking_lines)) =
       comes_then w _ (Keeping (saved_by fn) middle) _ keep
       (comes_then w _ (Takes [] [] middle) _ (comes_as w _ _ (λ s a. kept_all middle s a)) take) in
@@ -347,7 +350,7 @@ module _ (w : World) (order : IsInOrder w) (f : ℕ) (fn : Function) (is : slice
       omega (
         arith,
         ap code_length apart,
-        length_of_both (frame_code size) behind_move,
+        length_of_both (frame_code w.refused size) behind_move,
         length_of_both (save_code 1 0) both,
         length_of_both saving_lines taking_lines,
       ) in
@@ -355,7 +358,7 @@ module _ (w : World) (order : IsInOrder w) (f : ℕ) (fn : Function) (is : slice
         count,
         λ s r.
             let ends = stack_low w.areas order.stack_pages r.frames r.sp r.stands.stacked in
-            let has_frame = has_first w entry (frame_code size) behind_move parts in
+            let has_frame = has_first w entry (frame_code w.refused size) behind_move parts in
             ⊎_elim
             (λ (short : r.sp < stack_base + size).
             let x = refused w order f fn is outer mem s r.maps r.frames r.sp entry r.stands ends.0 ends.1 short has_frame in

@@ -70,7 +70,7 @@ module _ (w : World) (order : IsInOrder w) (place : ℕ) (registers bytes : ℕ 
   moves_down_far low is has = moves_far (Sub 2 2 7) difference_of low (λ answer s. refl) (λ r. tt) (omega (arith, is, near)) has
 
   -- and up
-  pub moves_up_near : Has w place (Plain (Addi 2 2 (pos size)) ∷ []) → Puts w place (place + 4) 1 2 (sp + size) registers bytes st
+  moves_up_near : Has w place (Plain (Addi 2 2 (pos size)) ∷ []) → Puts w place (place + 4) 1 2 (sp + size) registers bytes st
   moves_up_near has = moves_near (pos size) (sp + size) (omega (arith, pointer, near)) has
 
   pub moves_up : Has w place (give_code size)

@@ -3,7 +3,7 @@ use Rattle.std.specs.Prelude.{slice_get, if◌then◌else◌}
 use Rattle.std.proofs.Common.{◌≡◌, ℕ, pos, ◌+◌, ◌-◌, ◌%◌, ◌^◌, ◌<◌, ◌≤◌, true, false, not, nat_lt, nat_le, Bool, List, [], ◌∷◌, ◌++◌, Some, refl, sym, ap, ◌∙◌, subst, arith}
 use Rattle.std.proofs.lemmas.Bool.{le-leb, lt-ltb, le-ltb, ltb-true, and_from}
 use Rattle.cyc_words.specs.Words.{word, sum_of}
-use Rattle.rv32_isa.specs.declared.instruction.Instr.TheVariants.{Bgeu, Addi, Ecall}
+use Rattle.rv32_isa.specs.declared.instruction.Instr.TheVariants.{Jal, Add, Bgeu, Addi, Ecall}
 use Rattle.core_meaning.specs.Memory.{Memory}
 use Rattle.core_meaning.specs.Core.{Function}
 use Rattle.core_lines.specs.Machines.{Machine, Store}
@@ -11,7 +11,7 @@ use Rattle.rv32_machine.specs.State.{Areas, Stop, Over, code_base, stack_base, s
 use Rattle.cyc_words.specs.declared.faults.MachineFault.TheVariants.{BadCall}
 use Rattle.rv32_machine.specs.Step.{branches, stop, fault}
 use Rattle.core_lines.specs.declared.line.Line.TheVariants.{Plain}
-use Rattle.core_lines.specs.Lines.{code_length}
+use Rattle.core_lines.specs.Lines.{HasInstr, code_length, offset_to}
 use Rattle.core_lines.specs.Frames.{word_code, environment_code, small_frame_code, test_code, move_code, frame_code}
 use Rattle.core_lines.specs.Lies.{Maps, Activation, Stacked}
 use Rattle.core_lines.proofs.memory.Relations.{Moves, World, IsInOrder, Has, Waiting, StackShows, Stands, active_of}
@@ -19,7 +19,8 @@ use Rattle.core_lines.proofs.memory.Moving.{and_then, by_stop}
 use Rattle.core_lines.proofs.Steps.{state_at, IsKeptBelow, goes_to, passes, gives_value, step_is, is_lawful, is_in_code}
 use Rattle.core_lines.proofs.homes.Homes.{SameHomes, other_home}
 use Rattle.core_lines.proofs.memory.Slots.{Puts, puts_word}
-use Rattle.core_lines.proofs.frames.Pointer.{moves_down_near, moves_down_far, moves_up_near}
+use Rattle.core_lines.proofs.memory.Words.{offset_joined}
+use Rattle.core_lines.proofs.frames.Pointer.{moves_down_near, moves_down_far}
 use Rattle.core_lines.proofs.memory.Fitting.{below_end}
 use Rattle.core_lines.proofs.memory.Access.{written_out}
 use Rattle.core_lines.proofs.frames.Passing.{has_second}
@@ -81,6 +82,34 @@ module _ (w : World) (order : IsInOrder w) (f : ℕ) (fn : Function) (is : slice
       (is_lawful w.areas w.code order.code_within st (place + 4) new bytes kept Ecall has.2.0.0 tt) in
       and_then w.areas s1 s2 last 1 1 m1 m2
 
+  -- a jump to the label where frames are refused
+  goes_refused : (place : ℕ) (registers bytes : ℕ → ℕ) (st : Store) → IsKeptBelow w.code bytes
+      → HasInstr w.areas w.code (code_base + place) (Jal 0 (offset_to (w.places w.refused) place))
+      → Moves w.areas 1 (state_at place registers bytes st) (state_at (w.places w.refused) registers bytes st)
+  goes_refused place registers bytes st kept has =
+      let to = w.places w.refused in
+      let is_place = order.labels w.refused in
+      let within = is_place.within in
+      let near = is_in_code w.areas w.code order.code_within st place (Jal 0 (offset_to to place)) has in
+      goes_to w.areas w.code order.code_within st place registers bytes kept (Jal 0 (offset_to to place)) has 0
+      (sum_of (code_base + place) (word (offset_to to place))) to (offset_joined code_base to place (omega (arith, near)) (omega (arith, within)))
+      is_place.aligned (λ answer. refl) tt
+
+  -- what stands there brings x2 up again by the frame's bytes, which x10 has, and the stack is refused
+  refuses_below : (registers bytes : ℕ → ℕ) (st : Store) → IsKeptBelow w.code bytes → (sp below : ℕ) → sp + size < 2 ^ 31 → registers 2 ≡ below
+      → registers 10 ≡ size → below + size ≡ sp → sp < stack_base + size → stack_base ≤ sp → sp ≤ stack_end w.areas
+      → (last : Machine) × (Moves w.areas 3 (state_at (w.places w.refused) registers bytes st) last) × (last.mode ≡ Over (Stop.Exhausted))
+  refuses_below registers bytes st kept sp below near pointer argument is short low high =
+      let place = w.places w.refused in
+      let value = sum_of (registers 2) (registers 10) in
+      let new = set_register 2 value registers in
+      let s1 = state_at (place + 4) new bytes st in
+      let m1 : Moves w.areas 1 (state_at place registers bytes st) s1 =
+      gives_value w.areas w.code order.code_within st place registers bytes kept (Add 2 2 10) order.refusal.0.0 2 value (λ answer. refl) tt in
+      let up : value ≡ sp = ap (λ k. sum_of k (registers 10)) pointer ∙ ap (sum_of below) argument ∙ omega (arith, is, near) in
+      let last = record (state_at (place + 4 + 4) (set_register 17 13 new) bytes st) { mode = Over (Stop.Exhausted) } in
+      (last, and_then w.areas _ s1 last 1 2 m1 (refuses (place + 4) new bytes st kept sp up argument short low high order.refusal.2), refl)
+
   -- ---- the lines of a frame
 
   module _ (s : Machine) (m : Maps) (fs : List Activation) (sp : ℕ) (place : ℕ) (stands : Stands w mem place m fs sp sp s) (low : stack_base ≤ sp)
@@ -107,7 +136,7 @@ module _ (w : World) (order : IsInOrder w) (f : ℕ) (fn : Function) (is : slice
 
     -- ---- a small frame, which is taken and then tested
 
-    module _ (few : size < 2048) (has : Has w place (small_frame_code size)) where
+    module _ (few : size < 2048) (has : Has w place (small_frame_code w.refused size)) where
       near : sp + size < 2 ^ 31
       near = let within = order.stack_within in omega (arith, few, high, within)
 
@@ -122,17 +151,17 @@ module _ (w : World) (order : IsInOrder w) (f : ℕ) (fn : Function) (is : slice
       start : down.new 3 ≡ stack_base
       start = down.kept 3 refl refl ∙ stands.stack_start
 
-      taken_small : stack_base + size ≤ sp → IsMoved 2 (place + 24)
+      taken_small : stack_base + size ≤ sp → IsMoved 2 (place + 16)
       taken_small fits =
-          let near_end = is_in_code w.areas w.code order.code_within s.store (place + 4) (Bgeu 2 3 (pos 20)) has.2.0.0 in
+          let near_end = is_in_code w.areas w.code order.code_within s.store (place + 4) (Bgeu 2 3 (pos 12)) has.2.0.0 in
           let enough : nat_lt (down.new 2) (down.new 3) ≡ false =
           le-ltb (down.new 2) (down.new 3) (let a = down.holds in omega (arith, a, start, fits)) in
           let aligned = stands.aligned in
-          let next = state_at (place + 24) down.new s.bytes s.store in
+          let next = state_at (place + 16) down.new s.bytes s.store in
           let m2 : Moves w.areas 1 s1 next =
-          goes_to w.areas w.code order.code_within s.store (place + 4) down.new s.bytes stands.kept (Bgeu 2 3 (pos 20)) has.2.0.0 0
-          (sum_of (code_base + (place + 4)) 20) (place + 24) (omega (arith, near_end)) (omega (arith, aligned))
-          (λ answer. ap (λ b. branches (not b) (pos 20) (state_of s1)) enough) tt in
+          goes_to w.areas w.code order.code_within s.store (place + 4) down.new s.bytes stands.kept (Bgeu 2 3 (pos 12)) has.2.0.0 0
+          (sum_of (code_base + (place + 4)) 12) (place + 16) (omega (arith, near_end)) (omega (arith, aligned))
+          (λ answer. ap (λ b. branches (not b) (pos 12) (state_of s1)) enough) tt in
           record {
             new = down.new;
             moves = subst (λ (t : Machine). Moves w.areas 2 t next) (sym here) (and_then w.areas _ s1 next 1 1 down.moves m2);
@@ -142,37 +171,34 @@ module _ (w : World) (order : IsInOrder w) (f : ℕ) (fn : Function) (is : slice
             same = λ q is. down.kept q (other_home 7 q refl is) (other_home 2 q refl is);
           }
 
-      refused_small : sp < stack_base + size → IsRefused 6
+      refused_small : sp < stack_base + size → IsRefused 7
       refused_small short =
           let less : nat_lt (down.new 2) (down.new 3) ≡ true =
           lt-ltb (down.new 2) (down.new 3) (let a = down.holds in omega (arith, a, start, short, few)) in
           let p2 = place + 4 + 4 in
           let s2 = state_at p2 down.new s.bytes s.store in
           let m2 : Moves w.areas 1 s1 s2 =
-          passes w.areas w.code order.code_within s.store (place + 4) down.new s.bytes stands.kept (Bgeu 2 3 (pos 20)) has.2.0.0
-          (λ answer. ap (λ b. branches (not b) (pos 20) (state_of s1)) less) tt in
-          let back : sp - size + size ≡ sp = omega (arith, few, low) in
-          let up = moves_up_near w order p2 down.new s.bytes s.store stands.kept size (sp - size) (omega (arith, few)) down.holds (omega (arith, near))
-          (has.2.2.0, tt, tt) in
-          let p3 = p2 + 4 in
-          let s3 = state_at p3 up.new s.bytes s.store in
+          passes w.areas w.code order.code_within s.store (place + 4) down.new s.bytes stands.kept (Bgeu 2 3 (pos 12)) has.2.0.0
+          (λ answer. ap (λ b. branches (not b) (pos 12) (state_of s1)) less) tt in
           let value = sum_of 0 (word (pos size)) in
-          let new = set_register 10 value up.new in
-          let s4 = state_at (p3 + 4) new s.bytes s.store in
-          let m4 : Moves w.areas 1 s3 s4 =
-          gives_value w.areas w.code order.code_within s.store p3 up.new s.bytes stands.kept (Addi 10 0 (pos size)) has.2.2.2.0.0 10 value (λ answer. refl)
+          let asked = set_register 10 value down.new in
+          let s3 = state_at (p2 + 4) asked s.bytes s.store in
+          let m3 : Moves w.areas 1 s2 s3 =
+          gives_value w.areas w.code order.code_within s.store p2 down.new s.bytes stands.kept (Addi 10 0 (pos size)) has.2.2.0.0 10 value (λ answer. refl)
           tt in
           let argument : value ≡ size = omega (arith, few) in
-          let m5 = refuses (p3 + 4) new s.bytes s.store stands.kept sp (up.holds ∙ back) argument short low high has.2.2.2.2 in
-          let last = record (state_at (p3 + 4 + 4) (set_register 17 13 new) s.bytes s.store) { mode = Over (Stop.Exhausted) } in
+          let e = refuses_below asked s.bytes s.store stands.kept sp (sp - size) near down.holds argument (omega (arith, few, low)) short low high in
+          let to = w.places w.refused in
+          let s4 = state_at to asked s.bytes s.store in
+          let m4 : Moves w.areas 1 s3 s4 = goes_refused (p2 + 4) asked s.bytes s.store stands.kept has.2.2.2.0.0 in
           record {
-            count = 6;
+            count = 7;
             within = omega arith;
-            last = last;
-            moves = subst (λ (t : Machine). Moves w.areas 6 t last) (sym here)
-                (and_then w.areas _ s1 last 1 5 down.moves (and_then w.areas s1 s2 last 1 4 m2 (and_then w.areas s2 s3 last 1 3 up.moves
-                (and_then w.areas s3 s4 last 1 2 m4 m5))));
-            over = refl;
+            last = e.0;
+            moves = subst (λ (t : Machine). Moves w.areas 7 t e.0) (sym here)
+                (and_then w.areas _ s1 e.0 1 6 down.moves (and_then w.areas s1 s2 e.0 1 5 m2 (and_then w.areas s2 s3 e.0 1 4 m3
+                (and_then w.areas s3 s4 e.0 1 3 m4 e.1))));
+            over = e.2;
           }
 
     -- ---- a large frame, for which the stack is tested first
@@ -248,20 +274,20 @@ module _ (w : World) (order : IsInOrder w) (f : ℕ) (fn : Function) (is : slice
 
     -- ---- a frame
 
-    pub taken : stack_base + size ≤ sp → Has w place (frame_code size)
-        → IsMoved (if nat_lt size 2048 then 2 else 6) (place + code_length (frame_code size))
+    pub taken : stack_base + size ≤ sp → Has w place (frame_code w.refused size)
+        → IsMoved (if nat_lt size 2048 then 2 else 6) (place + code_length (frame_code w.refused size))
     taken fits has = by (nat_lt size 2048) refl has
       where
-        by : (few : Bool) → nat_lt size 2048 ≡ few → Has w place (if few then small_frame_code size else test_code size ++ move_code size)
-            → IsMoved (if few then 2 else 6) (place + code_length (if few then small_frame_code size else test_code size ++ move_code size))
+        by : (few : Bool) → nat_lt size 2048 ≡ few → Has w place (if few then small_frame_code w.refused size else test_code size ++ move_code size)
+            → IsMoved (if few then 2 else 6) (place + code_length (if few then small_frame_code w.refused size else test_code size ++ move_code size))
         by true is has = taken_small (ltb-true size 2048 is) has fits
         by false is has = taken_large has fits
 
-    pub refused : sp < stack_base + size → Has w place (frame_code size) → IsRefused ((if nat_lt size 2048 then 2 else 6) + 4)
+    pub refused : sp < stack_base + size → Has w place (frame_code w.refused size) → IsRefused ((if nat_lt size 2048 then 2 else 6) + 5)
     refused short has = by (nat_lt size 2048) refl has
       where
-        by : (few : Bool) → nat_lt size 2048 ≡ few → Has w place (if few then small_frame_code size else test_code size ++ move_code size)
-            → IsRefused ((if few then 2 else 6) + 4)
+        by : (few : Bool) → nat_lt size 2048 ≡ few → Has w place (if few then small_frame_code w.refused size else test_code size ++ move_code size)
+            → IsRefused ((if few then 2 else 6) + 5)
         by true is has = refused_small (ltb-true size 2048 is) has short
         by false is has =
             let x = refused_large has short in

@@ -387,16 +387,16 @@ epilogue_bare bytes first saved =
     two (restores_code first saved) (leave_code bytes) (restores_bare first saved)
     (three (load_code 1 0) (give_code bytes) (Plain (instr.Jalr 0 1 (pos 0)) ∷ []) (load_bare 1 0) (either (nat_lt bytes 2048) _ _ refl refl) refl)
 
-take_bare : (bytes passed : ℕ) (start : List Bool) (k count : ℕ) → are_bare (take_code bytes passed start k count) ≡ true
-take_bare bytes passed start k zero = refl
-take_bare bytes passed start k (suc more) =
-    three (load_code (result_register k) (bytes / 4 + 1 + k)) (keep_code (flag_at start k) passed (result_register k) k)
-    (take_code bytes passed start (k + 1) more) (load_bare (result_register k) (bytes / 4 + 1 + k))
-    (keep_bare passed (flag_at start k) (result_register k) k) (take_bare bytes passed start (k + 1) more)
+take_bare : (bytes passed : ℕ) (start : List Bool) (registers : ℕ → ℕ) (k count : ℕ) → are_bare (take_code bytes passed start registers k count) ≡ true
+take_bare bytes passed start registers k zero = refl
+take_bare bytes passed start registers k (suc more) =
+    three (load_code (registers k) (bytes / 4 + 1 + k)) (keep_code (flag_at start k) passed (registers k) k)
+    (take_code bytes passed start registers (k + 1) more) (load_bare (registers k) (bytes / 4 + 1 + k))
+    (keep_bare passed (flag_at start k) (registers k) k) (take_bare bytes passed start registers (k + 1) more)
 
-pub prologue_bare : (bytes passed first : ℕ) (saved : List ℕ) (start : List Bool) (parameters : ℕ)
-    → are_bare (prologue_code bytes passed first saved start parameters) ≡ true
-prologue_bare bytes passed first saved start parameters =
-    two (frame_code bytes ++ save_code 1 0 ++ saves_code first saved) (take_code bytes passed start 0 parameters)
-    (three (frame_code bytes) (save_code 1 0) (saves_code first saved) (either (nat_lt bytes 2048) _ _ refl refl) (save_bare 1 0) (saves_bare first saved))
-    (take_bare bytes passed start 0 parameters)
+pub prologue_bare : (refused bytes passed first : ℕ) (saved : List ℕ) (start : List Bool) (registers : ℕ → ℕ) (parameters : ℕ)
+    → are_bare (prologue_code refused bytes passed first saved start registers parameters) ≡ true
+prologue_bare refused bytes passed first saved start registers parameters =
+    two (frame_code refused bytes ++ save_code 1 0 ++ saves_code first saved) (take_code bytes passed start registers 0 parameters)
+    (three (frame_code refused bytes) (save_code 1 0) (saves_code first saved) (either (nat_lt bytes 2048) _ _ refl refl) (save_bare 1 0) (saves_bare first saved))
+    (take_bare bytes passed start registers 0 parameters)

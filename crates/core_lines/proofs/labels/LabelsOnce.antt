@@ -18,6 +18,7 @@ use Rattle.core_lines.specs.Operands.{call_code, return_code, prologue_code}
 use Rattle.core_lines.specs.Checks.{Failure, check_of, check_code, checked_code}
 use Rattle.core_lines.specs.Choosing.{choice_code, between_code, behind_code}
 use Rattle.core_lines.specs.Completing.{can_complete, can_complete_all, ends_in_return_all}
+use Rattle.core_lines.specs.Parameters.{parameter_registers}
 use Rattle.core_lines.specs.Saved.{results_in, results_all, live_at_start, saves_at}
 use Rattle.core_lines.specs.Selected.{operation_code, labels_in, labels_of, labels_within, holding, naming, names_after, names_after_all, within_block}
 use Rattle.core_lines.specs.Selected.{statement_code, statements_code, around, ended_code, function_code, functions_code, program_code}
@@ -210,10 +211,10 @@ record FunctionPlaces (number next : ℕ) (f : Function) (lines : List Line) : T
   pub within : All (λ label. (next ≤ label) × (label < next + labels_within f)) labels
   pub once : AreOnce (number ∷ labels)
 
-function_places : (wide : ℕ → Bool) (statics : List ℕ) (number next : ℕ) (f : Function) → number < next
-    → FunctionPlaces number next f (function_code wide statics number next f)
-function_places wide statics number next f less =
-    let prologue = prologue_code (frame_bytes f) f.passed (saved_slot f) (saved_by f) (live_at_start statics f) f.parameters in
+function_places : (wide : ℕ → Bool) (statics : List ℕ) (refused number next : ℕ) (f : Function) → number < next
+    → FunctionPlaces number next f (function_code wide statics refused number next f)
+function_places wide statics refused number next f less =
+    let prologue = prologue_code refused (frame_bytes f) f.passed (saved_slot f) (saved_by f) (live_at_start statics f) (parameter_registers f) f.parameters in
     let all = statements_code (saves_at statics f) (around wide statics next f) (next + 1) number number f.body in
     let returns = ends_in_return_all f.body in
     let body = ended_code returns all in
@@ -233,7 +234,7 @@ function_places wide statics number next f less =
     let one : labels_placed (front ++ body) ≡ number ∷ labels_placed body =
     labels_placed-append front body
     ∙ ap (λ ls. ls ++ labels_placed body) (labels_placed-append (Label number ∷ []) prologue
-    ∙ ap (λ ls. number ∷ ls) (prologue_none (frame_bytes f) f.passed (saved_slot f) (saved_by f) (live_at_start statics f) f.parameters)) in
+    ∙ ap (λ ls. number ∷ ls) (prologue_none refused (frame_bytes f) f.passed (saved_slot f) (saved_by f) (live_at_start statics f) (parameter_registers f) f.parameters)) in
     let two : labels_placed (((front ++ body) ++ (Label next ∷ [])) ++ leaves) ≡ number ∷ (labels_placed body ++ (next ∷ [])) =
     labels_placed-append ((front ++ body) ++ (Label next ∷ [])) leaves
     ∙ ap (λ ls. labels_placed ((front ++ body) ++ (Label next ∷ [])) ++ ls) (epilogue_none (frame_bytes f) (saved_slot f) (saved_by f))
@@ -256,14 +257,14 @@ function_places wide statics number next f less =
       );
     }
 
-functions_places : (wide : ℕ → Bool) (statics : List ℕ) (number next : ℕ) (fs : List Function) → number + length fs ≤ next
-    → PlacesOf number (number + length fs) next (functions_code wide statics number next fs)
-functions_places wide statics number next [] room = record { within = All-nil (IsOf number (number + 0) next); once = tt }
-functions_places wide statics number next (f ∷ fs) room =
-    let first = function_code wide statics number next f in
-    let others = functions_code wide statics (number + 1) (next + labels_within f) fs in
-    let p = function_places wide statics number next f (omega (arith, room)) in
-    let q = functions_places wide statics (number + 1) (next + labels_within f) fs (omega (arith, room)) in
+functions_places : (wide : ℕ → Bool) (statics : List ℕ) (refused number next : ℕ) (fs : List Function) → number + length fs ≤ next
+    → PlacesOf number (number + length fs) next (functions_code wide statics refused number next fs)
+functions_places wide statics refused number next [] room = record { within = All-nil (IsOf number (number + 0) next); once = tt }
+functions_places wide statics refused number next (f ∷ fs) room =
+    let first = function_code wide statics refused number next f in
+    let others = functions_code wide statics refused (number + 1) (next + labels_within f) fs in
+    let p = function_places wide statics refused number next f (omega (arith, room)) in
+    let q = functions_places wide statics refused (number + 1) (next + labels_within f) fs (omega (arith, room)) in
     let end = number + length (f ∷ fs) in
     let wide : ℕ → Type 0 = IsOf number end next in
     let is : labels_placed (first ++ others) ≡ (number ∷ p.labels) ++ labels_placed others =
@@ -302,4 +303,12 @@ functions_places wide statics number next (f ∷ fs) room =
 
 -- no label is placed twice
 pub program_labels_once : (wide : ℕ → Bool) (p : Program) → AreOnce (labels_placed (program_code wide p))
-program_labels_once wide p = (functions_places wide (data_offsets p.data_objects) 0 (length p.functions) p.functions (omega arith)).once
+program_labels_once wide p =
+    let n = length p.functions in
+    let lines = functions_code wide (data_offsets p.data_objects) n 0 (n + 1) p.functions in
+    let of_functions = functions_places wide (data_offsets p.data_objects) n 0 (n + 1) p.functions (omega arith) in
+    (All-weaker (IsOf 0 (0 + n) (n + 1)) (λ other. nat_eq n other ≡ false) (λ other h. apart n other h) (labels_placed lines) of_functions.within, of_functions.once)
+  where
+    apart : (n other : ℕ) → IsOf 0 (0 + n) (n + 1) other → nat_eq n other ≡ false
+    apart n other (inl h) = let r = h.1 in ne_eqb n other (λ e. omega (arith, e, r))
+    apart n other (inr h) = ne_eqb n other (λ e. omega (arith, e, h))

@@ -65,7 +65,7 @@ return_none passed hs ts exit = bare_targets (return_code passed hs ts exit) (re
 pub epilogue_none : (bytes first : ℕ) (saved : List ℕ) → targets (epilogue_code bytes first saved) ≡ []
 epilogue_none bytes first saved = bare_targets (epilogue_code bytes first saved) (epilogue_bare bytes first saved)
 
-pub prologue_none : (bytes passed first : ℕ) (saved : List ℕ) (start : List Bool) (parameters : ℕ)
-    → targets (prologue_code bytes passed first saved start parameters) ≡ []
-prologue_none bytes passed first saved start parameters =
-    bare_targets (prologue_code bytes passed first saved start parameters) (prologue_bare bytes passed first saved start parameters)
+pub prologue_none : (refused bytes passed first : ℕ) (saved : List ℕ) (start : List Bool) (registers : ℕ → ℕ) (parameters : ℕ)
+    → targets (prologue_code refused bytes passed first saved start registers parameters) ≡ []
+prologue_none refused bytes passed first saved start registers parameters =
+    bare_targets (prologue_code refused bytes passed first saved start registers parameters) (prologue_bare refused bytes passed first saved start registers parameters)

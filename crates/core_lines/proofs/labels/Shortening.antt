@@ -42,7 +42,7 @@ use Rattle.core_meaning.specs.Core.{
   KeyFree,
 }
 use Rattle.core_lines.specs.Lines.{AreOnce}
-use Rattle.core_lines.specs.Frames.{environment_code, raise_code, stack_start_code, epilogue_code}
+use Rattle.core_lines.specs.Frames.{environment_code, raise_code, stack_start_code, refusal_code, epilogue_code}
 use Rattle.core_lines.specs.Homes.{saved_by, saved_slot, flag_at}
 use Rattle.core_lines.specs.Held.{Source, Holding, held_behind, held_behind_all, source_of, result_register, same_as, comparison_of, null_source}
 use Rattle.core_lines.specs.declared.comparison.Comparison.{Comparison}
@@ -50,6 +50,7 @@ use Rattle.core_lines.specs.Operands.{test_in, test_ready, keep_code, call_code,
 use Rattle.core_lines.specs.Checks.{Failure, check_of, check_code, checked_code}
 use Rattle.core_lines.specs.Choosing.{far, jump_unless, choice_code, between_code, behind_code}
 use Rattle.core_lines.specs.Completing.{can_complete, can_complete_all, ends_in_return_all}
+use Rattle.core_lines.specs.Parameters.{parameter_registers}
 use Rattle.core_lines.specs.Saved.{results_in, results_all, live_at_start, saves_at}
 use Rattle.core_lines.specs.Selected.{Surroundings, frame_bytes, offsets_from, datum_locals, local_home, local_offset, immediate_for, has_operand, both_code}
 use Rattle.core_lines.specs.Selected.{number_in, keep_result, narrow_kept, null_kept, applied_kept, get_code, put_code, operation_code, labels_in, labels_of}
@@ -315,11 +316,11 @@ module _ (wide : ℕ → Bool) where
         if_short (can_complete s) (statements_code left (with_wide far v) (next + labels_in s) out again ss)
         (statements_code left (with_wide wide v) (next + labels_in s) out again ss) (statements_short left v (next + labels_in s) out again ss)
 
-  function_short : (statics : List ℕ) (number next : ℕ) (f : Function)
-      → shortened_to wide (function_code far statics number next f) ≡ function_code wide statics number next f
-  function_short statics number next f =
+  function_short : (statics : List ℕ) (refused number next : ℕ) (f : Function)
+      → shortened_to wide (function_code far statics refused number next f) ≡ function_code wide statics refused number next f
+  function_short statics refused number next f =
       let start = live_at_start statics f in
-      let front : List Line = (Label number ∷ []) ++ prologue_code (frame_bytes f) f.passed (saved_slot f) (saved_by f) start f.parameters in
+      let front : List Line = (Label number ∷ []) ++ prologue_code refused (frame_bytes f) f.passed (saved_slot f) (saved_by f) start (parameter_registers f) f.parameters in
       let leaves = epilogue_code (frame_bytes f) (saved_slot f) (saved_by f) in
       let exit : List Line = Label next ∷ [] in
       let returns = ends_in_return_all f.body in
@@ -328,25 +329,26 @@ module _ (wide : ℕ → Bool) where
       let a' = ended_code returns (statements_code (saves_at statics f) (around wide statics next f) (next + 1) number number f.body) in
       both ((front ++ a) ++ exit) leaves ((front ++ a') ++ exit) leaves
       (both (front ++ a) exit (front ++ a') exit
-      (both front a front a' (no_targets_stay wide front (prologue_none (frame_bytes f) f.passed (saved_slot f) (saved_by f) start f.parameters))
+      (both front a front a' (no_targets_stay wide front (prologue_none refused (frame_bytes f) f.passed (saved_slot f) (saved_by f) start (parameter_registers f) f.parameters))
       (ended_short wide returns all
       ∙ ap (λ ls. ended_code returns ls) (statements_short (saves_at statics f) (around wide statics next f) (next + 1) number number f.body))) refl)
       (no_targets_stay wide leaves (epilogue_none (frame_bytes f) (saved_slot f) (saved_by f)))
 
-  functions_short : (statics : List ℕ) (number next : ℕ) (fs : List Function)
-      → shortened_to wide (functions_code far statics number next fs) ≡ functions_code wide statics number next fs
-  functions_short statics number next [] = refl
-  functions_short statics number next (f ∷ fs) =
-      both (function_code far statics number next f) (functions_code far statics (number + 1) (next + labels_within f) fs)
-      (function_code wide statics number next f) (functions_code wide statics (number + 1) (next + labels_within f) fs) (function_short statics number next f)
-      (functions_short statics (number + 1) (next + labels_within f) fs)
+  functions_short : (statics : List ℕ) (refused number next : ℕ) (fs : List Function)
+      → shortened_to wide (functions_code far statics refused number next fs) ≡ functions_code wide statics refused number next fs
+  functions_short statics refused number next [] = refl
+  functions_short statics refused number next (f ∷ fs) =
+      both (function_code far statics refused number next f) (functions_code far statics refused (number + 1) (next + labels_within f) fs)
+      (function_code wide statics refused number next f) (functions_code wide statics refused (number + 1) (next + labels_within f) fs) (function_short statics refused number next f)
+      (functions_short statics refused (number + 1) (next + labels_within f) fs)
 
   program_short : (p : Program) → shortened_to wide (program_code far p) ≡ program_code wide p
   program_short p =
-      let stub : List Line = stack_start_code ++ (CallTo p.main ∷ []) ++ environment_code 0 in
+      let n = length p.functions in
+      let stub : List Line = stack_start_code ++ (CallTo p.main ∷ []) ++ environment_code 0 ++ (Label n ∷ []) ++ refusal_code in
       let statics = offsets_from 0 (datum_locals p.data_objects) in
-      both stub (functions_code far statics 0 (length p.functions) p.functions) stub (functions_code wide statics 0 (length p.functions) p.functions) refl
-      (functions_short statics 0 (length p.functions) p.functions)
+      both stub (functions_code far statics n 0 (n + 1) p.functions) stub (functions_code wide statics n 0 (n + 1) p.functions) refl
+      (functions_short statics n 0 (n + 1) p.functions)
 
 -- However the conditional jumps of a program's lines are placed, a machine that begins with the lines so placed does what the program does.
 pub shortened_do_as_core : (p : Program) → IsSelectable p → (ws : List Bool) → length ws ≡ length (program_code far p) → DoesAsCore p

@@ -18,6 +18,7 @@ use Rattle.core_lines.specs.Operands.{call_code, return_code, prologue_code}
 use Rattle.core_lines.specs.Checks.{Failure, check_of, check_code, checked_code}
 use Rattle.core_lines.specs.Choosing.{choice_code, between_code, behind_code}
 use Rattle.core_lines.specs.Completing.{can_complete, can_complete_all, ends_in_return_all}
+use Rattle.core_lines.specs.Parameters.{parameter_registers}
 use Rattle.core_lines.specs.Saved.{results_in, results_all, live_at_start, saves_at}
 use Rattle.core_lines.specs.Selected.{operation_code, labels_in, labels_of, labels_within, holding, naming, names_after, names_after_all, within_block}
 use Rattle.core_lines.specs.Selected.{statement_code, statements_code, around, ended_code, function_code, functions_code, program_code}
@@ -180,12 +181,12 @@ mutual
 
 -- ---- functions
 
-function_targets : (wide : ℕ → Bool) (statics : List ℕ) (number next : ℕ) (f : Function)
-    → TargetsFrom (next + 1) (next + labels_within f) (function_code wide statics number next f)
-function_targets wide statics number next f =
+function_targets : (wide : ℕ → Bool) (statics : List ℕ) (refused number next : ℕ) (f : Function)
+    → TargetsFrom (next + 1) (next + labels_within f) (function_code wide statics refused number next f)
+function_targets wide statics refused number next f =
     let low = next + 1 in
     let high = next + labels_within f in
-    let prologue = prologue_code (frame_bytes f) f.passed (saved_slot f) (saved_by f) (live_at_start statics f) f.parameters in
+    let prologue = prologue_code refused (frame_bytes f) f.passed (saved_slot f) (saved_by f) (live_at_start statics f) (parameter_registers f) f.parameters in
     let all = statements_code (saves_at statics f) (around wide statics next f) (next + 1) number number f.body in
     let returns = ends_in_return_all f.body in
     let body = ended_code returns all in
@@ -195,7 +196,7 @@ function_targets wide statics number next f =
     let leaves = epilogue_code (frame_bytes f) (saved_slot f) (saved_by f) in
     let front : List Line = (Label number ∷ []) ++ prologue in
     let a : TargetsFrom low high (front ++ body) =
-    join low high (none_from low low front (prologue_none (frame_bytes f) f.passed (saved_slot f) (saved_by f) (live_at_start statics f) f.parameters))
+    join low high (none_from low low front (prologue_none refused (frame_bytes f) f.passed (saved_slot f) (saved_by f) (live_at_start statics f) (parameter_registers f) f.parameters))
     (record {
       within = subst (λ ls. All (λ label. (next + 1 ≤ label) × (label < next + 1 + labels_of f.body)) ls) (sym as_many) of_all.within;
       once = subst AreOnce (sym as_many) of_all.once;
@@ -211,14 +212,14 @@ abbrev labels_in_all : List Function → ℕ
 labels_in_all [] = 0
 labels_in_all (f ∷ fs) = labels_within f + labels_in_all fs
 
-functions_targets : (wide : ℕ → Bool) (statics : List ℕ) (number next : ℕ) (fs : List Function)
-    → TargetsFrom next (next + labels_in_all fs) (functions_code wide statics number next fs)
-functions_targets wide statics number next [] = none_from next (next + 0) [] refl
-functions_targets wide statics number next (f ∷ fs) =
-    join next (next + (labels_within f + labels_in_all fs)) (function_targets wide statics number next f)
-    (functions_targets wide statics (number + 1) (next + labels_within f) fs)
+functions_targets : (wide : ℕ → Bool) (statics : List ℕ) (refused number next : ℕ) (fs : List Function)
+    → TargetsFrom next (next + labels_in_all fs) (functions_code wide statics refused number next fs)
+functions_targets wide statics refused number next [] = none_from next (next + 0) [] refl
+functions_targets wide statics refused number next (f ∷ fs) =
+    join next (next + (labels_within f + labels_in_all fs)) (function_targets wide statics refused number next f)
+    (functions_targets wide statics refused (number + 1) (next + labels_within f) fs)
     (omega arith) (omega arith) (omega arith) (omega arith) (inl (omega arith))
 
 -- no two conditional jumps of a program go to one label
 pub program_targets_once : (wide : ℕ → Bool) (p : Program) → AreOnce (targets (program_code wide p))
-program_targets_once wide p = (functions_targets wide (data_offsets p.data_objects) 0 (length p.functions) p.functions).once
+program_targets_once wide p = (functions_targets wide (data_offsets p.data_objects) (length p.functions) 0 (length p.functions + 1) p.functions).once

@@ -291,10 +291,10 @@ goes_nowhere w R active most c none = record {
   };
 }
 
--- by three steps more at most the machine stops because the stack is too short
+-- by four steps more at most the machine stops because the stack is too short
 pub record Full (w : World) (most : ℕ) (s : Machine) : Type 0 where
   pub count : ℕ
-  pub within : count ≤ most + 3
+  pub within : count ≤ most + 4
   pub last : Machine
   pub moves : Moves w.areas count s last
   pub over : last.mode ≡ Over (Stop.Exhausted)
@@ -309,13 +309,13 @@ record IsFull (w : World) (count : ℕ) (start : Run) : Type 0 where
   pub unasked : last.refused ≡ None
 
 is_full : (w : World) (most more : ℕ) (s : Machine) → Full w most s → (input : List ℕ) (answers : ℕ → Answer)
-    → IsFull w (most + more + 3) (run_from s input answers)
+    → IsFull w (most + more + 4) (run_from s input answers)
 is_full w most more s full input answers =
     let n = w.areas in
     let start = run_from s input answers in
     let last = run_from full.last input answers in
-    let rest = most + more + 3 - full.count in
-    let longer : full.count ≤ most + more + 3 = omega (arith, full.within) in
+    let rest = most + more + 4 - full.count in
+    let longer : full.count ≤ most + more + 4 = omega (arith, full.within) in
     let moved : run_steps n full.count start ≡ last = full.moves.moved input answers [] in
     record {
       last = last;
@@ -348,8 +348,8 @@ goes_entered w R R' active most f count d enters goes = record { at = by }
               let full = is_full w count l.count s x.0 input answers in
               inr (record {
                 last = full.last;
-                soon = sym (run_more w.areas (count + l.count) 3 (run_from s input answers)) ∙ full.ends;
-                lawful = (lawful_parts w.areas (count + l.count) 3 (run_from s input answers) full.lawful).1;
+                soon = sym (run_more w.areas (count + l.count) 4 (run_from s input answers)) ∙ full.ends;
+                lawful = (lawful_parts w.areas (count + l.count) 4 (run_from s input answers) full.lawful).1;
                 why = NoStack;
                 over = full.over;
                 refused = full.unasked;
@@ -367,6 +367,6 @@ goes_entered w R R' active most f count d enters goes = record { at = by }
           lawful = λ s answers r. ⊎_elim
               (λ (x : Reach w.areas count R' s). lawful_after w R' active count l.count s x.next input answers x.moves (l.lawful x.next answers x.there))
               (λ (x : Full w count s × (w.areas.stack < frames w.bound (w.names f ∷ active))).
-              (lawful_parts w.areas (count + l.count) 3 (run_from s input answers) (is_full w count l.count s x.0 input answers).lawful).0)
+              (lawful_parts w.areas (count + l.count) 4 (run_from s input answers) (is_full w count l.count s x.0 input answers).lawful).0)
               (enters s r);
         }

@@ -18,7 +18,7 @@ use Rattle.core_lines.specs.declared.line.Line.{Line}
 use Rattle.core_lines.specs.Lines.{HasLines, IsPlace}
 use Rattle.core_lines.specs.Homes.{is_among, saved_slot, saved_by, flag_at}
 use Rattle.core_lines.specs.Selected.{nth}
-use Rattle.core_lines.specs.Frames.{epilogue_code}
+use Rattle.core_lines.specs.Frames.{epilogue_code, refusal_code}
 use Rattle.core_lines.specs.Machines.{Machine, run_of, run_from}
 use Rattle.core_lines.specs.Lies.{Maps, Shows, Zone, Activation, HomesLie, Fits, Known, HoldsBlocks, Stacked}
 use Rattle.core_lines.specs.Running.{named, core_run}
@@ -74,8 +74,9 @@ pub record World : Type 0 where
   -- the label where each ends, and the labels that a branch may not reach
   pub exits : ℕ → ℕ
   pub wide : ℕ → Bool
-  -- where the first call returns to
+  -- where the first call returns to, and the label where frames are refused
   pub stub : ℕ
+  pub refused : ℕ
   -- the offset of each object of the data
   pub data_offsets : List ℕ
 
@@ -86,11 +87,11 @@ pub record Led (w : World) (r : Run) (o : Outcome Event) : Type 0 where
   pub events : r.events ≡ visible (named w.names o.events)
   pub ends : IsAt o.ending r.state.mode
 
--- Or it is cut by three steps more, where these functions are active: a run that is refused the stack takes up to three more than one that enters a function.
+-- Or it is cut by four steps more, where these functions are active: a run that is refused the stack takes up to four more than one that enters a function.
 pub record Cut (w : World) (active : List (List ℕ)) (r : Run) (o : Outcome Event) : Type 0 where
   pub last : Run
-  pub soon : run_steps w.areas 3 r ≡ last
-  pub lawful : AreLawful w.areas 3 r
+  pub soon : run_steps w.areas 4 r ≡ last
+  pub lawful : AreLawful w.areas 4 r
   pub why : Cause
   pub over : last.state.mode ≡ Over (stop_of why)
   pub refused : last.refused ≡ refused_of why
@@ -357,6 +358,7 @@ pub record IsInOrder (w : World) : Type 0 where
   pub pages_within : w.areas.pages ≤ 4096
   pub labels : (label : ℕ) → IsPlace (w.places label)
   pub stub_place : IsPlace w.stub
+  pub refusal : Has w (w.places w.refused) refusal_code
   -- a frame that is no larger than the longest stack has room for its slots
   pub frames : (f : ℕ) (fn : Function) → slice_get w.functions f ≡ Some fn → w.frame_bytes f ≤ longest_stack → 4 * slots_in fn ≤ w.frame_bytes f
   pub even : (f : ℕ) → w.frame_bytes f % 16 ≡ 0

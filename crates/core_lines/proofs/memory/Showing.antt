@@ -90,8 +90,8 @@ pub led_shown : (w : World) (active : List (List ℕ)) (e : events.Event) (r : R
 led_shown w active e r o (inl l) = inl (record { events = ap (λ es. e ∷ es) l.events; ends = l.ends })
 led_shown w active e r o (inr l) = let k = l.cut in inr (record {
   last = shown_first e l.last;
-  soon = run_later w.areas e 3 r ∙ ap (shown_first e) l.soon;
-  lawful = lawful_later w.areas e 3 r l.lawful;
+  soon = run_later w.areas e 4 r ∙ ap (shown_first e) l.soon;
+  lawful = lawful_later w.areas e 4 r l.lawful;
   why = l.why;
   over = l.over;
   refused = l.refused;

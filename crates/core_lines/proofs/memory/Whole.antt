@@ -156,8 +156,8 @@ module _ (w : World) (s : Machine) (input : List ℕ) (bytes : AreBytes input) (
   cut_ending : (fuel : ℕ) (r : Run) (x : Cut w [] r (meant fuel)) → ending_of x.last ≡ ending_in (Over (stop_of x.why)) (refused_of x.why)
   cut_ending fuel r x = ap (λ (m : Mode). ending_in m x.last.refused) x.over ∙ ap (ending_in (Over (stop_of x.why))) x.refused
 
-  cut_at : (answers : ℕ → Answer) (fuel : ℕ) (x : Cut w [] (ran answers (leads fuel).count) (meant fuel)) → ran answers ((leads fuel).count + 3) ≡ x.last
-  cut_at answers fuel x = run_more w.areas (leads fuel).count 3 (run_from s input answers) ∙ x.soon
+  cut_at : (answers : ℕ → Answer) (fuel : ℕ) (x : Cut w [] (ran answers (leads fuel).count) (meant fuel)) → ran answers ((leads fuel).count + 4) ≡ x.last
+  cut_at answers fuel x = run_more w.areas (leads fuel).count 4 (run_from s input answers) ∙ x.soon
 
   -- so many steps agree and are lawful; and where there are fewer than units of fuel, the run is over
   record Agreeing (answers : ℕ → Answer) (fuel : ℕ) : Type 0 where
@@ -182,12 +182,12 @@ module _ (w : World) (s : Machine) (input : List ℕ) (bytes : AreBytes input) (
       let es = named w.names (meant fuel).events in
       let is = cut_at answers fuel x in
       record {
-        count = (leads fuel).count + 3;
+        count = (leads fuel).count + 4;
         agrees = subst (λ (r : Run). AgreesWith r fuel) (sym is)
             (subst (λ (m : MachineEnding). AgreesIn w.bound w.areas m x.last.events es (meant fuel).ending)
             (sym (cut_ending fuel (ran answers (leads fuel).count) x))
             (agrees_cut w.bound w.areas x.why x.last.events es (meant fuel).ending x.cut));
-        lawful = lawful_more w.areas (leads fuel).count 3 (run_from s input answers) ((leads fuel).lawful s answers there) x.lawful;
+        lawful = lawful_more w.areas (leads fuel).count 4 (run_from s input answers) ((leads fuel).lawful s answers there) x.lawful;
         over = λ less. record { why = stop_of x.why; over = ap (λ (r : Run). r.state.mode) is ∙ x.over };
       }
 
@@ -199,16 +199,16 @@ module _ (w : World) (s : Machine) (input : List ℕ) (bytes : AreBytes input) (
       let o = k.over less in
       later w.areas (run_from s input answers) k.count count within ∙ over_steps w.areas (count - k.count) (ran answers k.count) o.why o.over
 
-  -- three steps later what is led has come as far
-  reaches : (answers : ℕ → Answer) (fuel : ℕ) → Reaches (ran answers ((leads fuel).count + 3)) meaning fuel
+  -- four steps later what is led has come as far
+  reaches : (answers : ℕ → Answer) (fuel : ℕ) → Reaches (ran answers ((leads fuel).count + 4)) meaning fuel
   reaches answers fuel =
       let r = ran answers (leads fuel).count in
       let es = visible (named w.names (meant fuel).events) in
       ⊎_elim
       (λ (l : Led w r (meant fuel)).
-      subst (λ (q : Run). Reaches q meaning fuel) (sym (run_more w.areas (leads fuel).count 3 (run_from s input answers))) (inr (
-        subst (λ shown. IsBeginning shown (run_steps w.areas 3 r).events) l.events (steps_show w.areas 3 r),
-        ends_later w.areas 3 (meant fuel).ending r es l.ends l.events,
+      subst (λ (q : Run). Reaches q meaning fuel) (sym (run_more w.areas (leads fuel).count 4 (run_from s input answers))) (inr (
+        subst (λ shown. IsBeginning shown (run_steps w.areas 4 r).events) l.events (steps_show w.areas 4 r),
+        ends_later w.areas 4 (meant fuel).ending r es l.ends l.events,
       )))
       (λ (x : Cut w [] r (meant fuel)).
       inl (ap (λ (q : Run). is_cut_short (ending_of q)) (cut_at answers fuel x) ∙ ap is_cut_short (cut_ending fuel r x) ∙ cut_short x.why))
@@ -233,9 +233,9 @@ module _ (w : World) (s : Machine) (input : List ℕ) (bytes : AreBytes input) (
               (cases_lt k.count count)),
         );
         each_fuel = λ fuel. (
-          (leads fuel).count + 3,
+          (leads fuel).count + 4,
           λ answers.
-              subst (λ (q : Run). Reaches (run_steps w.areas ((leads fuel).count + 3) q) meaning fuel) (sym (start answers)) (reaches answers fuel),
+              subst (λ (q : Run). Reaches (run_steps w.areas ((leads fuel).count + 4) q) meaning fuel) (sym (start answers)) (reaches answers fuel),
         );
         lawful = λ answers count.
             subst (λ (q : Run). IsLawful w.areas (run_steps w.areas count q)) (sym (start answers))

@@ -66,8 +66,8 @@ goes_asked w R R' active most e d asks lawful goes = record { at = by }
               subst (λ (q : Run). Led w q (after (Visible e) o) ⊎ Cut w active q (after (Visible e) o)) (sym whole)
               (inr (record {
                 last = x.last;
-                soon = over_steps n 3 x.last (stop_of x.why) x.over;
-                lawful = over_lawful n 3 x.last (stop_of x.why) x.over;
+                soon = over_steps n 4 x.last (stop_of x.why) x.over;
+                lawful = over_lawful n 4 x.last (stop_of x.why) x.over;
                 why = x.why;
                 over = x.over;
                 refused = x.refused;

@@ -1,7 +1,9 @@
-use Rattle.std.proofs.Common.{◌++◌, ap, reverse, sym, ◌∙◌}
+use Rattle.std.proofs.Common.{ℕ, List, [], ◌++◌, ap, reverse, sym, ◌∙◌}
 use Rattle.std.proofs.lemmas.List.{reverse-reverse}
 use Rattle.cyc_core.specs.Trees.{function_tree, body_tree}
+use Rattle.core_lines.specs.Held.{Holding, with_taken}
 use Rattle.core_lines.specs.Homes.{homes_in}
+use Rattle.core_lines.specs.Parameters.{parameter_register}
 use Rattle.core_lines.specs.Saved.{live_of, saves_of, taken_in}
 use Rattle.core_lines.specs.Selected.{Surroundings, holding, naming}
 use Rattle.rv32_select.specs.Places.{surroundings}
@@ -12,10 +14,11 @@ returns-clause-place c =
     let u = surroundings c.args.place.now in
     let f = function_tree c.args.function.now in
     let is = c.requires.place in
-    let left = surroundings c.live_statements.new.place in
+    let taken : List ℕ → List Holding = λ hs. with_taken (parameter_register hs f.body) 0 f.parameters [] in
+    let homes = c.live_statements.new.place.homes.items in
     c.in_ok-begin_again.ensures.place
-    ∙ ap (λ (v : Surroundings). holding (taken_in f) (naming c.live_statements.new.place.homes.items v)) c.in_ok-live_statements.ensures.same
-    ∙ ap (λ hs. holding (taken_in f) (naming hs u)) (c.in_ok-live_statements.ensures.homes ∙ c.requires.homes)
+    ∙ ap (λ (v : Surroundings). holding (taken homes) (naming homes v)) c.in_ok-live_statements.ensures.same
+    ∙ ap (λ hs. holding (taken hs) (naming hs u)) (c.in_ok-live_statements.ensures.homes ∙ c.requires.homes)
     ∙ ap (λ (v : Surroundings). holding (taken_in f) (naming (homes_in f) v)) is
     ∙ sym is
 
@@ -40,3 +43,6 @@ returns-clause-live c =
     let live = c.in_ok-live.ensures in
     c.in_ok-live_statements.ensures.live
     ∙ (λ i. live_of ((is i).homes) ((is i).statics) ((is i).names) ((is i).held) (live i) (out i) (again i) (body i))
+
+pub returns-clause-homes : goal.returns-clause-homes
+returns-clause-homes c = c.in_ok-begin_again.ensures.homes ∙ c.in_ok-live_statements.ensures.homes

@@ -12,6 +12,7 @@ pub mod regions
 pub mod Streams
 pub mod Tests
 mod TestSamples
+mod NumberSamples
 pub mod labels
 pub mod Programs
 pub mod EachFunction
@@ -26,6 +27,7 @@ pub mod Checking
 pub mod Loads
 pub mod Live
 pub mod DoesAsCore
+pub mod CodeLengths
 pub mod OperationLengths
 pub mod Lengths
 pub mod Promised

@@ -1,4 +1,6 @@
+pub mod Serving
 pub mod Holding
+pub mod NumberVerdicts
 pub mod Standing
 pub mod Registers
 pub mod Judging
@@ -10,6 +12,7 @@ pub mod Reaching
 pub mod Writing
 pub mod Operations
 pub mod Computing
+pub mod NumberSides
 pub mod Applying
 pub mod Parts
 pub mod Products

@@ -32,6 +32,7 @@ mod loads;
 mod locals;
 mod marks;
 mod memory;
+mod numbered;
 mod operands;
 mod operation;
 mod place;

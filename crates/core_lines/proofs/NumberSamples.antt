@@ -4,7 +4,6 @@ use Rattle.core_meaning.specs.Core.{Add, NotEqual, Less, LessEqualUnsigned, Cons
 use Rattle.cyc_words.specs.declared.faults.Kind.TheVariants.{ArrayBounds}
 use Rattle.rv32_isa.specs.declared.instruction.Instr.TheVariants.{Lui, Addi, Ecall, Slt, Slti, Xori, Blt, Bge}
 use Rattle.core_lines.specs.declared.comparison.Comparison.{Comparison}
-use Rattle.core_lines.specs.declared.comparison.NumberComparison.{NumberComparison}
 use Rattle.core_lines.specs.declared.comparison.Condition.{Condition}
 use Rattle.core_lines.specs.declared.comparison.Condition.TheVariants as condition
 use Rattle.core_lines.specs.declared.line.Line.TheVariants.{Plain, BranchUnless}

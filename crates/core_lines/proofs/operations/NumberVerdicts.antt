@@ -1,6 +1,6 @@
 -- What the code does that makes a word of a comparison with a number.
 use Rattle.std.specs.Prelude.{nat_eq, nat_lt, ◌&&◌, bit_xor, if◌then◌else◌}
-use Rattle.std.proofs.Common.{◌≡◌, ℕ, suc, pos, ◌+◌, ◌/◌, ◌^◌, ◌<◌, ⊎_elim, Bool, true, false, List, [], ◌∷◌, ◌++◌, refl, sym, ap, subst, ◌∙◌, arith}
+use Rattle.std.proofs.Common.{◌≡◌, ℕ, suc, pos, ◌+◌, ◌/◌, ◌^◌, ◌<◌, ⊎_elim, Bool, true, false, List, ◌++◌, refl, sym, ap, subst, ◌∙◌, arith}
 use Rattle.std.proofs.lemmas.Bool.{eq-eqb, eqb-true}
 use Rattle.cyc_words.specs.Words.{word, sum_of, difference_of}
 use Rattle.rv32_isa.specs.declared.instruction.Instr.TheVariants.{Addi, Slti, Sltu, Sltiu, Xori}

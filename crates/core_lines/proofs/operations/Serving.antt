@@ -1,5 +1,4 @@
 -- Which temporaries that code uses are saved: those of which it isn't known where else their words are.
-use Rattle.std.specs.Prelude.{◌||◌}
 use Rattle.std.proofs.Common.{◌≡◌, ℕ, ⊎_elim, Bool, true, false, List, [], ◌∷◌, Option, Some, None, subst}
 use Rattle.core_lines.specs.Held.{Source, Holding, source_of}
 use Rattle.core_lines.specs.Homes.{flag_at}

@@ -12,7 +12,8 @@ use Rattle.core_lines.specs.declared.line.Line.TheVariants.{Plain, Label, Jump, 
 use Rattle.core_lines.specs.Lines.{code_length}
 use Rattle.core_lines.specs.Frames.{is_short, slot_of, load_code, save_code, environment_code, stack_start_code, refusal_code, frame_code, saves_code}
 use Rattle.core_lines.specs.Frames.{epilogue_code, raise_code}
-use Rattle.core_lines.specs.Held.{Source, Register, Number, Compared, Holding, source_of, number_in, without_register, held_behind, held_behind_all}
+use Rattle.core_lines.specs.Held.{Source, Register, Number, Compared, ComparedWith, Holding, source_of, number_in, without_register, held_behind}
+use Rattle.core_lines.specs.Held.{held_behind_all}
 use Rattle.core_lines.specs.Operands.{operand_in, operand_code, into_code, keep_code, pass_code, result_code, values_code, return_code}
 use Rattle.core_lines.specs.Operands.{test_in, ready_code, test_ready, take_code, prologue_code}
 use Rattle.core_lines.specs.Checks.{Failure, Always, ByTest, check_of, either_code, failure_code, tested_code, check_code, checked_code}
@@ -35,12 +36,12 @@ use Rattle.core_lines.proofs.Straight.{first_either, later_either}
 
 -- ---- statements
 
-pass_within : (passed : ℕ) (hs : List Holding) (k : ℕ) (ts : List ℕ) → IsWithin (24 * length ts) (pass_code passed hs k ts)
+pass_within : (passed : ℕ) (hs : List Holding) (k : ℕ) (ts : List ℕ) → IsWithin (28 * length ts) (pass_code passed hs k ts)
 pass_within passed hs k [] = nothing_within 0
 pass_within passed hs k (t ∷ ts) =
-    less_within (24 + 24 * length ts) (24 * length (t ∷ ts)) _ (omega arith)
-    (both_within 24 (24 * length ts) (operand_code passed hs 5 t ++ save_code (operand_in hs 5 t) (1 + k)) (pass_code passed hs (k + 1) ts)
-    (both_within 12 12 (operand_code passed hs 5 t) (save_code (operand_in hs 5 t) (1 + k)) (operand_within passed hs 5 t)
+    less_within (28 + 28 * length ts) (28 * length (t ∷ ts)) _ (omega arith)
+    (both_within 28 (28 * length ts) (operand_code passed hs 5 t ++ save_code (operand_in hs 5 t) (1 + k)) (pass_code passed hs (k + 1) ts)
+    (both_within 16 12 (operand_code passed hs 5 t) (save_code (operand_in hs 5 t) (1 + k)) (operand_within passed hs 5 t)
     (save_within (operand_in hs 5 t) (1 + k)))
     (pass_within passed hs (k + 1) ts))
 
@@ -51,19 +52,19 @@ result_within flags passed r (t ∷ ts) =
     (both_within 12 (12 * length ts) (keep_code (flag_at flags 0) passed (suc r) t) (result_code (drop 1 flags) passed (suc r) ts)
     (keep_within (flag_at flags 0) passed (suc r) t) (result_within (drop 1 flags) passed (suc r) ts))
 
-values_within : (passed : ℕ) (hs : List Holding) (r : ℕ) (ts : List ℕ) → IsWithin (12 * length ts) (values_code passed hs r ts)
+values_within : (passed : ℕ) (hs : List Holding) (r : ℕ) (ts : List ℕ) → IsWithin (16 * length ts) (values_code passed hs r ts)
 values_within passed hs r [] = nothing_within 0
 values_within passed hs r (t ∷ ts) =
     let others = without_register (suc r) hs in
-    less_within (12 + 12 * length ts) (12 * length (t ∷ ts)) _ (omega arith)
-    (both_within 12 (12 * length ts) (into_code passed hs (suc r) t) (values_code passed others (suc r) ts) (into_within passed hs (suc r) t)
+    less_within (16 + 16 * length ts) (16 * length (t ∷ ts)) _ (omega arith)
+    (both_within 16 (16 * length ts) (into_code passed hs (suc r) t) (values_code passed others (suc r) ts) (into_within passed hs (suc r) t)
     (values_within passed others (suc r) ts))
 
 -- a return counts for 64 bytes and 64 for each word: it has fewer
 return_within : (passed : ℕ) (hs : List Holding) (ts : List ℕ) (exit : ℕ) → IsWithin (64 * (1 + length ts)) (return_code passed hs ts exit)
 return_within passed hs ts exit =
-    less_within (12 * length ts + 4) (64 * (1 + length ts)) _ (omega arith)
-    (both_within (12 * length ts) 4 (values_code passed hs 9 ts) (Jump exit ∷ []) (values_within passed hs 9 ts) (record { is = omega arith }))
+    less_within (16 * length ts + 4) (64 * (1 + length ts)) _ (omega arith)
+    (both_within (16 * length ts) 4 (values_code passed hs 9 ts) (Jump exit ∷ []) (values_within passed hs 9 ts) (record { is = omega arith }))
 
 jump_within : (wide : ℕ → Bool) (comparison : Comparison) (label : ℕ) → IsWithin 8 (jump_unless wide comparison label ∷ [])
 jump_within wide comparison label = by (wide label)
@@ -119,6 +120,7 @@ test_four passed hs t = by (source_of hs t)
     by (Some (Register r)) = refl
     by (Some (Number n)) = four_if (is_short n) _ _ refl (four_if (nat_eq (n % 2 ^ 12) 0) _ _ refl refl)
     by (Some (Compared c)) = refl
+    by (Some (ComparedWith n)) = four_if (is_short n.number) _ _ refl (four_if (nat_eq (n.number % 2 ^ 12) 0) _ _ refl refl)
 
 either_four : (passed : ℕ) (hs : List Holding) (t : ℕ) (first second : Kind) (number : Option ℕ)
     → code_length (either_code passed hs t first second number) ≡ 4 * length (either_code passed hs t first second number)
@@ -202,10 +204,10 @@ mutual
   statement_within flags u next out again Break = record { is = omega arith }
   statement_within flags u next out again Continue = record { is = omega arith }
   statement_within flags u next out again (Call results number arguments) =
-      less_within (24 * length arguments + 4 + 12 * length results) (64 * (1 + (length results + length arguments))) _ (omega arith)
-      (both_within (24 * length arguments + 4) (12 * length results) (pass_code u.passed u.held 0 arguments ++ (CallTo number ∷ []))
+      less_within (28 * length arguments + 4 + 12 * length results) (64 * (1 + (length results + length arguments))) _ (omega arith)
+      (both_within (28 * length arguments + 4) (12 * length results) (pass_code u.passed u.held 0 arguments ++ (CallTo number ∷ []))
       (result_code flags u.passed 9 results)
-      (both_within (24 * length arguments) 4 (pass_code u.passed u.held 0 arguments) (CallTo number ∷ []) (pass_within u.passed u.held 0 arguments)
+      (both_within (28 * length arguments) 4 (pass_code u.passed u.held 0 arguments) (CallTo number ∷ []) (pass_within u.passed u.held 0 arguments)
       (record { is = omega arith })) (result_within flags u.passed 9 results))
   statement_within flags u next out again (Return values) = return_within u.passed u.held values u.exit
   statement_within flags u next out again (Raise kind) = record { is = omega arith }

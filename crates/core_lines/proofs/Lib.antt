@@ -12,6 +12,7 @@ pub mod regions
 pub mod Streams
 pub mod Tests
 mod TestSamples
+mod NumberSamples
 pub mod labels
 pub mod Programs
 pub mod EachFunction
@@ -28,6 +29,7 @@ pub mod Loads
 pub mod Live
 pub mod DoesAsCore
 pub mod Within
+pub mod CodeLengths
 pub mod OperationLengths
 pub mod Lengths
 pub mod Promised

@@ -9,26 +9,27 @@ use Rattle.core_meaning.specs.Core.{KeyOpen, KeyClose, KeyFree}
 use Rattle.rv32_isa.specs.declared.instruction.Instr.{Instr}
 use Rattle.rv32_isa.specs.declared.instruction.Instr.TheVariants as instr
 use Rattle.rv32_machine.specs.State.{data_base}
-use Rattle.core_lines.specs.declared.comparison.Condition.{Condition}
-use Rattle.core_lines.specs.declared.comparison.Condition.TheVariants as condition
 use Rattle.core_lines.specs.declared.comparison.Comparison.{Comparison}
+use Rattle.core_lines.specs.declared.comparison.NumberComparison.{NumberComparison}
 use Rattle.core_lines.specs.declared.line.Line.{Line}
 use Rattle.core_lines.specs.declared.line.Line.TheVariants.{Plain}
 use Rattle.core_lines.specs.Frames.{is_short, word_code, load_code, save_code, slot_of, environment_code}
 use Rattle.core_lines.specs.Loops.{are_words, copy_loop, clear_loop}
-use Rattle.core_lines.specs.Comparisons.{verdict_on, verdict_code}
-use Rattle.core_lines.specs.Held.{Source, Register, Number, Compared, Holding, source_of, is_zero, result_register, same_as, comparison_of}
+use Rattle.core_lines.specs.Held.{Source, Register, Number, Compared, ComparedWith, Holding, source_of, is_zero, result_register, same_as, comparison_of}
+use Rattle.core_lines.specs.Held.{number_comparison_of}
 use Rattle.core_lines.specs.Operands.{number_code, bring_code, operand_code, fetch_code, into_code, keep_code, number_kept}
-use Rattle.core_lines.specs.Operands.{verdict_kept, move_kept, ready_code, test_ready, stored_in, stored_code}
+use Rattle.core_lines.specs.Comparisons.{verdict_code}
+use Rattle.core_lines.specs.Operands.{numbered_code, verdict_kept, numbered_kept, move_kept, ready_code, test_ready, stored_in, stored_code}
 use Rattle.core_lines.specs.Selected.{Surroundings, nth, local_offset, local_home, from_temp, far_code, read_line, read_code, write_line, write_code}
 use Rattle.core_lines.specs.Selected.{binary_code, turned, immediate_code, immediate_for, operand, has_operand, both_code, apply_code, keep_result}
-use Rattle.core_lines.specs.Selected.{computed_kept, applied_kept, address_code, get_code, byte_code, put_code}
+use Rattle.core_lines.specs.Selected.{computed_kept, judged_kept, applied_kept, address_code, get_code, byte_code, put_code}
 use Rattle.core_lines.specs.Selected.{null_source, null_kept}
 use Rattle.core_lines.specs.Selected.{number_in, narrow_kept, exponent_of, times_code, element_code, bytes_code, further_code, bytes_in, operation_code}
 use Rattle.core_lines.specs.Selected.{argument_code, keep_answer}
 use Rattle.core_lines.specs.Straight.{straight_operation}
 use Rattle.core_meaning.specs.Bounds.{operation_count}
 pub use Rattle.core_lines.proofs.Within.{IsWithin, both_within, less_within, if_within, nothing_within}
+use Rattle.core_lines.proofs.CodeLengths.{number_within, verdict_within, numbered_within}
 
 -- ---- slots and words
 
@@ -37,24 +38,6 @@ load_within to k = if_within 12 (is_short (4 * k)) _ _ (record { is = omega arit
 
 pub save_within : (from k : ℕ) → IsWithin 12 (save_code from k)
 save_within from k = if_within 12 (is_short (4 * k)) _ _ (record { is = omega arith }) (record { is = omega arith })
-
-number_within : (to w : ℕ) → IsWithin 8 (number_code to w)
-number_within to w =
-    if_within 8 (is_short w) _ _ (record { is = omega arith })
-    (if_within 8 (nat_eq (w % 2 ^ 12) 0) _ (word_code to w) (record { is = omega arith }) (record { is = omega arith }))
-
-verdict_on_within : (c : Condition) (to left right : ℕ) → IsWithin 8 (verdict_on c to left right)
-verdict_on_within condition.Equal to left zero = record { is = omega arith }
-verdict_on_within condition.Equal to left (suc right) = record { is = omega arith }
-verdict_on_within condition.NotEqual to left zero = record { is = omega arith }
-verdict_on_within condition.NotEqual to left (suc right) = record { is = omega arith }
-verdict_on_within condition.Less to left right = record { is = omega arith }
-verdict_on_within condition.NotLess to left right = record { is = omega arith }
-verdict_on_within condition.LessUnsigned to left right = record { is = omega arith }
-verdict_on_within condition.NotLessUnsigned to left right = record { is = omega arith }
-
-verdict_within : (to : ℕ) (c : Comparison) → IsWithin 8 (verdict_code to c)
-verdict_within to c = verdict_on_within c.condition to c.left c.right
 
 address_within : (to w : ℕ) → IsWithin 12 (address_code to w)
 address_within to w = if_within 12 (is_short w) _ _ (record { is = omega arith }) (record { is = omega arith })
@@ -82,17 +65,18 @@ environment_within number = record { is = omega arith }
 
 -- ---- temporaries
 
-pub operand_within : (passed : ℕ) (hs : List Holding) (spare t : ℕ) → IsWithin 12 (operand_code passed hs spare t)
+pub operand_within : (passed : ℕ) (hs : List Holding) (spare t : ℕ) → IsWithin 16 (operand_code passed hs spare t)
 operand_within passed hs spare t = by (source_of hs t)
   where
-    by : (s : Option Source) → IsWithin 12 (bring_code passed spare t s)
-    by None = load_within spare (slot_of passed t)
-    by (Some (Register r)) = nothing_within 12
-    by (Some (Number w)) = less_within 8 12 _ (omega arith) (number_within spare w)
-    by (Some (Compared c)) = less_within 8 12 _ (omega arith) (verdict_within spare c)
+    by : (s : Option Source) → IsWithin 16 (bring_code passed spare t s)
+    by None = less_within 12 16 _ (omega arith) (load_within spare (slot_of passed t))
+    by (Some (Register r)) = nothing_within 16
+    by (Some (Number w)) = less_within 8 16 _ (omega arith) (number_within spare w)
+    by (Some (Compared c)) = less_within 8 16 _ (omega arith) (verdict_within spare c)
+    by (Some (ComparedWith n)) = numbered_within spare n
 
-stored_within : (passed : ℕ) (hs : List Holding) (spare t : ℕ) → IsWithin 12 (stored_code passed hs spare t)
-stored_within passed hs spare t = if_within 12 (is_zero (source_of hs t)) _ _ (nothing_within 12) (operand_within passed hs spare t)
+stored_within : (passed : ℕ) (hs : List Holding) (spare t : ℕ) → IsWithin 16 (stored_code passed hs spare t)
+stored_within passed hs spare t = if_within 16 (is_zero (source_of hs t)) _ _ (nothing_within 16) (operand_within passed hs spare t)
 
 pub test_within : (passed : ℕ) (hs : List Holding) (spare t : ℕ) → IsWithin 12 (test_ready passed hs spare t)
 test_within passed hs spare t = by (source_of hs t)
@@ -102,15 +86,17 @@ test_within passed hs spare t = by (source_of hs t)
     by (Some (Register r)) = nothing_within 12
     by (Some (Number w)) = less_within 8 12 _ (omega arith) (number_within spare w)
     by (Some (Compared c)) = nothing_within 12
+    by (Some (ComparedWith n)) = less_within 8 12 _ (omega arith) (number_within 7 n.number)
 
-pub into_within : (passed : ℕ) (hs : List Holding) (to t : ℕ) → IsWithin 12 (into_code passed hs to t)
+pub into_within : (passed : ℕ) (hs : List Holding) (to t : ℕ) → IsWithin 16 (into_code passed hs to t)
 into_within passed hs to t = by (source_of hs t)
   where
-    by : (s : Option Source) → IsWithin 12 (fetch_code passed to t s)
-    by None = load_within to (slot_of passed t)
-    by (Some (Register r)) = if_within 12 (nat_eq r to) _ _ (nothing_within 12) (record { is = omega arith })
-    by (Some (Number w)) = less_within 8 12 _ (omega arith) (number_within to w)
-    by (Some (Compared c)) = less_within 8 12 _ (omega arith) (verdict_within to c)
+    by : (s : Option Source) → IsWithin 16 (fetch_code passed to t s)
+    by None = less_within 12 16 _ (omega arith) (load_within to (slot_of passed t))
+    by (Some (Register r)) = if_within 16 (nat_eq r to) _ _ (nothing_within 16) (record { is = omega arith })
+    by (Some (Number w)) = less_within 8 16 _ (omega arith) (number_within to w)
+    by (Some (Compared c)) = less_within 8 16 _ (omega arith) (verdict_within to c)
+    by (Some (ComparedWith n)) = numbered_within to n
 
 pub keep_within : (keeps : Bool) (passed register t : ℕ) → IsWithin 12 (keep_code keeps passed register t)
 keep_within keeps passed register t = if_within 12 keeps _ _ (save_within register (slot_of passed t)) (nothing_within 12)
@@ -129,6 +115,13 @@ verdict_kept_within keeps passed t c =
     (both_within 8 12 (verdict_code 5 c) (save_code 5 (slot_of passed t)) (verdict_within 5 c) (save_within 5 (slot_of passed t))))
     (nothing_within 64)
 
+numbered_kept_within : (keeps : Bool) (passed t : ℕ) (n : NumberComparison) → IsWithin 64 (numbered_kept keeps passed t n)
+numbered_kept_within keeps passed t n =
+    if_within 64 keeps _ _
+    (less_within 28 64 _ (omega arith)
+    (both_within 16 12 (numbered_code 5 n) (save_code 5 (slot_of passed t)) (numbered_within 5 n) (save_within 5 (slot_of passed t))))
+    (nothing_within 64)
+
 move_within : (keeps : Bool) (passed own t x : ℕ) (s : Option Source) → IsWithin 64 (move_kept keeps passed own t x s)
 move_within keeps passed own t x None =
     less_within 24 64 _ (omega arith)
@@ -136,6 +129,7 @@ move_within keeps passed own t x None =
 move_within keeps passed own t x (Some (Register r)) = less_within 12 64 _ (omega arith) (keep_within keeps passed r t)
 move_within keeps passed own t x (Some (Number w)) = number_kept_within keeps passed t w
 move_within keeps passed own t x (Some (Compared c)) = verdict_kept_within keeps passed t c
+move_within keeps passed own t x (Some (ComparedWith n)) = numbered_kept_within keeps passed t n
 
 -- ---- operations on words
 
@@ -196,6 +190,7 @@ immediate_for_within o to left None = nothing_within 8
 immediate_for_within o to left (Some (Register r)) = nothing_within 8
 immediate_for_within o to left (Some (Number n)) = immediate_within o to left n
 immediate_for_within o to left (Some (Compared c)) = nothing_within 8
+immediate_for_within o to left (Some (ComparedWith n)) = nothing_within 8
 
 -- ---- operations
 
@@ -212,57 +207,62 @@ two_within : (u : Surroundings) (r t q v : ℕ) → IsWithin 24 (from_temp u r t
 two_within u r t q v = both_within 12 12 (from_temp u r t) (from_temp u q v) (from_within u r t) (from_within u q v)
 
 -- an operand is taken, and two are
-of_within : (u : Surroundings) (spare t : ℕ) → IsWithin 12 (operand u spare t)
+of_within : (u : Surroundings) (spare t : ℕ) → IsWithin 16 (operand u spare t)
 of_within u spare t = operand_within u.passed u.held spare t
 
-operands_within : (u : Surroundings) (x y : ℕ) → IsWithin 24 (operand u 5 x ++ operand u 6 y)
-operands_within u x y = both_within 12 12 (operand u 5 x) (operand u 6 y) (of_within u 5 x) (of_within u 6 y)
+operands_within : (u : Surroundings) (x y : ℕ) → IsWithin 32 (operand u 5 x ++ operand u 6 y)
+operands_within u x y = both_within 16 16 (operand u 5 x) (operand u 6 y) (of_within u 5 x) (of_within u 6 y)
 
 -- an operand, and what is done with it
-with_within : (n : ℕ) (u : Surroundings) (spare t : ℕ) (xs : List Line) → IsWithin n xs → IsWithin (12 + n) (operand u spare t ++ xs)
-with_within n u spare t xs h = both_within 12 n (operand u spare t) xs (of_within u spare t) h
+with_within : (n : ℕ) (u : Surroundings) (spare t : ℕ) (xs : List Line) → IsWithin n xs → IsWithin (16 + n) (operand u spare t ++ xs)
+with_within n u spare t xs h = both_within 16 n (operand u spare t) xs (of_within u spare t) h
 
-apply_within : (u : Surroundings) (o : Binary) (to x y : ℕ) → IsWithin 32 (apply_code u o to x y)
+apply_within : (u : Surroundings) (o : Binary) (to x y : ℕ) → IsWithin 40 (apply_code u o to x y)
 apply_within u o to x y =
     by (immediate_for o to (has_operand u 5 x) (source_of u.held y)) (immediate_for_within o to (has_operand u 5 x) (source_of u.held y))
   where
-    by : (s : Option (List Line)) → IsWithin 8 (if_some s) → IsWithin 32 (both_code u o to x y s)
+    by : (s : Option (List Line)) → IsWithin 8 (if_some s) → IsWithin 40 (both_code u o to x y s)
     by None h =
-        both_within 24 8 (operand u 5 x ++ operand u 6 y) (binary_code o to (has_operand u 5 x) (has_operand u 6 y)) (operands_within u x y)
+        both_within 32 8 (operand u 5 x ++ operand u 6 y) (binary_code o to (has_operand u 5 x) (has_operand u 6 y)) (operands_within u x y)
         (binary_within o to (has_operand u 5 x) (has_operand u 6 y))
-    by (Some lines) h = less_within 20 32 _ (omega arith) (with_within 8 u 5 x lines h)
+    by (Some lines) h = less_within 24 40 _ (omega arith) (with_within 8 u 5 x lines h)
 
 computed_within : (keeps : Bool) (u : Surroundings) (o : Binary) (t x y : ℕ) (compared : Option Comparison)
     → IsWithin 64 (computed_kept keeps u o t x y compared)
 computed_within keeps u o t x y None =
-    result_within 32 keeps u t (apply_code u o (result_register t) x y) (omega arith) (apply_within u o (result_register t) x y)
+    result_within 40 keeps u t (apply_code u o (result_register t) x y) (omega arith) (apply_within u o (result_register t) x y)
 computed_within keeps u o t x y (Some c) = verdict_kept_within keeps u.passed t c
 
-applied_within : (keeps : Bool) (u : Surroundings) (o : Binary) (t x y : ℕ) (same : Option ℕ) (compared : Option Comparison)
-    → IsWithin 64 (applied_kept keeps u o t x y same compared)
-applied_within keeps u o t x y None compared = computed_within keeps u o t x y compared
-applied_within keeps u o t x y (Some z) compared = move_within keeps u.passed (result_register t) t z (source_of u.held z)
+judged_within : (keeps : Bool) (u : Surroundings) (o : Binary) (t x y : ℕ) (told : Option NumberComparison) (compared : Option Comparison)
+    → IsWithin 64 (judged_kept keeps u o t x y told compared)
+judged_within keeps u o t x y None compared = computed_within keeps u o t x y compared
+judged_within keeps u o t x y (Some n) compared = numbered_kept_within keeps u.passed t n
+
+applied_within : (keeps : Bool) (u : Surroundings) (o : Binary) (t x y : ℕ) (same : Option ℕ) (told : Option NumberComparison) (compared : Option Comparison)
+    → IsWithin 64 (applied_kept keeps u o t x y same told compared)
+applied_within keeps u o t x y None told compared = judged_within keeps u o t x y told compared
+applied_within keeps u o t x y (Some z) told compared = move_within keeps u.passed (result_register t) t z (source_of u.held z)
 
 -- one whose result goes straight into a home
 pub straight_within : (keeps : Bool) (u : Surroundings) (home : ℕ) (o : Operation) → IsWithin (64 * operation_count o) (straight_operation keeps u home o)
 straight_within keeps u home (Apply o t x y) =
-    less_within 44 64 _ (omega arith)
-    (both_within 32 12 (apply_code u o home x y) (keep_code keeps u.passed home t) (apply_within u o home x y) (keep_within keeps u.passed home t))
+    less_within 52 64 _ (omega arith)
+    (both_within 40 12 (apply_code u o home x y) (keep_code keeps u.passed home t) (apply_within u o home x y) (keep_within keeps u.passed home t))
 straight_within keeps u home o = nothing_within _
 
 times_within : (exponent : Option ℕ) (left bytes : ℕ) → IsWithin 12 (times_code exponent left bytes)
 times_within None left bytes = both_within 8 4 (number_code 6 bytes) (Plain (instr.Mul 5 left 6) ∷ []) (number_within 6 bytes) (record { is = omega arith })
 times_within (Some exponent) left bytes = record { is = omega arith }
 
-element_within : (u : Surroundings) (to p i bytes : ℕ) → IsWithin 40 (element_code u to p i bytes)
+element_within : (u : Surroundings) (to p i bytes : ℕ) → IsWithin 48 (element_code u to p i bytes)
 element_within u to p i bytes =
     let product = operand u 5 i ++ times_code (exponent_of bytes) (has_operand u 5 i) bytes in
-    if_within 40 (nat_eq bytes 1) _ _
-    (less_within 28 40 _ (omega arith)
-    (both_within 24 4 (operand u 5 i ++ operand u 6 p) (Plain (instr.Add to (has_operand u 5 i) (has_operand u 6 p)) ∷ []) (operands_within u i p)
+    if_within 48 (nat_eq bytes 1) _ _
+    (less_within 36 48 _ (omega arith)
+    (both_within 32 4 (operand u 5 i ++ operand u 6 p) (Plain (instr.Add to (has_operand u 5 i) (has_operand u 6 p)) ∷ []) (operands_within u i p)
     (record { is = omega arith })))
-    (both_within 36 4 (product ++ operand u 6 p) (Plain (instr.Add to 5 (has_operand u 6 p)) ∷ [])
-    (both_within 24 12 product (operand u 6 p)
+    (both_within 44 4 (product ++ operand u 6 p) (Plain (instr.Add to 5 (has_operand u 6 p)) ∷ [])
+    (both_within 28 16 product (operand u 6 p)
     (with_within 12 u 5 i (times_code (exponent_of bytes) (has_operand u 5 i) bytes) (times_within (exponent_of bytes) (has_operand u 5 i) bytes))
     (of_within u 6 p)) (record { is = omega arith }))
 
@@ -275,7 +275,7 @@ clear_within true = record { is = omega arith }
 clear_within false = record { is = omega arith }
 
 -- a word into just one register
-just_within : (u : Surroundings) (register t : ℕ) → IsWithin 12 (into_code u.passed u.held register t)
+just_within : (u : Surroundings) (register t : ℕ) → IsWithin 16 (into_code u.passed u.held register t)
 just_within u register t = into_within u.passed u.held register t
 
 -- one part, and an answer of the environment
@@ -289,10 +289,10 @@ block_within : (keeps : Bool) (u : Surroundings) (t h n bytes : ℕ)
 block_within keeps u t h n bytes =
     let count = into_code u.passed u.held 5 n in
     let handle = argument_code u h in
-    less_within (24 + 28 + 8 + 12) 128 _ (omega arith)
-    (both_within (24 + 28 + 8) 12 (count ++ handle ++ bytes_code bytes ++ environment_code 5) (keep_answer keeps u t)
-    (both_within (24 + 28) 8 (count ++ handle ++ bytes_code bytes) (environment_code 5)
-    (both_within 24 28 (count ++ handle) (bytes_code bytes) (both_within 12 12 count handle (just_within u 5 n) (just_within u 10 h))
+    less_within (32 + 28 + 8 + 12) 128 _ (omega arith)
+    (both_within (32 + 28 + 8) 12 (count ++ handle ++ bytes_code bytes ++ environment_code 5) (keep_answer keeps u t)
+    (both_within (32 + 28) 8 (count ++ handle ++ bytes_code bytes) (environment_code 5)
+    (both_within 32 28 (count ++ handle) (bytes_code bytes) (both_within 16 16 count handle (just_within u 5 n) (just_within u 10 h))
     (record { is = omega arith })) (environment_within 5))
     (keep_within keeps u.passed 10 t))
 
@@ -304,31 +304,31 @@ get_within keeps u (suc h) t width offset = less_within 12 64 _ (omega arith) (k
 
 put_within : (u : Surroundings) (home width offset x : ℕ) → IsWithin 64 (put_code u home width offset x)
 put_within u zero width offset x =
-    less_within 24 64 _ (omega arith)
-    (both_within 12 12 (stored_code u.passed u.held 6 x) (write_code (stored_in u.held 6 x) width 2 offset) (stored_within u.passed u.held 6 x)
+    less_within 28 64 _ (omega arith)
+    (both_within 16 12 (stored_code u.passed u.held 6 x) (write_code (stored_in u.held 6 x) width 2 offset) (stored_within u.passed u.held 6 x)
     (write_within (stored_in u.held 6 x) width 2 offset))
 put_within u (suc h) width offset x =
-    less_within 16 64 _ (omega arith)
-    (if_within 16 (nat_eq width 1) (byte_code u (suc h) x) (into_code u.passed u.held (suc h) x)
+    less_within 20 64 _ (omega arith)
+    (if_within 20 (nat_eq width 1) (byte_code u (suc h) x) (into_code u.passed u.held (suc h) x)
     (with_within 4 u 6 x (Plain (instr.Andi (suc h) (has_operand u 6 x) (pos 255)) ∷ []) (record { is = omega arith }))
-    (less_within 12 16 _ (omega arith) (into_within u.passed u.held (suc h) x)))
+    (less_within 16 20 _ (omega arith) (into_within u.passed u.held (suc h) x)))
 
 -- a call of the environment about what a temporary holds
 about_within : (u : Surroundings) (t number : ℕ) → IsWithin 64 (argument_code u t ++ environment_code number)
 about_within u t number =
-    less_within (12 + 8) 64 _ (omega arith)
-    (both_within 12 8 (argument_code u t) (environment_code number) (just_within u 10 t) (environment_within number))
+    less_within (16 + 8) 64 _ (omega arith)
+    (both_within 16 8 (argument_code u t) (environment_code number) (just_within u 10 t) (environment_within number))
 
 narrow_within : (keeps : Bool) (u : Surroundings) (t x : ℕ) (known : Option ℕ) → IsWithin 64 (narrow_kept keeps u t x known)
 narrow_within keeps u t x None =
     let line : List Line = Plain (instr.Andi (result_register t) (has_operand u 5 x) (pos 255)) ∷ [] in
-    result_within 16 keeps u t (operand u 5 x ++ line) (omega arith) (with_within 4 u 5 x line (record { is = omega arith }))
+    result_within 20 keeps u t (operand u 5 x ++ line) (omega arith) (with_within 4 u 5 x line (record { is = omega arith }))
 narrow_within keeps u t x (Some w) = number_kept_within keeps u.passed t (w % 256)
 
 null_within : (keeps : Bool) (u : Surroundings) (t p : ℕ) (known : Option Source) → IsWithin 64 (null_kept keeps u t p known)
 null_within keeps u t p None =
     let line : List Line = Plain (instr.Sltiu (result_register t) (has_operand u 5 p) (pos 1)) ∷ [] in
-    result_within 16 keeps u t (operand u 5 p ++ line) (omega arith) (with_within 4 u 5 p line (record { is = omega arith }))
+    result_within 20 keeps u t (operand u 5 p ++ line) (omega arith) (with_within 4 u 5 p line (record { is = omega arith }))
 null_within keeps u t p (Some s) = move_within keeps u.passed (result_register t) t p (Some s)
 
 pub operation_within : (keeps : Bool) (u : Surroundings) (o : Operation) → IsWithin (64 * operation_count o) (operation_code keeps u o)
@@ -337,7 +337,8 @@ operation_within keeps u (NullPointer t) = less_within 12 64 _ (omega arith) (ke
 operation_within keeps u (Move t x) = move_within keeps u.passed (result_register t) t x (source_of u.held x)
 operation_within keeps u (Narrow t x) = narrow_within keeps u t x (number_in (source_of u.held x))
 operation_within keeps u (Apply o t x y) =
-    applied_within keeps u o t x y (same_as o x y (source_of u.held x) (source_of u.held y)) (comparison_of o (source_of u.held x) (source_of u.held y))
+    applied_within keeps u o t x y (same_as o x y (source_of u.held x) (source_of u.held y)) (number_comparison_of o (source_of u.held x) (source_of u.held y))
+    (comparison_of o (source_of u.held x) (source_of u.held y))
 operation_within keeps u (LocalAddress t out local) =
     let offset = local_offset u out local in
     result_within 12 keeps u t (address_code (result_register t) offset) (omega arith) (address_within (result_register t) offset)
@@ -347,21 +348,21 @@ operation_within keeps u (OwnAddress t object) =
 operation_within keeps u (DataAddress t object) = number_kept_within keeps u.passed t (data_base + nth u.statics object)
 operation_within keeps u (Offset t p cells bytes) =
     let lines = further_code (result_register t) (has_operand u 5 p) bytes in
-    result_within 24 keeps u t (operand u 5 p ++ lines) (omega arith)
+    result_within 28 keeps u t (operand u 5 p ++ lines) (omega arith)
     (with_within 12 u 5 p lines (further_within (result_register t) (has_operand u 5 p) bytes))
 operation_within keeps u (Element t p i cells bytes) =
-    result_within 40 keeps u t (element_code u (result_register t) p i (bytes % 2 ^ 32)) (omega arith)
+    result_within 48 keeps u t (element_code u (result_register t) p i (bytes % 2 ^ 32)) (omega arith)
     (element_within u (result_register t) p i (bytes % 2 ^ 32))
 operation_within keeps u (Get t out local width) = get_within keeps u (local_home u out local) t width (local_offset u out local)
 operation_within keeps u (Put out local width x) = put_within u (local_home u out local) width (local_offset u out local) x
 operation_within keeps u (Load t p d) =
     let lines = read_code (result_register t) d.width (has_operand u 5 p) d.bytes in
-    result_within 24 keeps u t (operand u 5 p ++ lines) (omega arith)
+    result_within 28 keeps u t (operand u 5 p ++ lines) (omega arith)
     (with_within 12 u 5 p lines (read_within (result_register t) d.width (has_operand u 5 p) d.bytes))
 operation_within keeps u (Store p d x) =
-    less_within 36 64 _ (omega arith)
-    (both_within 24 12 (operand u 5 p ++ stored_code u.passed u.held 6 x) (write_code (stored_in u.held 6 x) d.width (has_operand u 5 p) d.bytes)
-    (with_within 12 u 5 p (stored_code u.passed u.held 6 x) (stored_within u.passed u.held 6 x))
+    less_within 44 64 _ (omega arith)
+    (both_within 32 12 (operand u 5 p ++ stored_code u.passed u.held 6 x) (write_code (stored_in u.held 6 x) d.width (has_operand u 5 p) d.bytes)
+    (with_within 16 u 5 p (stored_code u.passed u.held 6 x) (stored_within u.passed u.held 6 x))
     (write_within (stored_in u.held 6 x) d.width (has_operand u 5 p) d.bytes))
 operation_within keeps u (Copy to from layout) =
     if_within 64 (nat_eq layout.bytes 0) _ _ (nothing_within 64)
@@ -378,12 +379,12 @@ operation_within keeps u (Clear p layout count) =
 operation_within keeps u (IsNull t p) = null_within keeps u t p (null_source (source_of u.held p))
 operation_within keeps u (SamePlace t p q) =
     let lines = binary_code Equal (result_register t) (has_operand u 5 p) (has_operand u 6 q) in
-    result_within 32 keeps u t (operand u 5 p ++ operand u 6 q ++ lines) (omega arith)
-    (both_within 24 8 (operand u 5 p ++ operand u 6 q) lines (operands_within u p q) (record { is = omega arith }))
+    result_within 40 keeps u t (operand u 5 p ++ operand u 6 q ++ lines) (omega arith)
+    (both_within 32 8 (operand u 5 p ++ operand u 6 q) lines (operands_within u p q) (record { is = omega arith }))
 operation_within keeps u (Getchar t) = answer_within 8 keeps u t (environment_code 2) (omega arith) (environment_within 2)
 operation_within keeps u (Putchar t x) =
-    answer_within 20 keeps u t (argument_code u x ++ environment_code 1) (omega arith)
-    (both_within 12 8 (argument_code u x) (environment_code 1) (just_within u 10 x) (environment_within 1))
+    answer_within 24 keeps u t (argument_code u x ++ environment_code 1) (omega arith)
+    (both_within 16 8 (argument_code u x) (environment_code 1) (just_within u 10 x) (environment_within 1))
 operation_within keeps u (HeapHandle t) = number_kept_within keeps u.passed t 0
 operation_within keeps u (RegionNew t) = answer_within 8 keeps u t (environment_code 4) (omega arith) (environment_within 4)
 operation_within keeps u (RegionAlloc t h n layout) = block_within keeps u t h n layout.bytes

@@ -36,7 +36,7 @@ use Rattle.core_lines.proofs.Ways.{Needs, Does}
 use Rattle.core_lines.proofs.Shown.{AreWhole, showing_all, saving, saving_all, whole_all, loads_show}
 use Rattle.core_lines.proofs.Forms.{same_holding}
 use Rattle.core_lines.proofs.Choices.{test, jumps}
-use Rattle.core_lines.proofs.Straight.{GoesStraight, compares_none}
+use Rattle.core_lines.proofs.Straight.{GoesStraight, compares_none, numbers_none}
 
 -- what is known behind both
 abbrev pub behind_both : ℕ → ℕ → List Holding → List Holding
@@ -130,7 +130,9 @@ module _ (w : World) (order : IsInOrder w) (x : Waiting) (outer : List Waiting) 
         let are_first = flags_are ∙ append_assoc (saving w hss names held (record needs { after = between }) (Do operation)) saved_others rest in
         let length_between = whole_all w hss names between_held needs x.fn.temporaries whole (MoreStatements put others) in
         let known : last ≡ behind_both t (suc r) held =
-        (λ i. with_put (word i) t (there i) (with_applied t (moves_none i) (compares_none o (source_of held y) (source_of held z) computes i) held)) in
+        (λ i. with_put (word i) t (there i)
+        (with_applied t (moves_none i) (numbers_none o (source_of held y) (source_of held z) computes i)
+        (compares_none o (source_of held y) (source_of held z) computes i) held)) in
         record {
           goes = λ place fuel le k aligned lines ways.
               let middle = place + code_length first in

@@ -5,7 +5,7 @@ use Rattle.std.proofs.lemmas.Bool.{eqb-true}
 use Rattle.core_meaning.specs.Core as core
 use Rattle.core_meaning.specs.Core.{Binary, Operation, Apply, Put, Statement, Do, Statements, NoStatements, MoreStatements}
 use Rattle.core_lines.specs.declared.line.Line.{Line}
-use Rattle.core_lines.specs.Held.{Source, Holding, nth, nth_block, source_of, same_as, comparison_of}
+use Rattle.core_lines.specs.Held.{Source, Holding, nth, nth_block, source_of, same_as, comparison_of, number_comparison_of}
 use Rattle.core_lines.specs.Straight.{is_arithmetic, home_put, home_put_by, home_put_first, home_of_result, home_of_operation, home_behind, straight_code}
 use Rattle.core_lines.specs.Selected.{Surroundings, first_code, later_code}
 
@@ -121,6 +121,28 @@ compares_none core.Less of_x of_y is = absurd (cc is)
 compares_none core.LessEqual of_x of_y is = absurd (cc is)
 compares_none core.LessUnsigned of_x of_y is = absurd (cc is)
 compares_none core.LessEqualUnsigned of_x of_y is = absurd (cc is)
+
+-- nor one with a number
+pub numbers_none : (o : Binary) (of_x of_y : Option Source) → is_arithmetic o ≡ true → number_comparison_of o of_x of_y ≡ None
+numbers_none core.Add of_x of_y is = refl
+numbers_none core.Subtract of_x of_y is = refl
+numbers_none core.Multiply of_x of_y is = refl
+numbers_none core.Divide of_x of_y is = refl
+numbers_none core.DivideUnsigned of_x of_y is = refl
+numbers_none core.Remainder of_x of_y is = refl
+numbers_none core.RemainderUnsigned of_x of_y is = refl
+numbers_none core.And of_x of_y is = refl
+numbers_none core.Or of_x of_y is = refl
+numbers_none core.Xor of_x of_y is = refl
+numbers_none core.ShiftLeft of_x of_y is = refl
+numbers_none core.ShiftRight of_x of_y is = refl
+numbers_none core.ShiftRightUnsigned of_x of_y is = refl
+numbers_none core.Equal of_x of_y is = absurd (cc is)
+numbers_none core.NotEqual of_x of_y is = absurd (cc is)
+numbers_none core.Less of_x of_y is = absurd (cc is)
+numbers_none core.LessEqual of_x of_y is = absurd (cc is)
+numbers_none core.LessUnsigned of_x of_y is = absurd (cc is)
+numbers_none core.LessEqualUnsigned of_x of_y is = absurd (cc is)
 
 -- ---- lines
 

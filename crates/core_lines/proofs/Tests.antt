@@ -6,7 +6,7 @@ use Rattle.std.proofs.lemmas.Bool.{eqb-true, eq-eqb, ne_eqb}
 use Rattle.cyc_words.specs.Events.{SourceEnding}
 use Rattle.cyc_words.specs.Words.{word, sum_of}
 use Rattle.rv32_isa.specs.declared.instruction.Instr.TheVariants.{Jal}
-use Rattle.rv32_machine.specs.State.{code_base}
+use Rattle.rv32_machine.specs.State.{code_base, set_register}
 use Rattle.rv32_machine.specs.Step.{truth}
 use Rattle.step_trees.specs.Trees.{Stops}
 use Rattle.core_meaning.specs.Memory.{Content, Blank, Word, Null, Pointer, Birth, Memory}
@@ -28,8 +28,9 @@ use Rattle.core_lines.proofs.memory.Access.{written_out, length_of_both}
 use Rattle.core_lines.proofs.frames.Passing.{has_first, has_second}
 use Rattle.core_lines.proofs.frames.Jumping.{jumps_with, jumps_to}
 use Rattle.core_lines.proofs.operations.Registers.{AtWith, AtHolding, InOperand, AreThere, IsServed, elsewhere, knows, with_there, as_holding}
-use Rattle.core_lines.proofs.operations.Registers.{brings, now_known, stays_there, there_found, source_not_zero}
-use Rattle.core_lines.specs.Held.{Source, Register, Number, Compared, Holding, source_of}
+use Rattle.core_lines.proofs.operations.Registers.{brings, now_known, stays_there, there_found, there_kept, puts_number, numbered_verdict, source_not_zero}
+use Rattle.core_lines.proofs.operations.NumberVerdicts.{so_now}
+use Rattle.core_lines.specs.Held.{Source, Register, Number, Compared, ComparedWith, Holding, source_of}
 use Rattle.core_lines.specs.Operands.{register_for, bring_code, is_some, test_for, test_in, ready_code, test_ready}
 use Rattle.core_lines.specs.Choosing.{jump_unless, choice_code}
 use Rattle.core_lines.proofs.frames.Bodies.{with_config}
@@ -205,6 +206,18 @@ module _ (w : World) (order : IsInOrder w) (x : Waiting) (outer : List Waiting) 
         by (Some (Compared c)) e has = stays_there w order x outer mem place (AreThere held x.config.temps) (Tells c) (λ m registers h.
             let found = there_found held t (Compared c) x.config.temps m registers h e in
             (record { number = verdict c registers; shown = found.0; same = none_true (is_so c registers) }, h))
+        by (Some (ComparedWith n)) e has = puts_number w order x outer mem 6 n.number place (AreThere held x.config.temps) (Tells n.comparison)
+            (λ m registers h. (there_found held t (ComparedWith n) x.config.temps m registers h e).1) refl has
+            (λ m new old is kept h.
+            let found = there_found held t (ComparedWith n) x.config.temps m old h e in
+            let so = so_now n new old is found.1 kept found.2 in (
+              record {
+                number = numbered_verdict n old;
+                shown = found.0;
+                same = none_true (is_so n.comparison (set_register 7 n.number old)) ∙ ap not so;
+              },
+              there_kept 6 held x.config.temps refl m new old kept h,
+            ))
 
   module _ (held : List Holding) (t label place : ℕ) (named : t < x.fn.temporaries) (served : IsServed w x held t)
       (has : Has w place (choice_code w.wide x.fn.passed held t label)) where

@@ -1,5 +1,6 @@
 pub mod Relaxing
 mod BareLines
+mod BareNumbers
 mod Bare
 pub mod NoLabels
 pub mod LabelsOnce

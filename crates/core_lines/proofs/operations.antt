@@ -1,4 +1,6 @@
+pub mod Serving
 pub mod Holding
+pub mod NumberVerdicts
 pub mod Standing
 pub mod Registers
 pub mod Calling
@@ -13,6 +15,7 @@ pub mod Stored
 pub mod Operations
 pub mod Nulls
 pub mod Computing
+pub mod NumberSides
 pub mod Applying
 pub mod Parts
 pub mod Products

@@ -1,5 +1,5 @@
 -- The lines that compute the result of an operation, from what is known of its operands.
-use Rattle.std.specs.Prelude.{ℕ, Bool, zero, suc, pos, ◌-◌, ◌%◌, ◌^◌, List, [], ◌∷◌, ◌++◌, Option, Some, None, nat_eq, nat_lt, if◌then◌else◌}
+use Rattle.std.specs.Prelude.{ℕ, Bool, zero, suc, pos, ◌%◌, List, [], ◌∷◌, ◌++◌, Option, Some, None, nat_eq, nat_lt, if◌then◌else◌}
 use Rattle.rv32_isa.specs.declared.instruction.Instr.TheVariants as instr
 use Rattle.core_meaning.specs.Core.{Binary, Add, Subtract, Multiply, Divide, DivideUnsigned, Remainder, RemainderUnsigned, And, Or, Xor, ShiftLeft, ShiftRight}
 use Rattle.core_meaning.specs.Core.{ShiftRightUnsigned, Equal, NotEqual, Less, LessEqual, LessUnsigned, LessEqualUnsigned}
@@ -7,9 +7,11 @@ use Rattle.core_lines.specs.declared.line.Line.{Line}
 use Rattle.core_lines.specs.declared.line.Line.TheVariants.{Plain}
 use Rattle.core_lines.specs.Frames.{upper_of, lower_of, is_short, word_code, load_code, save_code, slot_of}
 use Rattle.core_lines.specs.declared.comparison.Comparison.{Comparison}
-use Rattle.core_lines.specs.Held.{nth, nth_block, Source, Register, Number, Compared, Holding, source_of, result_register}
+use Rattle.core_lines.specs.declared.comparison.NumberComparison.{NumberComparison}
+pub use Rattle.core_lines.specs.Numbered.{turned}
+use Rattle.core_lines.specs.Held.{nth, nth_block, Source, Register, Number, Compared, ComparedWith, Holding, source_of, result_register}
 use Rattle.core_lines.specs.Operands.{number_code, operand_in, operand_code, into_code, keep_code}
-use Rattle.core_lines.specs.Operands.{number_kept, verdict_kept, move_kept, stored_in, stored_code}
+use Rattle.core_lines.specs.Operands.{number_kept, verdict_kept, numbered_kept, move_kept, stored_in, stored_code}
 
 -- ---- operations
 
@@ -95,9 +97,6 @@ abbrev pub shift_code : ℕ → List Line → Option (List Line)
 shift_code n lines = (if nat_lt n 32 then Some lines else None)
 
 -- as a difference
-abbrev pub turned : ℕ → ℕ
-turned n = (2 ^ 32 - n) % 2 ^ 32
-
 abbrev pub difference_code : (to left n : ℕ) → List Line → Option (List Line)
 difference_code to left n lines = short_code (turned n) (Plain (instr.Addi to left (lower_of (turned n))) ∷ lines)
 
@@ -130,6 +129,7 @@ immediate_for o to left None = None
 immediate_for o to left (Some (Register r)) = None
 immediate_for o to left (Some (Number n)) = immediate_code o to left n
 immediate_for o to left (Some (Compared c)) = None
+immediate_for o to left (Some (ComparedWith n)) = None
 
 -- the address so many bytes from x2 on, into a register
 abbrev pub address_code : ℕ → ℕ → List Line
@@ -166,10 +166,15 @@ abbrev pub computed_kept : Bool → Surroundings → Binary → (t x y : ℕ) �
 computed_kept keeps u o t x y None = apply_code u o (result_register t) x y ++ keep_result keeps u t
 computed_kept keeps u o t x y (Some c) = verdict_kept keeps u.passed t c
 
+-- or of a register and a number
+abbrev pub judged_kept : Bool → Surroundings → Binary → (t x y : ℕ) → Option NumberComparison → Option Comparison → List Line
+judged_kept keeps u o t x y None c = computed_kept keeps u o t x y c
+judged_kept keeps u o t x y (Some n) c = numbered_kept keeps u.passed t n
+
 -- and which is a move where it gives one of them
-abbrev pub applied_kept : Bool → Surroundings → Binary → (t x y : ℕ) → Option ℕ → Option Comparison → List Line
-applied_kept keeps u o t x y None c = computed_kept keeps u o t x y c
-applied_kept keeps u o t x y (Some z) c = move_kept keeps u.passed (result_register t) t z (source_of u.held z)
+abbrev pub applied_kept : Bool → Surroundings → Binary → (t x y : ℕ) → Option ℕ → Option NumberComparison → Option Comparison → List Line
+applied_kept keeps u o t x y None n c = judged_kept keeps u o t x y n c
+applied_kept keeps u o t x y (Some z) n c = move_kept keeps u.passed (result_register t) t z (source_of u.held z)
 
 -- the lowest byte of a word, which may be known to be a number
 abbrev pub narrow_kept : Bool → Surroundings → (t x : ℕ) → Option ℕ → List Line

@@ -4,6 +4,7 @@ use Rattle.rv32_machine.specs.State.{data_base}
 use Rattle.core_lines.specs.declared.comparison.Condition.{Condition}
 use Rattle.core_lines.specs.declared.comparison.Condition.TheVariants as condition
 use Rattle.core_lines.specs.declared.comparison.Comparison.{Comparison}
+use Rattle.core_lines.specs.declared.comparison.NumberComparison.{NumberComparison}
 use Rattle.core_meaning.specs.Core.{
   Binary,
   Add,
@@ -62,11 +63,12 @@ use Rattle.core_meaning.specs.Core.{
 
 -- ---- what is known
 
--- where a word is: a register has it, it is a number, or it is 1 where a comparison holds, and else 0
+-- where a word is: a register has it, it is a number, or it is 1 where a comparison holds, and else 0, also one that holds once x7 has a number
 pub data Source : Type 0 where
   Register : (register : ℕ) → Source
   Number : (word : ℕ) → Source
   Compared : (comparison : Comparison) → Source
+  ComparedWith : (numbered : NumberComparison) → Source
 
 -- a temporary's word is there
 pub record Holding : Type 0 where
@@ -79,6 +81,7 @@ some_source (Register zero) = None
 some_source (Register (suc r)) = Some (Register (suc r))
 some_source (Number w) = Some (Number w)
 some_source (Compared c) = Some (Compared c)
+some_source (ComparedWith n) = Some (ComparedWith n)
 
 -- where a temporary's word is, if that is known
 abbrev pub source_of : List Holding → ℕ → Option Source
@@ -89,6 +92,7 @@ abbrev pub is_in : ℕ → Source → Bool
 is_in r (Register q) = nat_eq q r
 is_in r (Number w) = false
 is_in r (Compared c) = nat_eq c.left r || nat_eq c.right r
+is_in r (ComparedWith n) = nat_eq n.comparison.left r || nat_eq n.comparison.right r
 
 -- what is still known where a register changes
 abbrev pub without_register : ℕ → List Holding → List Holding
@@ -130,6 +134,7 @@ number_in None = None
 number_in (Some (Register r)) = None
 number_in (Some (Number w)) = Some w
 number_in (Some (Compared c)) = None
+number_in (Some (ComparedWith n)) = None
 
 -- a temporary gets the lowest byte of a word, which may be known to be a number
 abbrev pub with_narrowed : ℕ → Option ℕ → List Holding → List Holding
@@ -144,6 +149,7 @@ is_zero (Some (Register r)) = false
 is_zero (Some (Number zero)) = true
 is_zero (Some (Number (suc w))) = false
 is_zero (Some (Compared c)) = false
+is_zero (Some (ComparedWith n)) = false
 
 -- the temporary whose word a sum is, where the other one is known to be 0
 abbrev pub same_as : Binary → (x y : ℕ) → Option Source → Option Source → Option ℕ
@@ -159,6 +165,7 @@ register_in (Some (Register r)) = Some r
 register_in (Some (Number zero)) = Some 0
 register_in (Some (Number (suc w))) = None
 register_in (Some (Compared c)) = None
+register_in (Some (ComparedWith n)) = None
 
 abbrev pub compared_by : Condition → Option ℕ → Option ℕ → Option Comparison
 compared_by c None right = None
@@ -188,11 +195,49 @@ null_source (Some (Register r)) = Some (Compared (record { condition = condition
 null_source (Some (Number zero)) = Some (Number 1)
 null_source (Some (Number (suc w))) = Some (Number 0)
 null_source (Some (Compared c)) = None
+null_source (Some (ComparedWith n)) = None
+
+-- ---- comparisons with numbers
+
+-- the number other than 0 that a word is known to be
+abbrev pub some_number : Option Source → Option ℕ
+some_number None = None
+some_number (Some (Register r)) = None
+some_number (Some (Number zero)) = None
+some_number (Some (Number (suc w))) = Some (suc w)
+some_number (Some (Compared c)) = None
+some_number (Some (ComparedWith n)) = None
+
+-- by the register that has the left word, the number that it is, and those of the right one
+abbrev pub numbered_by : Condition → (left first right second : Option ℕ) → Option NumberComparison
+numbered_by c (Some left) first right None = None
+numbered_by c (Some left) first right (Some n) = Some (record { comparison = record { condition = c; left = left; right = 7 }; number = n })
+numbered_by c None None right second = None
+numbered_by c None (Some n) None second = None
+numbered_by c None (Some n) (Some right) second = Some (record { comparison = record { condition = c; left = 7; right = right }; number = n })
+
+abbrev pub numbered : Condition → (of_left of_right : Option Source) → Option NumberComparison
+numbered c of_left of_right = numbered_by c (register_in of_left) (some_number of_left) (register_in of_right) (some_number of_right)
+
+-- The comparison that an operation on two words is, if a register has one of them and the other is a number that isn't 0. It needs no code until its result is
+-- used: a test of it is the number into x7 and a branch.
+abbrev pub number_comparison_of : Binary → (of_x of_y : Option Source) → Option NumberComparison
+number_comparison_of Equal of_x of_y = numbered condition.Equal of_x of_y
+number_comparison_of NotEqual of_x of_y = numbered condition.NotEqual of_x of_y
+number_comparison_of Less of_x of_y = numbered condition.Less of_x of_y
+number_comparison_of LessEqual of_x of_y = numbered condition.NotLess of_y of_x
+number_comparison_of LessUnsigned of_x of_y = numbered condition.LessUnsigned of_x of_y
+number_comparison_of LessEqualUnsigned of_x of_y = numbered condition.NotLessUnsigned of_y of_x
+number_comparison_of o of_x of_y = None
+
+abbrev pub with_judged : ℕ → Option NumberComparison → Option Comparison → List Holding → List Holding
+with_judged t None c hs = with_computed t c hs
+with_judged t (Some n) c hs = with_source t (ComparedWith n) hs
 
 -- a temporary gets what an operation on two gives
-abbrev pub with_applied : ℕ → Option ℕ → Option Comparison → List Holding → List Holding
-with_applied t None c hs = with_computed t c hs
-with_applied t (Some z) c hs = with_moved t (source_of hs z) hs
+abbrev pub with_applied : ℕ → Option ℕ → Option NumberComparison → Option Comparison → List Holding → List Holding
+with_applied t None n c hs = with_judged t n c hs
+with_applied t (Some z) n c hs = with_moved t (source_of hs z) hs
 
 -- the n-th of a list, or 0 behind it
 abbrev pub nth : List ℕ → ℕ → ℕ
@@ -240,7 +285,8 @@ held_behind_operation homes statics hs (NullPointer t) = with_source t (Number 0
 held_behind_operation homes statics hs (Move t x) = with_moved t (source_of hs x) hs
 held_behind_operation homes statics hs (Narrow t x) = with_narrowed t (number_in (source_of hs x)) hs
 held_behind_operation homes statics hs (Apply o t x y) =
-    with_applied t (same_as o x y (source_of hs x) (source_of hs y)) (comparison_of o (source_of hs x) (source_of hs y)) hs
+    with_applied t (same_as o x y (source_of hs x) (source_of hs y)) (number_comparison_of o (source_of hs x) (source_of hs y))
+    (comparison_of o (source_of hs x) (source_of hs y)) hs
 held_behind_operation homes statics hs (LocalAddress t out local) = with_result t hs
 held_behind_operation homes statics hs (OwnAddress t object) = with_result t hs
 held_behind_operation homes statics hs (DataAddress t object) = with_source t (Number (data_base + nth statics object)) hs

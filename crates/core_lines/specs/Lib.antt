@@ -4,6 +4,7 @@ pub mod Relaxed
 pub mod Frames
 pub mod Loops
 pub mod LocalPlaces
+pub mod Numbered
 pub mod Held
 pub mod Operands
 pub mod Choosing

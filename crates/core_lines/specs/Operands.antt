@@ -1,21 +1,29 @@
 -- How code comes by the words of temporaries, also in calls and returns: it loads them from their slots where they aren't known to be elsewhere. How it saves
 -- them, and the first lines of a function.
-use Rattle.std.specs.Prelude.{ℕ, zero, suc, pos, ◌+◌, ◌/◌, ◌%◌, ◌^◌, drop, Bool, List, [], ◌∷◌, ◌++◌, Option, Some, None, nat_eq, if◌then◌else◌}
+use Rattle.std.specs.Prelude.{ℕ, zero, suc, pos, ◌+◌, ◌/◌, ◌%◌, ◌^◌, drop, Bool, List, [], ◌∷◌, ◌++◌, Option, Some, None, nat_eq, ◌&&◌, if◌then◌else◌}
 use Rattle.rv32_isa.specs.declared.instruction.Instr.TheVariants.{Lui, Addi}
 use Rattle.core_lines.specs.declared.line.Line.{Line}
 use Rattle.core_lines.specs.declared.line.Line.TheVariants.{Plain, Jump, CallTo}
 use Rattle.core_lines.specs.Frames.{upper_of, lower_of, is_short, word_code, load_code, save_code, slot_of, frame_code, saves_code}
 use Rattle.core_lines.specs.Homes.{flag_at}
 use Rattle.core_lines.specs.declared.comparison.Comparison.{Comparison}
+use Rattle.core_lines.specs.declared.comparison.NumberComparison.{NumberComparison}
 use Rattle.core_lines.specs.declared.comparison.Condition.TheVariants.{NotEqual}
 use Rattle.core_lines.specs.Comparisons.{verdict_code}
-use Rattle.core_lines.specs.Held.{Source, Register, Number, Compared, Holding, source_of, is_zero, without_register}
+use Rattle.core_lines.specs.Held.{Source, Register, Number, Compared, ComparedWith, Holding, source_of, is_zero, without_register}
+use Rattle.core_lines.specs.Numbered.{has_room, short_on}
 
 -- a word into a register: ADDI alone where the lower part is the word, LUI alone where there is none
 abbrev pub number_code : ℕ → ℕ → List Line
 number_code to w =
     (if is_short w then Plain (Addi to 0 (lower_of w)) ∷ [] else
     (if nat_eq (w % 2 ^ 12) 0 then Plain (Lui to (upper_of w)) ∷ [] else word_code to w))
+
+-- 1 into a register where a comparison with a number holds, and else 0: the number stands in the instruction itself, if that has room for it, and else in x7
+abbrev pub numbered_code : ℕ → NumberComparison → List Line
+numbered_code to n =
+    (if nat_eq n.comparison.right 7 && has_room n.comparison.condition n.number then short_on n.comparison.condition to n.comparison.left n.number else
+    number_code 7 n.number ++ verdict_code to n.comparison)
 
 -- ---- operands
 
@@ -25,6 +33,7 @@ register_for spare None = spare
 register_for spare (Some (Register r)) = r
 register_for spare (Some (Number w)) = spare
 register_for spare (Some (Compared c)) = spare
+register_for spare (Some (ComparedWith n)) = spare
 
 abbrev pub operand_in : List Holding → ℕ → ℕ → ℕ
 operand_in hs spare t = register_for spare (source_of hs t)
@@ -35,6 +44,7 @@ bring_code passed spare t None = load_code spare (slot_of passed t)
 bring_code passed spare t (Some (Register r)) = []
 bring_code passed spare t (Some (Number w)) = number_code spare w
 bring_code passed spare t (Some (Compared c)) = verdict_code spare c
+bring_code passed spare t (Some (ComparedWith n)) = numbered_code spare n
 
 abbrev pub operand_code : (passed : ℕ) → List Holding → ℕ → ℕ → List Line
 operand_code passed hs spare t = bring_code passed spare t (source_of hs t)
@@ -56,6 +66,7 @@ fetch_code passed to t None = load_code to (slot_of passed t)
 fetch_code passed to t (Some (Register r)) = copied_code to r
 fetch_code passed to t (Some (Number w)) = number_code to w
 fetch_code passed to t (Some (Compared c)) = verdict_code to c
+fetch_code passed to t (Some (ComparedWith n)) = numbered_code to n
 
 abbrev pub into_code : (passed : ℕ) → List Holding → ℕ → ℕ → List Line
 into_code passed hs to t = fetch_code passed to t (source_of hs t)
@@ -72,6 +83,7 @@ test_for spare None = is_some spare
 test_for spare (Some (Register r)) = is_some r
 test_for spare (Some (Number w)) = is_some spare
 test_for spare (Some (Compared c)) = c
+test_for spare (Some (ComparedWith n)) = n.comparison
 
 abbrev pub test_in : List Holding → ℕ → ℕ → Comparison
 test_in hs spare t = test_for spare (source_of hs t)
@@ -82,6 +94,7 @@ ready_code passed spare t None = load_code spare (slot_of passed t)
 ready_code passed spare t (Some (Register r)) = []
 ready_code passed spare t (Some (Number w)) = number_code spare w
 ready_code passed spare t (Some (Compared c)) = []
+ready_code passed spare t (Some (ComparedWith n)) = number_code 7 n.number
 
 abbrev pub test_ready : (passed : ℕ) → List Holding → ℕ → ℕ → List Line
 test_ready passed hs spare t = ready_code passed spare t (source_of hs t)
@@ -100,12 +113,17 @@ number_kept keeps passed t w = (if keeps then number_code 5 w ++ save_code 5 (sl
 abbrev pub verdict_kept : Bool → (passed : ℕ) → ℕ → Comparison → List Line
 verdict_kept keeps passed t c = (if keeps then verdict_code 5 c ++ save_code 5 (slot_of passed t) else [])
 
+-- the same of a comparison with a number
+abbrev pub numbered_kept : Bool → (passed : ℕ) → ℕ → NumberComparison → List Line
+numbered_kept keeps passed t n = (if keeps then numbered_code 5 n ++ save_code 5 (slot_of passed t) else [])
+
 -- a temporary gets what another one has
 abbrev pub move_kept : Bool → (passed : ℕ) → (own t x : ℕ) → Option Source → List Line
 move_kept keeps passed own t x None = load_code own (slot_of passed x) ++ keep_code keeps passed own t
 move_kept keeps passed own t x (Some (Register r)) = keep_code keeps passed r t
 move_kept keeps passed own t x (Some (Number w)) = number_kept keeps passed t w
 move_kept keeps passed own t x (Some (Compared c)) = verdict_kept keeps passed t c
+move_kept keeps passed own t x (Some (ComparedWith n)) = numbered_kept keeps passed t n
 
 -- ---- calls and returns
 

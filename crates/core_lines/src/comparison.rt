@@ -46,6 +46,13 @@ pub struct Comparison {
     pub right: Register,
 }
 
+/// A comparison of a register's word with a number, which code puts into x7: that is one side of the comparison, and the other is another register.
+#[derive(Clone, Copy)]
+pub struct NumberComparison {
+    pub comparison: Comparison,
+    pub number: u64,
+}
+
 impl Comparison {
     /// The comparison that holds where this one doesn't.
     pub fn inverse(self) -> Self

@@ -12,6 +12,6 @@ mod comparison;
 mod laws;
 mod line;
 
-pub use comparison::{Comparison, Condition};
+pub use comparison::{Comparison, Condition, NumberComparison};
 pub use laws::lines_do_as_core;
 pub use line::Line;

@@ -5,8 +5,9 @@ use Rattle.std.proofs.lemmas.Bool.{ne_eqb}
 use Rattle.core_lines.specs.Held as lines
 use Rattle.core_lines.specs.Held.{source_of, some_source, is_in, without_register, without_temporary}
 use Rattle.core_lines.specs.Held.{with_moved, with_source, with_result, with_local, with_put, is_zero, with_applied}
-use Rattle.core_lines.specs.Held.{number_in, with_narrowed, register_in, with_computed}
+use Rattle.core_lines.specs.Held.{number_in, with_narrowed, register_in, with_judged}
 use Rattle.core_lines.specs.declared.comparison.Comparison.{Comparison}
+use Rattle.core_lines.specs.declared.comparison.NumberComparison.{NumberComparison}
 use Rattle.rv32_select.specs.declared.held.Holding.{Holding}
 use Rattle.rv32_select.specs.Known.{source_tree, holding_tree}
 
@@ -69,13 +70,13 @@ module _ (hs : List lines.Holding) where
   narrowed_some t w known after is e = e ∙ ap (λ k. with_narrowed t k hs) is
 
   -- by which of two words their sum is
-  pub applied_none : (t : ℕ) (same : Option ℕ) (compared : Option Comparison) (after : List lines.Holding) → None ≡ same
-      → after ≡ with_computed t compared hs → after ≡ with_applied t same compared hs
-  applied_none t same compared after is e = e ∙ ap (λ k. with_applied t k compared hs) is
+  pub applied_none : (t : ℕ) (same : Option ℕ) (told : Option NumberComparison) (compared : Option Comparison) (after : List lines.Holding) → None ≡ same
+      → after ≡ with_judged t told compared hs → after ≡ with_applied t same told compared hs
+  applied_none t same told compared after is e = e ∙ ap (λ k. with_applied t k told compared hs) is
 
-  pub applied_some : (t z : ℕ) (same : Option ℕ) (compared : Option Comparison) (after : List lines.Holding) → Some z ≡ same
-      → after ≡ with_moved t (source_of hs z) hs → after ≡ with_applied t same compared hs
-  applied_some t z same compared after is e = e ∙ ap (λ k. with_applied t k compared hs) is
+  pub applied_some : (t z : ℕ) (same : Option ℕ) (told : Option NumberComparison) (compared : Option Comparison) (after : List lines.Holding) → Some z ≡ same
+      → after ≡ with_moved t (source_of hs z) hs → after ≡ with_applied t same told compared hs
+  applied_some t z same told compared after is e = e ∙ ap (λ k. with_applied t k told compared hs) is
 
 -- a word that is known to be 0
 zero_is : (w : ℕ) → nat_eq w 0 ≡ is_zero (Some (lines.Number w))
@@ -91,6 +92,9 @@ number_register r s is = ap number_in is
 pub number_compared : (c : Comparison) (s : Option lines.Source) → Some (lines.Compared c) ≡ s → None ≡ number_in s
 number_compared c s is = ap number_in is
 
+pub number_numbered : (n : NumberComparison) (s : Option lines.Source) → Some (lines.ComparedWith n) ≡ s → None ≡ number_in s
+number_numbered n s is = ap number_in is
+
 pub number_none : (s : Option lines.Source) → None ≡ s → None ≡ number_in s
 number_none s is = ap number_in is
 
@@ -102,6 +106,9 @@ zero_register r s is = ap is_zero is
 
 pub zero_compared : (c : Comparison) (s : Option lines.Source) → Some (lines.Compared c) ≡ s → false ≡ is_zero s
 zero_compared c s is = ap is_zero is
+
+pub zero_numbered : (n : NumberComparison) (s : Option lines.Source) → Some (lines.ComparedWith n) ≡ s → false ≡ is_zero s
+zero_numbered n s is = ap is_zero is
 
 pub zero_none : (s : Option lines.Source) → None ≡ s → false ≡ is_zero s
 zero_none s is = ap is_zero is

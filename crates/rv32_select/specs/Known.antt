@@ -11,6 +11,7 @@ abbrev pub source_tree : Source → lines.Source
 source_tree (source.Register r) = lines.Register r
 source_tree (source.Number w) = lines.Number w
 source_tree (source.Compared c) = lines.Compared c
+source_tree (source.ComparedWith n) = lines.ComparedWith n
 
 abbrev pub holding_tree : Holding → lines.Holding
 holding_tree h = record { temporary = h.temporary.0; source = source_tree h.source }

@@ -5,7 +5,7 @@ ghost use Rattle.core_lines.specs.Held.{some_source, source_of, is_in, without_r
 ghost use Rattle.core_lines.specs.Held.{Register as in_register};
 ghost use Rattle.core_lines.specs.Held.{result_register, with_result, with_taken, with_moved, with_local, with_put, with_results};
 ghost use Rattle.core_lines.specs.Held.{number_in, with_narrowed, is_zero, same_as, with_applied};
-ghost use Rattle.core_lines.specs.Held.{comparison_of, register_in, with_computed};
+ghost use Rattle.core_lines.specs.Held.{comparison_of, number_comparison_of, register_in, with_computed};
 ghost use Rattle.core_meaning.specs.Core.{Add};
 ghost use Rattle.core_lines.specs.Parameters.{parameter_register};
 ghost use Rattle.cyc_core.specs.Trees.{binary_tree, body_tree, bytes_of, optional_tree, temporary_tree};
@@ -13,7 +13,7 @@ ghost use Rattle.rv32_select.specs.Known.{source_tree, holding_tree, keeper_tree
 
 use crate::keeper::{Keeper, compared, keeper_of};
 use crate::parameters::parameter_register;
-use core_lines::{Comparison, Condition};
+use core_lines::{Comparison, Condition, NumberComparison};
 use cyc_core::{Binary, Statement, Temporary, Width, Words};
 use rv32_isa::Register;
 use std::alloc::{AllocError, Global};
@@ -28,6 +28,8 @@ pub enum Source {
     Number(u64),
     /// It is 1 where the comparison holds, and else 0, which code can make again.
     Compared(Comparison),
+    /// The same of a comparison with a number.
+    ComparedWith(NumberComparison),
 }
 
 impl Source {
@@ -42,6 +44,10 @@ impl Source {
                 comparison.left.number() == register.number()
                     || comparison.right.number() == register.number()
             }
+            Source::ComparedWith(numbered) => {
+                numbered.comparison.left.number() == register.number()
+                    || numbered.comparison.right.number() == register.number()
+            }
         }
     }
 
@@ -53,6 +59,7 @@ impl Source {
             Source::Register(register) => some_register(register),
             Source::Number(word) => Some(Source::Number(word)),
             Source::Compared(comparison) => Some(Source::Compared(comparison)),
+            Source::ComparedWith(numbered) => Some(Source::ComparedWith(numbered)),
         }
     }
 }
@@ -199,7 +206,7 @@ impl Known {
     }
 
     /// The number that a temporary's word is known to be.
-    #[tactic(auto, using(crate::proofs::Knowing::number_number, crate::proofs::Knowing::number_register, crate::proofs::Knowing::number_compared, crate::proofs::Knowing::number_none))]
+    #[tactic(auto, using(crate::proofs::Knowing::number_number, crate::proofs::Knowing::number_register, crate::proofs::Knowing::number_compared, crate::proofs::Knowing::number_numbered, crate::proofs::Knowing::number_none))]
     pub fn number(&self, temporary: Temporary) -> Option<u64>
         ensures { result ≡ number_in (source_of self.now temporary.0) }
     {
@@ -207,6 +214,7 @@ impl Known {
             Some(Source::Number(word)) => Some(word),
             Some(Source::Register(_)) => None,
             Some(Source::Compared(_)) => None,
+            Some(Source::ComparedWith(_)) => None,
             None => None,
         }
     }
@@ -223,7 +231,7 @@ impl Known {
     }
 
     /// Whether a temporary's word is known to be 0.
-    #[tactic(auto, using(crate::proofs::Knowing::zero_number, crate::proofs::Knowing::zero_register, crate::proofs::Knowing::zero_compared, crate::proofs::Knowing::zero_none))]
+    #[tactic(auto, using(crate::proofs::Knowing::zero_number, crate::proofs::Knowing::zero_register, crate::proofs::Knowing::zero_compared, crate::proofs::Knowing::zero_numbered, crate::proofs::Knowing::zero_none))]
     pub fn is_zero(&self, temporary: Temporary) -> bool
         ensures { result ≡ is_zero (source_of self.now temporary.0) }
     {
@@ -231,6 +239,7 @@ impl Known {
             Some(Source::Number(word)) => word == 0,
             Some(Source::Register(_)) => false,
             Some(Source::Compared(_)) => false,
+            Some(Source::ComparedWith(_)) => false,
             None => false,
         }
     }
@@ -289,7 +298,7 @@ impl Known {
     }
 
     /// A temporary gets what an operation on two gives, which may be a comparison.
-    fn hold_computed(
+    pub fn hold_computed(
         &mut self,
         temporary: Temporary,
         comparison: Option<Comparison>,
@@ -313,12 +322,14 @@ impl Known {
     ) -> Result<(), AllocError>
         ensures { OnOk result (self.new ≡ with_applied temporary.0
             (same_as (binary_tree operation) left.0 right.0 (source_of self.old left.0) (source_of self.old right.0))
+            (number_comparison_of (binary_tree operation) (source_of self.old left.0) (source_of self.old right.0))
             (comparison_of (binary_tree operation) (source_of self.old left.0) (source_of self.old right.0)) self.old) }
     {
+        let numbered = self.number_comparison(operation, left, right);
         let comparison = self.comparison(operation, left, right);
         match self.same_as(operation, left, right) {
             Some(same) => self.hold_moved(temporary, same),
-            None => self.hold_computed(temporary, comparison),
+            None => self.hold_judged(temporary, numbered, comparison),
         }
     }
 

@@ -45,7 +45,7 @@ fn if_short(number: u64, instructions: Instructions) -> Option<Instructions>
 }
 
 /// A number with its sign turned, as a word.
-fn turned(number: u64) -> u64
+pub fn turned(number: u64) -> u64
     ensures { result ≡ turned number }
 {
     0x1_0000_0000_u64.saturating_sub(number) % 0x1_0000_0000

@@ -31,6 +31,7 @@ pub fn keeper_of(source: Option<Source>) -> Keeper
                 }
             }
             Source::Compared(_) => Keeper::Nowhere,
+            Source::ComparedWith(_) => Keeper::Nowhere,
         },
         None => Keeper::Nowhere,
     }

@@ -34,6 +34,7 @@ mod locals;
 mod marks;
 mod memory;
 mod nulls;
+mod numbered;
 mod operands;
 mod operation;
 mod parameters;

@@ -2,16 +2,17 @@
 
 ghost use Rattle.std.specs.Prelude.{◌≡◌, ◌++◌, IfOk, OnOk};
 ghost use Rattle.core_lines.specs.Held.{result_register, source_of};
-ghost use Rattle.core_lines.specs.Operands.{into_code, keep_code, number_kept, verdict_kept, move_kept, test_in, test_ready};
+ghost use Rattle.core_lines.specs.Operands.{into_code, keep_code, number_kept, verdict_kept, numbered_kept, move_kept, test_in, test_ready};
 ghost use Rattle.core_lines.specs.Operands.{stored_in, stored_code};
 ghost use Rattle.core_lines.specs.Selected.{from_temp, to_temp, operand, has_operand, keep_result};
 ghost use Rattle.rv32_select.specs.Places.{surroundings};
 
 use crate::comparing::{is_some, put_verdict};
-use crate::emit::{FIRST, SECOND, put_copied, put_load, put_number, put_save};
+use crate::emit::{ADDRESS, FIRST, SECOND, put_copied, put_load, put_number, put_save};
 use crate::held::{Source, result_register};
+use crate::numbered::put_numbered;
 use crate::place::Place;
-use core_lines::{Comparison, Line};
+use core_lines::{Comparison, Line, NumberComparison};
 use cyc_core::Temporary;
 use rv32_isa::Register;
 use std::alloc::AllocError;
@@ -61,6 +62,10 @@ pub fn put_operand(
                 put_verdict(lines, spare, comparison)?;
                 Ok(spare)
             }
+            Source::ComparedWith(numbered) => {
+                put_numbered(lines, spare, numbered)?;
+                Ok(spare)
+            }
         },
         None => {
             put_from(lines, place, spare, from)?;
@@ -103,6 +108,10 @@ pub fn put_test(
                 Ok(is_some(spare))
             }
             Source::Compared(comparison) => Ok(comparison),
+            Source::ComparedWith(numbered) => {
+                put_number(lines, ADDRESS, numbered.number)?;
+                Ok(numbered.comparison)
+            }
         },
         None => {
             put_from(lines, place, spare, from)?;
@@ -125,6 +134,7 @@ pub fn put_into(
             Source::Register(register) => put_copied(lines, to, register),
             Source::Number(word) => put_number(lines, to, word),
             Source::Compared(comparison) => put_verdict(lines, to, comparison),
+            Source::ComparedWith(numbered) => put_numbered(lines, to, numbered),
         },
         None => put_from(lines, place, to, from),
     }
@@ -195,6 +205,24 @@ pub fn put_verdict_kept(
     }
 }
 
+/// Appends the save of the verdict of a comparison with a number into a temporary's slot, if it is to be saved.
+pub fn put_numbered_kept(
+    lines: &mut Vec<Line>,
+    place: &Place,
+    keeps: bool,
+    to: Temporary,
+    numbered: NumberComparison,
+) -> Result<(), AllocError>
+    ensures { OnOk result (lines.new.items ≡ lines.old.items ++ numbered_kept keeps place.now.passed to.0 numbered) }
+{
+    if keeps {
+        put_numbered(lines, FIRST, numbered)?;
+        put_to(lines, place, FIRST, to)
+    } else {
+        Ok(())
+    }
+}
+
 /// Appends what gives a temporary the word of another one.
 pub fn put_moved(
     lines: &mut Vec<Line>,
@@ -211,6 +239,7 @@ pub fn put_moved(
             Source::Register(register) => put_kept(lines, place, keeps, register, to),
             Source::Number(word) => put_number_kept(lines, place, keeps, to, word),
             Source::Compared(comparison) => put_verdict_kept(lines, place, keeps, to, comparison),
+            Source::ComparedWith(numbered) => put_numbered_kept(lines, place, keeps, to, numbered),
         },
         None => {
             put_from(lines, place, result_register(to), from)?;

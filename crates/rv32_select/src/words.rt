@@ -2,8 +2,8 @@
 
 ghost use Rattle.std.specs.Prelude.{◌≡◌, ◌++◌, OnOk, Some, None, option_map};
 ghost use Rattle.core_meaning.specs.Core as core;
-ghost use Rattle.core_lines.specs.Held.{result_register, source_of, comparison_of};
-ghost use Rattle.core_lines.specs.Selected.{binary_code, narrow_kept, operation_code, immediate_for, apply_code, computed_kept};
+ghost use Rattle.core_lines.specs.Held.{result_register, source_of, comparison_of, number_comparison_of};
+ghost use Rattle.core_lines.specs.Selected.{binary_code, narrow_kept, operation_code, immediate_for, apply_code, computed_kept, judged_kept};
 ghost use Rattle.cyc_core.specs.Trees.{binary_tree};
 ghost use Rattle.rv32_select.specs.Immediates.{instruction_lines, with_code};
 ghost use Rattle.rv32_select.specs.Places.{surroundings};
@@ -11,7 +11,9 @@ ghost use Rattle.rv32_select.specs.Places.{surroundings};
 use crate::emit::{FIRST, SECOND, put};
 use crate::held::{Source, result_register};
 use crate::immediates::{Instructions, immediate_of, put_instructions};
-use crate::operands::{put_moved, put_number_kept, put_operand, put_result, put_verdict_kept};
+use crate::operands::{
+    put_moved, put_number_kept, put_numbered_kept, put_operand, put_result, put_verdict_kept,
+};
 use crate::place::Place;
 use core_lines::Line;
 use cyc_core::{Binary, Temporary};
@@ -77,7 +79,10 @@ fn immediate_for(
 {
     match place.held.source(right) {
         Some(Source::Number(number)) => immediate_of(operation, to, left, number),
-        Some(Source::Register(_)) | Some(Source::Compared(_)) | None => None,
+        Some(Source::Register(_))
+        | Some(Source::Compared(_))
+        | Some(Source::ComparedWith(_))
+        | None => None,
     }
 }
 
@@ -141,6 +146,27 @@ fn put_computed(
     }
 }
 
+/// The same, where it may also be a comparison of a register and a number.
+fn put_judged(
+    lines: &mut Vec<Line>,
+    place: &Place,
+    keeps: bool,
+    operation: Binary,
+    to: Temporary,
+    left: Temporary,
+    right: Temporary,
+) -> Result<(), AllocError>
+    ensures { let u = surroundings place.now in OnOk result (lines.new.items ≡ lines.old.items
+        ++ judged_kept keeps u (binary_tree operation) to.0 left.0 right.0
+        (number_comparison_of (binary_tree operation) (source_of u.held left.0) (source_of u.held right.0))
+        (comparison_of (binary_tree operation) (source_of u.held left.0) (source_of u.held right.0))) }
+{
+    match place.held.number_comparison(operation, left, right) {
+        Some(numbered) => put_numbered_kept(lines, place, keeps, to, numbered),
+        None => put_computed(lines, place, keeps, operation, to, left, right),
+    }
+}
+
 /// Appends what gives a temporary what an operation on two gives: the word of one of them where the other one is known to be 0 and added.
 pub fn put_apply(
     lines: &mut Vec<Line>,
@@ -156,7 +182,7 @@ pub fn put_apply(
 {
     match place.held.same_as(operation, left, right) {
         Some(same) => put_moved(lines, place, keeps, to, same),
-        None => put_computed(lines, place, keeps, operation, to, left, right),
+        None => put_judged(lines, place, keeps, operation, to, left, right),
     }
 }
 

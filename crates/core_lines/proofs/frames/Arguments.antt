@@ -40,23 +40,23 @@ use Rattle.core_lines.specs.declared.line.Line.{Line}
 use Rattle.core_lines.specs.declared.line.Line.TheVariants.{CallTo}
 use Rattle.core_lines.specs.Lines.{code_length, offset_to}
 use Rattle.core_lines.specs.Frames.{save_code, slot_of}
-use Rattle.core_lines.specs.Held.{Source, Register, Number, Compared, Holding, source_of}
-use Rattle.core_lines.specs.Comparisons.{verdict_code}
+use Rattle.core_lines.specs.Held.{Source, Register, Number, Compared, ComparedWith, Holding, source_of}
 use Rattle.core_lines.specs.Loaded.{unknown_in}
-use Rattle.core_lines.specs.Operands.{number_code, register_for, bring_code, operand_in, operand_code, pass_code}
+use Rattle.core_lines.specs.Operands.{register_for, bring_code, operand_in, operand_code, pass_code}
 use Rattle.core_lines.specs.Lies.{Maps, Shows, Activation}
 use Rattle.core_meaning.specs.Selectable.{AreBelow}
 use Rattle.core_lines.proofs.memory.Relations.{Moves, World, IsInOrder, Has, Waiting, AreKept, back_of, FrameShows, StackShows, Stands, Calling, Passed}
 use Rattle.core_lines.proofs.memory.Moving.{Reach, Comes, comes_then, comes_as, and_then, stays}
 use Rattle.core_lines.proofs.memory.Words.{offset_joined}
 use Rattle.core_lines.proofs.Steps.{state_at, goes_to, is_in_code}
-use Rattle.core_lines.proofs.memory.Slots.{puts_number}
-use Rattle.core_lines.proofs.memory.Verdicts.{is_so, truth_few, puts_verdict}
+use Rattle.core_lines.proofs.memory.Slots.{Puts, puts_number}
+use Rattle.core_lines.proofs.memory.Verdicts.{is_so, verdict, truth_few, puts_verdict}
 use Rattle.core_lines.proofs.memory.Fitting.{with_slot}
 use Rattle.core_lines.proofs.homes.Homes.{kept_stays, set_stays}
 use Rattle.core_lines.proofs.memory.Access.{Saved, behind, length_of_both, written_out, loads, saves, stands_behind}
 use Rattle.core_lines.proofs.frames.Passing.{has_first, has_second, frame_on, temp_lies}
-use Rattle.core_lines.proofs.operations.Holding.{InRegister, AreThere, IsServed, spare_apart, source_not_zero, there_found, there_kept}
+use Rattle.core_lines.proofs.operations.NumberVerdicts.{puts_numbered}
+use Rattle.core_lines.proofs.operations.Holding.{InRegister, numbered_verdict, numbered_few, AreThere, IsServed, spare_apart, source_not_zero, there_found, there_kept}
 use Rattle.core_lines.proofs.operations.Holding.{served_first, served_others}
 
 -- the slots of the innermost frame have the first of them
@@ -108,6 +108,28 @@ module _ (w : World) (order : IsInOrder w) (x : Waiting) (outer : List Waiting) 
       → Has w place (operand_code x.fn.passed hs 5 t) → Brought t (source_of hs t) place m (a ∷ fs) sp s
   brought t place m a fs sp s less served shows stands known has = by (source_of hs t) refl has
     where
+      lines : Option Source → List Line
+      lines source = bring_code x.fn.passed 5 t source
+
+      -- code puts it into x5
+      by_word : (source : Option Source) (n : ℕ) → register_for 5 source ≡ 5
+          → Puts w place (place + code_length (lines source)) (code_length (lines source) / 4) 5 n s.registers s.bytes s.store
+          → Shows m (x.config.temps t) n × (n < 2 ^ 32) → Brought t source place m (a ∷ fs) sp s
+      by_word source n is p shown =
+          let end = place + code_length (lines source) in
+          record {
+            new = p.new;
+            moves = subst (λ (q : Machine). Moves w.areas (code_length (lines source) / 4) q (state_at end p.new s.bytes s.store))
+                (sym (written_out w order mem place m (a ∷ fs) sp s stands)) p.moves;
+            stands_on = stands_behind w order mem place m (a ∷ fs) sp s stands end p.new (behind place (lines source) stands.aligned)
+                (kept_stays 5 p.new s.registers refl p.kept);
+            register = 4;
+            is = is;
+            holds = subst (λ k. Shows m (x.config.temps t) k × (k < 2 ^ 32)) (sym p.holds) shown;
+            not7 = refl;
+            known = there_kept 4 hs x.config.temps refl m p.new s.registers p.kept known;
+          }
+
       by : (source : Option Source) → source_of hs t ≡ source → Has w place (bring_code x.fn.passed 5 t source)
           → Brought t source place m (a ∷ fs) sp s
       by None e has =
@@ -141,39 +163,15 @@ module _ (w : World) (order : IsInOrder w) (x : Waiting) (outer : List Waiting) 
           }
       by (Some (Number n)) e has =
           let there = there_found hs t (Number n) x.config.temps m s.registers known e in
-          let p = puts_number w order place s.registers s.bytes s.store stands.kept 4 n there.1 has in
-          let end = place + code_length (number_code 5 n) in
-          record {
-            new = p.new;
-            moves = subst (λ (q : Machine). Moves w.areas (code_length (number_code 5 n) / 4) q (state_at end p.new s.bytes s.store))
-                (sym (written_out w order mem place m (a ∷ fs) sp s stands)) p.moves;
-            stands_on = stands_behind w order mem place m (a ∷ fs) sp s stands end p.new (behind place (number_code 5 n) stands.aligned)
-                (kept_stays 5 p.new s.registers refl p.kept);
-            register = 4;
-            is = refl;
-            holds = (subst (λ k. Shows m (x.config.temps t) k) (sym p.holds) there.0, subst (λ k. k < 2 ^ 32) (sym p.holds) there.1);
-            not7 = refl;
-            known = there_kept 4 hs x.config.temps refl m p.new s.registers p.kept known;
-          }
+          by_word (Some (Number n)) n refl (puts_number w order place s.registers s.bytes s.store stands.kept 4 n there.1 has) there
       by (Some (Compared c)) e has =
           let there = there_found hs t (Compared c) x.config.temps m s.registers known e in
-          let p = puts_verdict w order place s.registers s.bytes s.store stands.kept c 4 there.1.1 there.2.1 has in
-          let lines = verdict_code 5 c in
-          record {
-            new = p.new;
-            moves = subst (λ (q : Machine). Moves w.areas (code_length lines / 4) q (state_at (place + code_length lines) p.new s.bytes s.store))
-                (sym (written_out w order mem place m (a ∷ fs) sp s stands)) p.moves;
-            stands_on = stands_behind w order mem place m (a ∷ fs) sp s stands (place + code_length lines) p.new (behind place lines stands.aligned)
-                (kept_stays 5 p.new s.registers refl p.kept);
-            register = 4;
-            is = refl;
-            holds = (
-              subst (λ k. Shows m (x.config.temps t) k) (sym p.holds) there.0,
-              subst (λ k. k < 2 ^ 32) (sym p.holds) (truth_few (is_so c s.registers)),
-            );
-            not7 = refl;
-            known = there_kept 4 hs x.config.temps refl m p.new s.registers p.kept known;
-          }
+          by_word (Some (Compared c)) (verdict c s.registers) refl
+          (puts_verdict w order place s.registers s.bytes s.store stands.kept c 4 there.1.1 there.2.1 has) (there.0, truth_few (is_so c s.registers))
+      by (Some (ComparedWith n)) e has =
+          let there = there_found hs t (ComparedWith n) x.config.temps m s.registers known e in
+          by_word (Some (ComparedWith n)) (numbered_verdict n s.registers) refl
+          (puts_numbered w order place s.registers s.bytes s.store stands.kept n 4 there.1 there.2 has) (there.0, numbered_few n s.registers)
 
   abbrev passing : ℕ → ℕ → List Line
   passing t k = operand_code x.fn.passed hs 5 t ++ save_code (operand_in hs 5 t) (1 + k)

@@ -40,21 +40,23 @@ use Rattle.rv32_machine.specs.Audit.{AccessIsLawful}
 use Rattle.core_meaning.specs.Memory.{Content, Part, Memory, with_part}
 use Rattle.core_meaning.specs.Operations.{low_byte}
 use Rattle.core_lines.specs.declared.comparison.Comparison.{Comparison}
+use Rattle.core_lines.specs.declared.comparison.NumberComparison.{NumberComparison}
 use Rattle.core_lines.specs.Comparisons.{verdict_code}
 use Rattle.core_lines.specs.declared.line.Line.{Line}
 use Rattle.core_lines.specs.declared.line.Line.TheVariants.{Plain}
 use Rattle.core_lines.specs.Lines.{HasInstr, code_length}
 use Rattle.core_lines.specs.Frames.{load_code, slot_of}
-use Rattle.core_lines.specs.Held.{Source, Register, Number, Compared, Holding, source_of, without_register, with_source}
-use Rattle.core_lines.specs.Operands.{number_code, operand_in, operand_code, fetch_code, into_code, keep_code}
+use Rattle.core_lines.specs.Held.{Source, Register, Number, Compared, ComparedWith, Holding, source_of, without_register, with_source}
+use Rattle.core_lines.specs.Operands.{number_code, numbered_code, operand_in, operand_code, fetch_code, into_code, keep_code}
 use Rattle.core_lines.specs.Homes.{is_home}
 use Rattle.core_lines.specs.Machines.{Machine, Store, state_of}
 use Rattle.core_lines.specs.Lies.{Maps, Shows, Activation, local_at}
 use Rattle.core_lines.proofs.memory.Relations.{Moves, World, IsInOrder, Has, Waiting, Follows, keeping, back_of, FrameShows}
 use Rattle.core_lines.proofs.memory.Moving.{Reach, Comes, comes_then, comes_as, bare}
 use Rattle.core_lines.proofs.Steps.{state_at, gives_value}
-use Rattle.core_lines.proofs.memory.Slots.{Kept, set_here, puts_number}
-use Rattle.core_lines.proofs.memory.Verdicts.{is_so, truth_few, puts_verdict}
+use Rattle.core_lines.proofs.memory.Slots.{Kept, Puts, set_here, puts_number}
+use Rattle.core_lines.proofs.memory.Verdicts.{is_so, verdict, truth_few, puts_verdict}
+use Rattle.core_lines.proofs.operations.NumberVerdicts.{puts_numbered}
 use Rattle.core_lines.proofs.homes.Homes.{other_home}
 use Rattle.core_lines.proofs.homes.HomeLocals.{home_stored}
 use Rattle.core_lines.proofs.memory.Storing.{low_shows}
@@ -67,6 +69,8 @@ use Rattle.core_lines.proofs.operations.Registers.{
   with_there,
   as_holding,
   is_spare,
+  numbered_verdict,
+  numbered_few,
   InRegister,
   InOperand,
   AreThere,
@@ -246,35 +250,40 @@ module _ (w : World) (order : IsInOrder w) (x : Waiting) (outer : List Waiting) 
         let same = none_added (registers (suc q)) here.0.1 in
         (subst (λ n. Shows m v n) (sym same) here.0.0, subst (λ n. n < 2 ^ 32) (sym same) here.0.1)) known_there
 
-    from_number : (n : ℕ) → source_of hs y ≡ Some (Number n) → (place : ℕ) → Has w place (number_code (suc r) n) → Stores (number_code (suc r) n) place
-    from_number n is place has = record {
-      count = code_length (number_code (suc r) n) / 4;
+    -- by code that puts the word there
+    from_code : (lines : List Line) (value : (ℕ → ℕ) → ℕ) (place : ℕ)
+        → ((s : Machine) (a : AtWith w x outer mem place Known s)
+        → Puts w place (place + code_length lines) (code_length lines / 4) (suc r) (value s.registers) s.registers s.bytes s.store
+        × (Shows a.maps v (value s.registers) × (value s.registers < 2 ^ 32)))
+        → Stores lines place
+    from_code lines value place puts = record {
+      count = code_length lines / 4;
       by = λ s a.
-          let here = there_found hs y (Number n) x.config.temps a.maps s.registers a.holds is in
-          let p = puts_number w order place s.registers s.bytes s.store a.stands.kept r n here.1 has in
-          let lines = number_code (suc r) n in
-          let there : InRegister (suc r) v a.maps p.new = subst (λ q. Shows a.maps v q × (q < 2 ^ 32)) (sym p.holds) here in
+          let both = puts s a in
+          let p = both.0 in
+          let there : InRegister (suc r) v a.maps p.new = subst (λ q. Shows a.maps v q × (q < 2 ^ 32)) (sym p.holds) both.1 in
           stores_home v Known Both place (code_length lines / 4) lines s a p.new
           (subst (λ (t : Machine). Moves w.areas (code_length lines / 4) t (state_at (place + code_length lines) p.new s.bytes s.store))
           (sym (written_out w order mem place a.maps (a.frame ∷ a.others) a.sp s a.stands)) p.moves)
           p.kept there (known_there a.maps p.new s.registers there p.kept a.holds);
     }
 
+    from_number : (n : ℕ) → source_of hs y ≡ Some (Number n) → (place : ℕ) → Has w place (number_code (suc r) n) → Stores (number_code (suc r) n) place
+    from_number n is place has = from_code (number_code (suc r) n) (λ registers. n) place (λ s a.
+        let here = there_found hs y (Number n) x.config.temps a.maps s.registers a.holds is in
+        (puts_number w order place s.registers s.bytes s.store a.stands.kept r n here.1 has, here))
+
     from_verdict : (c : Comparison) → source_of hs y ≡ Some (Compared c) → (place : ℕ) → Has w place (verdict_code (suc r) c)
         → Stores (verdict_code (suc r) c) place
-    from_verdict c is place has = record {
-      count = code_length (verdict_code (suc r) c) / 4;
-      by = λ s a.
-          let here = there_found hs y (Compared c) x.config.temps a.maps s.registers a.holds is in
-          let p = puts_verdict w order place s.registers s.bytes s.store a.stands.kept c r here.1.1 here.2.1 has in
-          let lines = verdict_code (suc r) c in
-          let there : InRegister (suc r) v a.maps p.new =
-          (subst (λ q. Shows a.maps v q) (sym p.holds) here.0, subst (λ q. q < 2 ^ 32) (sym p.holds) (truth_few (is_so c s.registers))) in
-          stores_home v Known Both place (code_length lines / 4) lines s a p.new
-          (subst (λ (t : Machine). Moves w.areas (code_length lines / 4) t (state_at (place + code_length lines) p.new s.bytes s.store))
-          (sym (written_out w order mem place a.maps (a.frame ∷ a.others) a.sp s a.stands)) p.moves)
-          p.kept there (known_there a.maps p.new s.registers there p.kept a.holds);
-    }
+    from_verdict c is place has = from_code (verdict_code (suc r) c) (verdict c) place (λ s a.
+        let here = there_found hs y (Compared c) x.config.temps a.maps s.registers a.holds is in
+        (puts_verdict w order place s.registers s.bytes s.store a.stands.kept c r here.1.1 here.2.1 has, (here.0, truth_few (is_so c s.registers))))
+
+    from_numbered : (n : NumberComparison) → source_of hs y ≡ Some (ComparedWith n) → (place : ℕ) → Has w place (numbered_code (suc r) n)
+        → Stores (numbered_code (suc r) n) place
+    from_numbered n is place has = from_code (numbered_code (suc r) n) (numbered_verdict n) place (λ s a.
+        let here = there_found hs y (ComparedWith n) x.config.temps a.maps s.registers a.holds is in
+        (puts_numbered w order place s.registers s.bytes s.store a.stands.kept n r here.1 here.2 has, (here.0, numbered_few n s.registers)))
 
     from_source : (s : Option Source) → source_of hs y ≡ s → (place : ℕ) → Has w place (fetch_code x.fn.passed (suc r) y s)
         → Stores (fetch_code x.fn.passed (suc r) y s) place
@@ -283,6 +292,7 @@ module _ (w : World) (order : IsInOrder w) (x : Waiting) (outer : List Waiting) 
     from_source (Some (Register (suc q))) is place has = from_register q is (nat_eq (suc q) (suc r)) refl place has
     from_source (Some (Number n)) is place has = from_number n is place has
     from_source (Some (Compared c)) is place has = from_verdict c is place has
+    from_source (Some (ComparedWith n)) is place has = from_numbered n is place has
 
     -- with what is known before and behind
     stored_as : (v : Content) (place end : ℕ) (after : List Holding)

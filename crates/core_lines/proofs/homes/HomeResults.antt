@@ -52,7 +52,8 @@ use Rattle.core_lines.proofs.operations.Registers.{
 }
 use Rattle.core_lines.proofs.operations.Computing.{Operands, resulting}
 use Rattle.core_lines.proofs.operations.Values.{two_below}
-use Rattle.core_lines.proofs.operations.Immediates.{let_through, short_is, turned_is}
+use Rattle.core_lines.proofs.operations.Immediates.{let_through, short_is}
+use Rattle.core_lines.proofs.operations.NumberVerdicts.{turned_is}
 
 module _ (w : World) (order : IsInOrder w) (x : Waiting) (outer : List Waiting) (mem : Memory) (hs : List Holding) (k o r : ℕ)
     (yes : is_home (suc r) ≡ true) (part : Part) (has_part : mem.parts (local_at k o) 0 ≡ Some part)

@@ -20,25 +20,24 @@ use Rattle.core_lines.specs.Frames.{saves_code, restores_code, leave_code, epilo
 use Rattle.core_lines.specs.Checks.{Failure, Always, ByTest, either_code, failure_code, tested_code, check_code}
 use Rattle.core_lines.specs.Homes.{flag_at}
 use Rattle.core_lines.specs.Loops.{are_words, copy_loop, clear_loop}
-use Rattle.core_lines.specs.Held.{Source, Register, Number, Compared, Holding, source_of, is_zero, without_register, result_register, same_as}
-use Rattle.core_lines.specs.Held.{comparison_of}
+use Rattle.core_lines.specs.Held.{Source, Register, Number, Compared, ComparedWith, Holding, source_of, is_zero, without_register, result_register, same_as}
+use Rattle.core_lines.specs.Held.{comparison_of, number_comparison_of}
+use Rattle.core_lines.specs.declared.comparison.NumberComparison.{NumberComparison}
 use Rattle.core_lines.specs.Operands.{number_code, operand_in, bring_code, operand_code, fetch_code, into_code, keep_code, number_kept}
-use Rattle.core_lines.specs.Operands.{verdict_kept, move_kept, test_in, ready_code, test_ready, stored_in, stored_code}
+use Rattle.core_lines.specs.Operands.{numbered_code, verdict_kept, numbered_kept, move_kept, test_in, ready_code, test_ready, stored_in, stored_code}
 use Rattle.core_lines.specs.Operands.{pass_code, result_code, call_code, values_code, return_code, take_code, prologue_code}
 use Rattle.core_lines.specs.Selected.{Surroundings, local_offset, local_home, nth, from_temp, far_code, read_line, read_code, write_line, write_code}
 use Rattle.core_lines.specs.Selected.{binary_code, turned, immediate_code, immediate_for, address_code, further_code}
-use Rattle.core_lines.specs.Selected.{operand, has_operand, both_code, apply_code, keep_result, computed_kept, applied_kept, get_code, byte_code, put_code}
+use Rattle.core_lines.specs.Selected.{operand, has_operand, both_code, apply_code, keep_result, computed_kept, judged_kept, applied_kept, get_code, byte_code, put_code}
 use Rattle.core_lines.specs.Straight.{straight_operation, straight_code}
 use Rattle.core_meaning.specs.Core.{Statement, Do}
 use Rattle.core_lines.specs.Selected.{null_source, null_kept}
 use Rattle.core_lines.specs.Selected.{number_in, narrow_kept, exponent_of, times_code, element_code, copy_code, clear_code, bytes_in, bytes_code, operation_code}
 use Rattle.core_lines.specs.Selected.{argument_code, keep_answer}
+pub use Rattle.core_lines.proofs.labels.BareNumbers.{number_bare, numbered_bare}
 pub use Rattle.core_lines.proofs.labels.BareLines.{are_bare, bare_places, bare_targets, two, three, four, either, one, verdict_bare}
 
 -- ---- slots and words
-
-number_bare : (to w : ℕ) → are_bare (number_code to w) ≡ true
-number_bare to w = either (is_short w) _ _ refl (either (nat_eq (w % 2 ^ 12) 0) _ _ refl refl)
 
 load_bare : (to k : ℕ) → are_bare (load_code to k) ≡ true
 load_bare to k = either (is_short (4 * k)) _ _ refl refl
@@ -68,6 +67,7 @@ module _ (passed : ℕ) where
   bring_bare spare t (Some (Register r)) = refl
   bring_bare spare t (Some (Number w)) = number_bare spare w
   bring_bare spare t (Some (Compared c)) = verdict_bare spare c
+  bring_bare spare t (Some (ComparedWith n)) = numbered_bare spare n
 
   pub operand_bare : (hs : List Holding) (spare t : ℕ) → are_bare (operand_code passed hs spare t) ≡ true
   operand_bare hs spare t = bring_bare spare t (source_of hs t)
@@ -80,12 +80,14 @@ module _ (passed : ℕ) where
   fetch_bare to t (Some (Register r)) = either (nat_eq r to) _ _ refl refl
   fetch_bare to t (Some (Number w)) = number_bare to w
   fetch_bare to t (Some (Compared c)) = verdict_bare to c
+  fetch_bare to t (Some (ComparedWith n)) = numbered_bare to n
 
   ready_bare : (spare t : ℕ) (s : Option Source) → are_bare (ready_code passed spare t s) ≡ true
   ready_bare spare t None = load_bare spare (slot_of passed t)
   ready_bare spare t (Some (Register r)) = refl
   ready_bare spare t (Some (Number w)) = number_bare spare w
   ready_bare spare t (Some (Compared c)) = refl
+  ready_bare spare t (Some (ComparedWith n)) = number_bare 7 n.number
 
   pub test_bare : (hs : List Holding) (spare t : ℕ) → are_bare (test_ready passed hs spare t) ≡ true
   test_bare hs spare t = ready_bare spare t (source_of hs t)
@@ -141,12 +143,17 @@ module _ (passed : ℕ) where
   verdict_kept_bare keeps t c =
       either keeps _ _ (two (verdict_code 5 c) (save_code 5 (slot_of passed t)) (verdict_bare 5 c) (save_bare 5 (slot_of passed t))) refl
 
+  numbered_kept_bare : (keeps : Bool) (t : ℕ) (n : NumberComparison) → are_bare (numbered_kept keeps passed t n) ≡ true
+  numbered_kept_bare keeps t n =
+      either keeps _ _ (two (numbered_code 5 n) (save_code 5 (slot_of passed t)) (numbered_bare 5 n) (save_bare 5 (slot_of passed t))) refl
+
   move_bare : (keeps : Bool) (own t x : ℕ) (s : Option Source) → are_bare (move_kept keeps passed own t x s) ≡ true
   move_bare keeps own t x None =
       two (load_code own (slot_of passed x)) (keep_code keeps passed own t) (load_bare own (slot_of passed x)) (keep_bare keeps own t)
   move_bare keeps own t x (Some (Register r)) = keep_bare keeps r t
   move_bare keeps own t x (Some (Number w)) = number_kept_bare keeps t w
   move_bare keeps own t x (Some (Compared c)) = verdict_kept_bare keeps t c
+  move_bare keeps own t x (Some (ComparedWith n)) = numbered_kept_bare keeps t n
 
   result_bare : (flags : List Bool) (r : ℕ) (ts : List ℕ) → are_bare (result_code flags passed r ts) ≡ true
   result_bare flags r [] = refl
@@ -219,6 +226,7 @@ immediate_for_bare o to left None = refl
 immediate_for_bare o to left (Some (Register r)) = refl
 immediate_for_bare o to left (Some (Number n)) = immediate_bare o to left n
 immediate_for_bare o to left (Some (Compared c)) = refl
+immediate_for_bare o to left (Some (ComparedWith n)) = refl
 
 -- ---- operations
 
@@ -289,9 +297,15 @@ module _ (u : Surroundings) where
     computed_bare o t x y None = kept_bare t (apply_code u o (result_register t) x y) (apply_bare o (result_register t) x y)
     computed_bare o t x y (Some c) = verdict_kept_bare u.passed keeps t c
 
-    applied_bare : (o : Binary) (t x y : ℕ) (same : Option ℕ) (compared : Option Comparison) → are_bare (applied_kept keeps u o t x y same compared) ≡ true
-    applied_bare o t x y None compared = computed_bare o t x y compared
-    applied_bare o t x y (Some z) compared = move_bare u.passed keeps (result_register t) t z (source_of u.held z)
+    judged_bare : (o : Binary) (t x y : ℕ) (told : Option NumberComparison) (compared : Option Comparison)
+        → are_bare (judged_kept keeps u o t x y told compared) ≡ true
+    judged_bare o t x y None compared = computed_bare o t x y compared
+    judged_bare o t x y (Some n) compared = numbered_kept_bare u.passed keeps t n
+
+    applied_bare : (o : Binary) (t x y : ℕ) (same : Option ℕ) (told : Option NumberComparison) (compared : Option Comparison)
+        → are_bare (applied_kept keeps u o t x y same told compared) ≡ true
+    applied_bare o t x y None told compared = judged_bare o t x y told compared
+    applied_bare o t x y (Some z) told compared = move_bare u.passed keeps (result_register t) t z (source_of u.held z)
 
     get_bare : (h t width w : ℕ) → are_bare (get_code keeps u h t width w) ≡ true
     get_bare zero t width w = kept_bare t (read_code (result_register t) width 2 w) (read_bare (result_register t) width 2 w)
@@ -330,7 +344,8 @@ module _ (u : Surroundings) where
     operation_bare (Move t x) = move_bare u.passed keeps (result_register t) t x (source_of u.held x)
     operation_bare (Narrow t x) = narrow_bare t x (number_in (source_of u.held x))
     operation_bare (Apply o t x y) =
-        applied_bare o t x y (same_as o x y (source_of u.held x) (source_of u.held y)) (comparison_of o (source_of u.held x) (source_of u.held y))
+        applied_bare o t x y (same_as o x y (source_of u.held x) (source_of u.held y)) (number_comparison_of o (source_of u.held x) (source_of u.held y))
+        (comparison_of o (source_of u.held x) (source_of u.held y))
     operation_bare (LocalAddress t out local) =
         kept_bare t (address_code (result_register t) (local_offset u out local)) (address_bare (result_register t) (local_offset u out local))
     operation_bare (OwnAddress t object) =

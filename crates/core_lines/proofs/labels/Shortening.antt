@@ -44,8 +44,10 @@ use Rattle.core_meaning.specs.Core.{
 use Rattle.core_lines.specs.Lines.{AreOnce}
 use Rattle.core_lines.specs.Frames.{environment_code, raise_code, stack_start_code, refusal_code, epilogue_code}
 use Rattle.core_lines.specs.Homes.{saved_by, saved_slot, flag_at}
-use Rattle.core_lines.specs.Held.{Source, Holding, held_behind, held_behind_all, source_of, result_register, same_as, comparison_of, null_source}
+use Rattle.core_lines.specs.Held.{Source, Holding, held_behind, held_behind_all, source_of, result_register, same_as, comparison_of, number_comparison_of}
+use Rattle.core_lines.specs.Held.{null_source}
 use Rattle.core_lines.specs.declared.comparison.Comparison.{Comparison}
+use Rattle.core_lines.specs.declared.comparison.NumberComparison.{NumberComparison}
 use Rattle.core_lines.specs.Operands.{test_in, test_ready, keep_code, call_code, return_code, prologue_code}
 use Rattle.core_lines.specs.Checks.{Failure, check_of, check_code, checked_code}
 use Rattle.core_lines.specs.Choosing.{far, jump_unless, choice_code, between_code, behind_code}
@@ -133,18 +135,20 @@ operation_same f g keeps u (Narrow t x) = by (number_in (source_of u.held x))
     by None = refl
     by (Some w) = refl
 operation_same f g keeps u (Apply o t x y) =
-    by (same_as o x y (source_of u.held x) (source_of u.held y)) (comparison_of o (source_of u.held x) (source_of u.held y))
+    by (same_as o x y (source_of u.held x) (source_of u.held y)) (number_comparison_of o (source_of u.held x) (source_of u.held y))
+    (comparison_of o (source_of u.held x) (source_of u.held y))
   where
     in_both : (lines : Option (List Line))
         → both_code (with_wide f u) o (result_register t) x y lines ≡ both_code (with_wide g u) o (result_register t) x y lines
     in_both None = refl
     in_both (Some lines) = refl
 
-    by : (same : Option ℕ) (compared : Option Comparison)
-        → applied_kept keeps (with_wide f u) o t x y same compared ≡ applied_kept keeps (with_wide g u) o t x y same compared
-    by None (Some c) = refl
-    by None None = ap (λ ls. ls ++ keep_result keeps u t) (in_both (immediate_for o (result_register t) (has_operand u 5 x) (source_of u.held y)))
-    by (Some z) compared = refl
+    by : (same : Option ℕ) (told : Option NumberComparison) (compared : Option Comparison)
+        → applied_kept keeps (with_wide f u) o t x y same told compared ≡ applied_kept keeps (with_wide g u) o t x y same told compared
+    by None (Some n) compared = refl
+    by None None (Some c) = refl
+    by None None None = ap (λ ls. ls ++ keep_result keeps u t) (in_both (immediate_for o (result_register t) (has_operand u 5 x) (source_of u.held y)))
+    by (Some z) told compared = refl
 operation_same f g keeps u (LocalAddress t out local) = refl
 operation_same f g keeps u (OwnAddress t object) = refl
 operation_same f g keeps u (DataAddress t object) = refl

@@ -4,7 +4,7 @@ use Rattle.rv32_machine.specs.State.{data_base}
 use Rattle.core_meaning.specs.Memory.{Content, Own, Born, Memory, is_live}
 use Rattle.core_meaning.specs.Meaning.{with_objects}
 use Rattle.core_lines.specs.Machines.{Machine}
-use Rattle.core_lines.specs.Held.{Source, Register, Number, Compared, Holding}
+use Rattle.core_lines.specs.Held.{Source, Register, Number, Compared, ComparedWith, Holding}
 use Rattle.core_lines.specs.Lies.{Maps, Extends, Activation}
 use Rattle.core_lines.proofs.homes.Homes.{homes_spared}
 use Rattle.core_lines.proofs.memory.Relations.{no_zones, World, IsInOrder, Waiting, BlocksLie, back_of}
@@ -12,7 +12,7 @@ use Rattle.core_lines.proofs.memory.Extending.{frame_extends, stack_extends}
 use Rattle.core_lines.proofs.memory.Laying.{LaidOut}
 use Rattle.core_lines.proofs.memory.Owning.{owns}
 use Rattle.core_lines.proofs.memory.Alike.{shows_on}
-use Rattle.core_lines.proofs.operations.Holding.{verdict, IsThere, AreThere}
+use Rattle.core_lines.proofs.operations.Holding.{verdict, numbered_verdict, IsThere, AreThere}
 use Rattle.core_lines.proofs.operations.Standing.{AtHolding, with_there, as_holding}
 
 -- an activation with its unnamed values at these offsets, up to one, and with this memory
@@ -25,6 +25,7 @@ source_extends m m' (Register zero) v registers extends a = tt
 source_extends m m' (Register (suc r)) v registers extends a = ((shows_on m m' v (registers (suc r)) extends a.0.0, a.0.1), a.1)
 source_extends m m' (Number n) v registers extends a = (shows_on m m' v n extends a.0, a.1)
 source_extends m m' (Compared c) v registers extends a = (shows_on m m' v (verdict c registers) extends a.0, a.1, a.2)
+source_extends m m' (ComparedWith n) v registers extends a = (shows_on m m' v (numbered_verdict n registers) extends a.0, a.1, a.2)
 
 there_extends : (m m' : Maps) (hs : List Holding) (temps : ℕ → Content) (registers : ℕ → ℕ) → Extends m m' → AreThere hs temps m registers
     → AreThere hs temps m' registers

@@ -72,7 +72,7 @@ below_one a = grind (arith, nat_tests)
 above_none : (a : ℕ) → nat_lt 0 a ≡ not (nat_eq a 0)
 above_none a = grind (arith, nat_tests)
 
-turned : (b : Bool) → bit_xor (truth b) 1 ≡ truth (not b)
+pub turned : (b : Bool) → bit_xor (truth b) 1 ≡ truth (not b)
 turned true = refl
 turned false = refl
 
@@ -109,13 +109,13 @@ branch_lawful n s c offset = branch_lawful_on n s c.condition c.left c.right off
 -- ---- a comparison's verdict into a register
 
 module _ (w : World) (order : IsInOrder w) (place : ℕ) (registers bytes : ℕ → ℕ) (st : Store) (below : IsKeptBelow w.code bytes) where
-  abbrev here : State
+  abbrev pub here : State
   here = state_of (state_at place registers bytes st)
 
-  abbrev later : (ℕ → ℕ) → State
+  abbrev pub later : (ℕ → ℕ) → State
   later now = state_of (state_at (place + 4) now bytes st)
 
-  one : (r n value : ℕ) (instr : Instr) → Has w place (Plain instr ∷ [])
+  pub one : (r n value : ℕ) (instr : Instr) → Has w place (Plain instr ∷ [])
       → ((answer : Answer) → effect w.areas answer instr here ≡ gives (suc r) value here)
       → AccessIsLawful w.areas (bare (state_at place registers bytes st)) instr → value ≡ n
       → Puts w place (place + 4) 1 (suc r) n registers bytes st
@@ -126,7 +126,7 @@ module _ (w : World) (order : IsInOrder w) (place : ℕ) (registers bytes : ℕ 
     kept = λ q not7 other. set_there (suc r) value q registers other;
   }
 
-  two : (r n value : ℕ) (then : ℕ → ℕ) (first second : Instr) → Has w place (Plain first ∷ Plain second ∷ [])
+  pub two : (r n value : ℕ) (then : ℕ → ℕ) (first second : Instr) → Has w place (Plain first ∷ Plain second ∷ [])
       → ((answer : Answer) → effect w.areas answer first here ≡ gives (suc r) value here)
       → ((now : ℕ → ℕ) (answer : Answer) → effect w.areas answer second (later now) ≡ gives (suc r) (then (now (suc r))) (later now))
       → AccessIsLawful w.areas (bare (state_at place registers bytes st)) first

@@ -10,6 +10,7 @@ use Rattle.std.proofs.Common.{
   ◌⊎◌,
   inl,
   inr,
+  ⊎_elim,
   Bool,
   true,
   false,
@@ -30,7 +31,8 @@ use Rattle.std.proofs.Common.{
   ◌∙◌,
   arith,
 }
-use Rattle.std.specs.Prelude.{if◌then◌else◌}
+use Rattle.std.specs.Prelude.{◌&&◌, if◌then◌else◌}
+use Rattle.rv32_machine.specs.State.{set_register}
 use Rattle.std.proofs.lemmas.Bool.{eq-eqb, eqb-true}
 use Rattle.std.proofs.lemmas.Option.{same_Some}
 use Rattle.core_meaning.specs.Memory.{Word, Memory}
@@ -42,6 +44,7 @@ use Rattle.rv32_machine.specs.Step.{truth}
 use Rattle.core_lines.specs.declared.comparison.Condition.{Condition}
 use Rattle.core_lines.specs.declared.comparison.Condition.TheVariants as condition
 use Rattle.core_lines.specs.declared.comparison.Comparison.{Comparison}
+use Rattle.core_lines.specs.declared.comparison.NumberComparison.{NumberComparison}
 use Rattle.core_lines.specs.Comparisons.{holds}
 use Rattle.core_lines.specs.Lines.{code_length}
 use Rattle.core_lines.specs.Machines.{Machine}
@@ -51,6 +54,7 @@ use Rattle.core_lines.specs.Held.{
   Register,
   Number,
   Compared,
+  ComparedWith,
   Holding,
   source_of,
   without_register,
@@ -63,35 +67,22 @@ use Rattle.core_lines.specs.Held.{
   register_in,
   compared_by,
   comparison_of,
+  some_number,
+  numbered,
+  number_comparison_of,
 }
 use Rattle.core_lines.specs.Operands.{operand_in}
 use Rattle.core_lines.specs.Selected.{Surroundings, immediate_for, apply_code, applied_kept, keep_result}
 use Rattle.core_lines.proofs.memory.Relations.{World, IsInOrder, Has, Waiting, Follows, keeping}
 use Rattle.core_lines.proofs.memory.Moving.{Comes}
-use Rattle.core_lines.proofs.operations.Judging.{verdict_into}
-use Rattle.core_lines.proofs.operations.Registers.{
-  reads,
-  IsSteady,
-  source_not_zero,
-  having,
-  AtWith,
-  AtHolding,
-  with_there,
-  InRegister,
-  IsThere,
-  AreThere,
-  IsServed,
-  there_found,
-  there_without,
-  result_stays,
-  Alone,
-  result_into,
-}
+use Rattle.core_lines.proofs.operations.Judging.{verdict_into, numbered_into}
+use Rattle.core_lines.proofs.operations.Registers.{reads, IsSteady, numbered_verdict, read_beside, spare_apart, source_not_zero, having, AtWith, AtHolding, with_there, InRegister, IsThere, AreThere, IsServed, there_found, there_without, result_stays, Alone, result_into}
 use Rattle.core_lines.proofs.operations.Operations.{never, word_few, move}
 use Rattle.core_lines.proofs.operations.Computing.{Operands}
 use Rattle.core_lines.proofs.operations.Computing as computing
 use Rattle.core_lines.proofs.operations.Values.{computes, same_truth, not_less}
 use Rattle.core_lines.proofs.operations.Immediates.{immediate_computes}
+use Rattle.core_lines.proofs.operations.NumberSides.{SecondIs, FirstIs, numbered_found}
 
 -- ---- sums with 0
 
@@ -101,6 +92,7 @@ zero_source (Some (Register r)) e = absurd (cc (e))
 zero_source (Some (Number zero)) e = refl
 zero_source (Some (Number (suc n))) e = absurd (cc (e))
 zero_source (Some (Compared c)) e = absurd (cc (e))
+zero_source (Some (ComparedWith n)) e = absurd (cc (e))
 
 -- where the result is the word of a temporary, it is a sum of which the other word is 0
 same_found : (o : Binary) (y z r : ℕ) (of_y of_z : Option Source) → same_as o y z of_y of_z ≡ Some r
@@ -185,10 +177,13 @@ module _ (w : World) (order : IsInOrder w) (x : Waiting) (outer : List Waiting) 
 
   -- ---- sums with 0
 
-  abbrev Applied : Option ℕ → Option Comparison → Type 0
-  Applied found compared = Has w place (applied_kept keeps here o t y z found compared) → Comes w (AtHolding w x outer mem place hs)
-      (AtHolding w (with_value (two o a b)) outer mem (place + code_length (applied_kept keeps here o t y z found compared))
-      (with_applied t found compared hs))
+  abbrev Applied : Option ℕ → Option NumberComparison → Option Comparison → Type 0
+  Applied found told compared = Has w place (applied_kept keeps here o t y z found told compared) → Comes w (AtHolding w x outer mem place hs)
+      (AtHolding w (with_value (two o a b)) outer mem (place + code_length (applied_kept keeps here o t y z found told compared))
+      (with_applied t found told compared hs))
+
+  abbrev told : Option NumberComparison
+  told = number_comparison_of o (source_of hs y) (source_of hs z)
 
   abbrev compared : Option Comparison
   compared = comparison_of o (source_of hs y) (source_of hs z)
@@ -198,14 +193,15 @@ module _ (w : World) (order : IsInOrder w) (x : Waiting) (outer : List Waiting) 
 
   -- the result is the word that a temporary has
   moves : (r n : ℕ) → r < x.fn.temporaries → IsServed w x hs r → x.config.temps r ≡ Word n → ((s : Machine) → Stood s → n < 2 ^ 32 → two o a b ≡ n)
-      → Applied (Some r) compared
+      → Applied (Some r) told compared
   moves r n is_named is_served holds same has = by (nat_eq (two o a b) n) refl
     where
       by : (c : Bool) → nat_eq (two o a b) n ≡ c → Comes w (AtHolding w x outer mem place hs)
-          (AtHolding w (with_value (two o a b)) outer mem (place + code_length (applied_kept keeps here o t y z (Some r) compared)) (with_applied t (Some r) compared hs))
+          (AtHolding w (with_value (two o a b)) outer mem (place + code_length (applied_kept keeps here o t y z (Some r) told compared))
+          (with_applied t (Some r) told compared hs))
       by true e =
           subst (λ v. Comes w (AtHolding w x outer mem place hs) (AtHolding w (keeping after (having t v x)) outer mem
-          (place + code_length (applied_kept keeps here o t y z (Some r) compared)) (with_applied t (Some r) compared hs)))
+          (place + code_length (applied_kept keeps here o t y z (Some r) told compared)) (with_applied t (Some r) told compared hs)))
           (holds ∙ ap (λ k. Word k) (sym (eqb-true (two o a b) n e)))
           (move w order x outer mem keeps after t named follows r place hs is_named is_served has)
       by false e = never w order x outer mem _ _ (λ s m.
@@ -239,6 +235,7 @@ module _ (w : World) (order : IsInOrder w) (x : Waiting) (outer : List Waiting) 
       by (Some (Number zero)) at e = let found_there = found (Number zero) at in subst Has_word (same_Some zero r e) (found_there.0, (refl, omega arith))
       by (Some (Number (suc k))) at e = absurd (cc (e))
       by (Some (Compared c)) at e = absurd (cc (e))
+      by (Some (ComparedWith c)) at e = absurd (cc (e))
 
   abbrev Judged : Comparison → Type 0
   Judged c = (s : Machine) (stood : Stood s) → IsThere (Compared c) (Word (two o a b)) stood.maps s.registers
@@ -277,19 +274,100 @@ module _ (w : World) (order : IsInOrder w) (x : Waiting) (outer : List Waiting) 
   judges core.ShiftRight same c e = absurd (cc (e))
   judges core.ShiftRightUnsigned same c e = absurd (cc (e))
 
-  computed_as : (found : Option Comparison) → compared ≡ found → Applied None found
+  computed_as : (found : Option Comparison) → compared ≡ found → Applied None None found
   computed_as None e = apply
-  computed_as (Some c) e = verdict_into w order x outer mem after t c place (Word (two o a b)) hs named keeps follows (judges o refl c e)
+  computed_as (Some c) e = verdict_into w order x outer mem after t place (Word (two o a b)) hs named c keeps follows (judges o refl c e)
 
-  found_as : (found : Option ℕ) → same_as o y z (source_of hs y) (source_of hs z) ≡ found → Applied found compared
-  found_as None e = computed_as compared refl
+  -- ---- comparisons with numbers
+
+  -- a word is a number where that is known
+  is_number : (p n k : ℕ) (s : Machine) (stood : Stood s) → x.config.temps p ≡ Word n → some_number (source_of hs p) ≡ Some k → (k ≡ n) × (k < 2 ^ 32)
+  is_number p n k s stood holds e = by (source_of hs p) refl e
+    where
+      by : (t : Option Source) → source_of hs p ≡ t → some_number t ≡ Some k → (k ≡ n) × (k < 2 ^ 32)
+      by None at e = absurd (cc (e))
+      by (Some (Register q)) at e = absurd (cc (e))
+      by (Some (Number zero)) at e = absurd (cc (e))
+      by (Some (Number (suc q))) at e =
+          let there = there_found hs p (Number (suc q)) x.config.temps stood.maps s.registers stood.holds at in
+          subst (λ k. (k ≡ n) × (k < 2 ^ 32)) (same_Some (suc q) k e) (subst (λ v. Shows stood.maps v (suc q)) holds there.0, there.1)
+      by (Some (Compared c)) at e = absurd (cc (e))
+      by (Some (ComparedWith c)) at e = absurd (cc (e))
+
+  abbrev Told : NumberComparison → Type 0
+  Told n = (s : Machine) (stood : Stood s) → IsThere (ComparedWith n) (Word (two o a b)) stood.maps s.registers
+
+  -- what both sides read is what is compared
+  tells : (k : Condition) (n : NumberComparison) (i j : ℕ) (registers : ℕ → ℕ) → k ≡ n.comparison.condition
+      → reads (set_register 7 n.number registers) n.comparison.left ≡ i → reads (set_register 7 n.number registers) n.comparison.right ≡ j
+      → truth (holds k i j) ≡ two o a b → numbered_verdict n registers ≡ two o a b
+  tells k n i j registers is left right same =
+      let now = set_register 7 n.number registers in
+      ap (λ (u : Condition). truth (holds u (reads now n.comparison.left) (reads now n.comparison.right))) (sym is)
+      ∙ ap (λ u. truth (holds k u (reads now n.comparison.right))) left ∙ ap (λ u. truth (holds k i u)) right ∙ same
+
+  judged_with : (k : Condition) (p q i j : ℕ) (n : NumberComparison) → x.config.temps p ≡ Word i → x.config.temps q ≡ Word j
+      → numbered k (source_of hs p) (source_of hs q) ≡ Some n → truth (holds k i j) ≡ two o a b → Told n
+  judged_with k p q i j n at at' e same s stood =
+      ⊎_elim
+      (λ (h : SecondIs k (register_in (source_of hs p)) (some_number (source_of hs q)) n).
+      let register = in_register p i n.comparison.left s stood at h.side in
+      let number = is_number q j n.number s stood at' h.number in
+      let apart = spare_apart n.comparison.left 7 register.1.0 refl in (
+        tells k n i j s.registers h.condition (read_beside n.comparison.left n.number s.registers register.1.0 ∙ register.0)
+            (ap (reads (set_register 7 n.number s.registers)) h.seven ∙ number.0) same,
+        number.1,
+        (inr register.1, inl h.seven, ap (λ b. b && nat_eq n.comparison.right 7) apart),
+      ))
+      (λ (h : FirstIs k (some_number (source_of hs p)) (register_in (source_of hs q)) n).
+      let register = in_register q j n.comparison.right s stood at' h.side in
+      let number = is_number p i n.number s stood at h.number in
+      let apart = spare_apart n.comparison.right 7 register.1.0 refl in (
+        tells k n i j s.registers h.condition (ap (reads (set_register 7 n.number s.registers)) h.seven ∙ number.0)
+            (read_beside n.comparison.right n.number s.registers register.1.0 ∙ register.0) same,
+        number.1,
+        (inl h.seven, inr register.1, ap (λ b. b && nat_eq n.comparison.right 7) (eq-eqb n.comparison.left 7 h.seven) ∙ apart),
+      ))
+      (numbered_found k (register_in (source_of hs p)) (some_number (source_of hs p)) (register_in (source_of hs q)) (some_number (source_of hs q)) n e)
+
+  judges_with : (p : Binary) → p ≡ o → (n : NumberComparison) → number_comparison_of p (source_of hs y) (source_of hs z) ≡ Some n → Told n
+  judges_with core.Equal same n e = judged_with condition.Equal y z a b n is is' e (same_truth (nat_eq a b) ∙ ap (λ (p : Binary). two p a b) same)
+  judges_with core.NotEqual same n e = judged_with condition.NotEqual y z a b n is is' e
+      (same_truth (not (nat_eq a b)) ∙ ap (λ (p : Binary). two p a b) same)
+  judges_with core.Less same n e = judged_with condition.Less y z a b n is is' e (same_truth (is_less a b) ∙ ap (λ (p : Binary). two p a b) same)
+  judges_with core.LessEqual same n e = judged_with condition.NotLess z y b a n is' is e
+      (same_truth (not (is_less b a)) ∙ ap (λ (p : Binary). two p a b) same)
+  judges_with core.LessUnsigned same n e = judged_with condition.LessUnsigned y z a b n is is' e
+      (same_truth (nat_lt a b) ∙ ap (λ (p : Binary). two p a b) same)
+  judges_with core.LessEqualUnsigned same n e = judged_with condition.NotLessUnsigned z y b a n is' is e
+      (same_truth (not (nat_lt b a)) ∙ ap meaning.truth (not_less a b) ∙ ap (λ (p : Binary). two p a b) same)
+  judges_with core.Add same n e = absurd (cc (e))
+  judges_with core.Subtract same n e = absurd (cc (e))
+  judges_with core.Multiply same n e = absurd (cc (e))
+  judges_with core.Divide same n e = absurd (cc (e))
+  judges_with core.DivideUnsigned same n e = absurd (cc (e))
+  judges_with core.Remainder same n e = absurd (cc (e))
+  judges_with core.RemainderUnsigned same n e = absurd (cc (e))
+  judges_with core.And same n e = absurd (cc (e))
+  judges_with core.Or same n e = absurd (cc (e))
+  judges_with core.Xor same n e = absurd (cc (e))
+  judges_with core.ShiftLeft same n e = absurd (cc (e))
+  judges_with core.ShiftRight same n e = absurd (cc (e))
+  judges_with core.ShiftRightUnsigned same n e = absurd (cc (e))
+
+  told_as : (found : Option NumberComparison) → told ≡ found → Applied None found compared
+  told_as None e = computed_as compared refl
+  told_as (Some n) e = numbered_into w order x outer mem after t place (Word (two o a b)) hs named n keeps follows (judges_with o refl n e)
+
+  found_as : (found : Option ℕ) → same_as o y z (source_of hs y) (source_of hs z) ≡ found → Applied found told compared
+  found_as None e = told_as told refl
   found_as (Some r) e = by (same_found o y z r (source_of hs y) (source_of hs z) e)
     where
-      by : (o ≡ core.Add) × (((z ≡ r) × (source_of hs y ≡ Some (Number 0))) ⊎ ((y ≡ r) × (source_of hs z ≡ Some (Number 0)))) → Applied (Some r) compared
-      by (sum, inl h) = subst (λ r. Applied (Some r) compared) h.0 (moves z b named'' served' is' (λ s stood few.
+      by : (o ≡ core.Add) × (((z ≡ r) × (source_of hs y ≡ Some (Number 0))) ⊎ ((y ≡ r) × (source_of hs z ≡ Some (Number 0)))) → Applied (Some r) told compared
+      by (sum, inl h) = subst (λ r. Applied (Some r) told compared) h.0 (moves z b named'' served' is' (λ s stood few.
           let none = none_is y a s stood h.1 is in ap (λ (p : Binary). two p a b) sum ∙ omega (arith, none, few)))
-      by (sum, inr h) = subst (λ r. Applied (Some r) compared) h.0 (moves y a named' served is (λ s stood few.
+      by (sum, inr h) = subst (λ r. Applied (Some r) told compared) h.0 (moves y a named' served is (λ s stood few.
           let none = none_is z b s stood h.1 is' in ap (λ (p : Binary). two p a b) sum ∙ omega (arith, none, few)))
 
-  pub applied : Applied (same_as o y z (source_of hs y) (source_of hs z)) compared
+  pub applied : Applied (same_as o y z (source_of hs y) (source_of hs z)) told compared
   applied = found_as (same_as o y z (source_of hs y) (source_of hs z)) refl

@@ -5,7 +5,7 @@ use Rattle.core_meaning.specs.Core.{Binary}
 use Rattle.core_lines.specs.declared.line.Line.{Line}
 use Rattle.core_lines.specs.Lines.{code_length}
 use Rattle.core_lines.specs.Lies.{Maps}
-use Rattle.core_lines.specs.Held.{Source, Register, Number, Compared, Holding, source_of}
+use Rattle.core_lines.specs.Held.{Source, Register, Number, Compared, ComparedWith, Holding, source_of}
 use Rattle.core_lines.specs.Operands.{operand_in}
 use Rattle.core_lines.specs.Selected.{Surroundings, binary_code, immediate_code, immediate_for, both_code}
 use Rattle.core_lines.proofs.memory.Relations.{World, IsInOrder, Has, Waiting}
@@ -64,6 +64,7 @@ module _ (w : World) (order : IsInOrder w) (x : Waiting) (outer : List Waiting) 
     by_source lines None at some has = absurd (cc)
     by_source lines (Some (Register r)) at some has = absurd (cc)
     by_source lines (Some (Compared c)) at some has = absurd (cc)
+    by_source lines (Some (ComparedWith c)) at some has = absurd (cc)
     by_source lines (Some (Number n)) at some has =
         let first = operand w order x outer mem hs 5 y in
         let left = operand_some hs 4 y in

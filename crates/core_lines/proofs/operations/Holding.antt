@@ -1,5 +1,6 @@
 -- What is known of the words of temporaries besides their slots, at a machine.
-use Rattle.std.specs.Prelude.{nat_eq, nat_lt, ◌||◌, if◌then◌else◌}
+use Rattle.std.specs.Prelude.{nat_eq, nat_lt, ◌||◌, ◌&&◌, if◌then◌else◌}
+use Rattle.rv32_machine.specs.State.{set_register}
 use Rattle.rv32_machine.specs.Step.{truth}
 use Rattle.std.proofs.Common.{
   ◌≡◌,
@@ -11,6 +12,8 @@ use Rattle.std.proofs.Common.{
   ◌^◌,
   ◌<◌,
   ◌⊎◌,
+  inl,
+  inr,
   ⊎_elim,
   Bool,
   true,
@@ -33,6 +36,7 @@ use Rattle.std.proofs.lemmas.Bool.{eq-eqb, ne_eqb, eqb-true}
 use Rattle.std.proofs.lemmas.Bool.Decides.{nat_tests}
 use Rattle.core_meaning.specs.Memory.{Content}
 use Rattle.core_lines.specs.declared.comparison.Comparison.{Comparison}
+use Rattle.core_lines.specs.declared.comparison.NumberComparison.{NumberComparison}
 use Rattle.core_lines.specs.Comparisons.{holds}
 use Rattle.core_meaning.specs.Steps.{set_temp, with_temp}
 use Rattle.core_lines.specs.Held.{
@@ -40,6 +44,7 @@ use Rattle.core_lines.specs.Held.{
   Register,
   Number,
   Compared,
+  ComparedWith,
   Holding,
   some_source,
   source_of,
@@ -51,12 +56,12 @@ use Rattle.core_lines.specs.Held.{
   result_index,
   result_register,
 }
-use Rattle.core_lines.specs.Homes.{flag_at, stays}
+use Rattle.core_lines.specs.Homes.{stays}
 use Rattle.core_lines.specs.Lies.{Maps, Extends, Shows}
-use Rattle.core_lines.specs.Loaded.{if_unknown, unknown_in}
 use Rattle.core_lines.specs.Operands.{register_for, operand_in}
-use Rattle.core_lines.proofs.memory.Relations.{World, Waiting, Covers, Follows, IsKept, AreKept}
-use Rattle.core_lines.proofs.memory.Slots.{Kept}
+use Rattle.core_lines.proofs.memory.Relations.{Waiting}
+pub use Rattle.core_lines.proofs.operations.Serving.{follows_none, IsServed, served_first, served_others, served_one, served_two}
+use Rattle.core_lines.proofs.memory.Slots.{Kept, set_there}
 pub use Rattle.core_lines.proofs.memory.Verdicts.{reads, is_so, verdict, truth_few}
 use Rattle.core_lines.proofs.memory.Alike.{shows_on}
 
@@ -133,12 +138,27 @@ result_free t = (result_facts (t % 8) (omega arith)).1
 abbrev pub IsSteady : ℕ → (ℕ → ℕ) → Type 0
 IsSteady r registers = (is_spare r ≡ false) × (reads registers r < 2 ^ 32)
 
+-- x7, or a register that no code changes but for what is known
+abbrev pub IsSide : ℕ → (ℕ → ℕ) → Type 0
+IsSide r registers = (r ≡ 7) ⊎ IsSteady r registers
+
+abbrev pub AreSides : Comparison → (ℕ → ℕ) → Type 0
+AreSides c registers = IsSide c.left registers × IsSide c.right registers × ((nat_eq c.left 7 && nat_eq c.right 7) ≡ false)
+
+-- the verdict of a comparison with a number, which is that once x7 has the number
+abbrev pub numbered_verdict : NumberComparison → (ℕ → ℕ) → ℕ
+numbered_verdict n registers = verdict n.comparison (set_register 7 n.number registers)
+
+pub numbered_few : (n : NumberComparison) (registers : ℕ → ℕ) → numbered_verdict n registers < 2 ^ 32
+numbered_few n registers = truth_few (is_so n.comparison (set_register 7 n.number registers))
+
 -- a source shows a value
 abbrev pub IsThere : Source → Content → Maps → (ℕ → ℕ) → Type 0
 IsThere (Register zero) v m registers = Unit {0}
 IsThere (Register (suc r)) v m registers = InRegister (suc r) v m registers × (is_spare (suc r) ≡ false)
 IsThere (Number n) v m registers = Shows m v n × (n < 2 ^ 32)
 IsThere (Compared c) v m registers = Shows m v (verdict c registers) × IsSteady c.left registers × IsSteady c.right registers
+IsThere (ComparedWith n) v m registers = Shows m v (numbered_verdict n registers) × (n.number < 2 ^ 32) × AreSides n.comparison registers
 
 -- each temporary's word is where it is said to be
 abbrev pub AreThere : List Holding → (ℕ → Content) → Maps → (ℕ → ℕ) → Type 0
@@ -151,6 +171,7 @@ source_extends (Register zero) v m n registers e a = tt
 source_extends (Register (suc r)) v m n registers e a = ((shows_on m n v (registers (suc r)) e a.0.0, a.0.1), a.1)
 source_extends (Number k) v m n registers e a = (shows_on m n v k e a.0, a.1)
 source_extends (Compared c) v m n registers e a = (shows_on m n v (verdict c registers) e a.0, a.1, a.2)
+source_extends (ComparedWith c) v m n registers e a = (shows_on m n v (numbered_verdict c registers) e a.0, a.1, a.2)
 
 pub there_extends : (hs : List Holding) (temps : ℕ → Content) (m n : Maps) (registers : ℕ → ℕ) → Extends m n → AreThere hs temps m registers
     → AreThere hs temps n registers
@@ -165,6 +186,7 @@ some_not_zero (Register zero) e = cc
 some_not_zero (Register (suc r)) e = let same : suc r ≡ zero = cc in omega (arith, same)
 some_not_zero (Number n) e = cc
 some_not_zero (Compared c) e = cc
+some_not_zero (ComparedWith n) e = cc
 
 pub source_not_zero : (hs : List Holding) (t : ℕ) → source_of hs t ≡ Some (Register zero) → ⊥
 source_not_zero [] t e = cc
@@ -179,6 +201,7 @@ some_there (Register zero) s v m registers e a = absurd (cc)
 some_there (Register (suc r)) s v m registers e a = let same : Register (suc r) ≡ s = cc in subst (λ q. IsThere q v m registers) same a
 some_there (Number n) s v m registers e a = let same : Number n ≡ s = cc in subst (λ q. IsThere q v m registers) same a
 some_there (Compared c) s v m registers e a = let same : Compared c ≡ s = cc in subst (λ q. IsThere q v m registers) same a
+some_there (ComparedWith n) s v m registers e a = let same : ComparedWith n ≡ s = cc in subst (λ q. IsThere q v m registers) same a
 
 pub there_found : (hs : List Holding) (t : ℕ) (s : Source) (temps : ℕ → Content) (m : Maps) (registers : ℕ → ℕ) → AreThere hs temps m registers
     → source_of hs t ≡ Some s → IsThere s (temps t) m registers
@@ -201,23 +224,48 @@ operand_some hs spare t = by (source_of hs t) refl
     by (Some (Register (suc r))) e = (r, refl)
     by (Some (Number n)) e = (spare, refl)
     by (Some (Compared c)) e = (spare, refl)
+    by (Some (ComparedWith n)) e = (spare, refl)
 
 -- what stays where a register changes
 
-reads_kept : (r q : ℕ) (new old : ℕ → ℕ) → Kept r new old → is_spare q ≡ false → nat_eq q r ≡ false → reads old q ≡ reads new q
+pub reads_kept : (r q : ℕ) (new old : ℕ → ℕ) → Kept r new old → is_spare q ≡ false → nat_eq q r ≡ false → reads old q ≡ reads new q
 reads_kept r zero new old kept free other = refl
 reads_kept r (suc q) new old kept free other = sym (kept (suc q) (spare_apart (suc q) 7 free refl) other)
+
+pub so_same : (c : Comparison) (new old : ℕ → ℕ) → reads old c.left ≡ reads new c.left → reads old c.right ≡ reads new c.right → is_so c old ≡ is_so c new
+so_same c new old left right = ap (λ k. holds c.condition k (reads old c.right)) left ∙ ap (λ k. holds c.condition (reads new c.left) k) right
 
 compared_kept : (r : ℕ) (c : Comparison) (v : Content) → nat_eq c.left r ≡ false → nat_eq c.right r ≡ false → Stable r (IsThere (Compared c) v)
 compared_kept r c v left right m new old kept a =
     let same = reads_kept r c.left new old kept a.1.0 left in
-    let same' = reads_kept r c.right new old kept a.2.0 right in
-    let is : verdict c old ≡ verdict c new =
-    ap (λ k. truth (holds c.condition k (reads old c.right))) same ∙ ap (λ k. truth (holds c.condition (reads new c.left) k)) same' in (
-      subst (λ k. Shows m v k) is a.0,
+    let same' = reads_kept r c.right new old kept a.2.0 right in (
+      subst (λ k. Shows m v k) (ap truth (so_same c new old same same')) a.0,
       (a.1.0, subst (λ k. k < 2 ^ 32) same a.1.1),
       (a.2.0, subst (λ k. k < 2 ^ 32) same' a.2.1),
     )
+
+-- where x7 has a number, another register has what it had
+pub read_beside : (q n : ℕ) (registers : ℕ → ℕ) → is_spare q ≡ false → reads (set_register 7 n registers) q ≡ reads registers q
+read_beside zero n registers free = refl
+read_beside (suc q) n registers free = set_there 7 n (suc q) registers (spare_apart (suc q) 7 free refl)
+
+-- a side of a comparison where one register changes, if it isn't that one
+side_kept : (r q n : ℕ) (new old : ℕ → ℕ) → Kept r new old → (is_spare q ≡ false → nat_eq q r ≡ false) → IsSide q old
+    → (reads (set_register 7 n old) q ≡ reads (set_register 7 n new) q) × IsSide q new
+side_kept r q n new old kept apart side = ⊎_elim
+    (λ (is : q ≡ 7). (ap (reads (set_register 7 n old)) is ∙ sym (ap (reads (set_register 7 n new)) is), inl is))
+    (λ (steady : IsSteady q old).
+    let same = reads_kept r q new old kept steady.0 (apart steady.0) in
+    (read_beside q n old steady.0 ∙ same ∙ sym (read_beside q n new steady.0), inr (steady.0, subst (λ k. k < 2 ^ 32) same steady.1)))
+    side
+
+numbered_kept : (r : ℕ) (n : NumberComparison) (v : Content) → (is_spare n.comparison.left ≡ false → nat_eq n.comparison.left r ≡ false)
+    → (is_spare n.comparison.right ≡ false → nat_eq n.comparison.right r ≡ false) → Stable r (IsThere (ComparedWith n) v)
+numbered_kept r n v apart apart' m new old kept a =
+    let left = side_kept r n.comparison.left n.number new old kept apart a.2.0 in
+    let right = side_kept r n.comparison.right n.number new old kept apart' a.2.1 in
+    let is = so_same n.comparison (set_register 7 n.number new) (set_register 7 n.number old) left.0 right.0 in
+    (subst (λ k. Shows m v k) (ap truth is) a.0, a.1, (left.1, right.1, a.2.2))
 
 or_none : (a b : Bool) → (a || b) ≡ false → (a ≡ false) × (b ≡ false)
 or_none true b e = absurd (cc e)
@@ -229,6 +277,9 @@ source_kept r (Register (suc q)) v other m new old kept a = (register_stays (suc
 source_kept r (Number n) v other m new old kept a = a
 source_kept r (Compared c) v other m new old kept a =
     let apart = or_none (nat_eq c.left r) (nat_eq c.right r) other in compared_kept r c v apart.0 apart.1 m new old kept a
+source_kept r (ComparedWith n) v other m new old kept a =
+    let apart = or_none (nat_eq n.comparison.left r) (nat_eq n.comparison.right r) other in
+    numbered_kept r n v (λ free. apart.0) (λ free. apart.1) m new old kept a
 
 pub not_in_spare : (r : ℕ) (s : Source) (v : Content) → is_spare r ≡ true → Stable r (IsThere s v)
 not_in_spare r (Register zero) v spare m new old kept a = tt
@@ -237,6 +288,8 @@ not_in_spare r (Register (suc q)) v spare m new old kept a =
 not_in_spare r (Number n) v spare m new old kept a = a
 not_in_spare r (Compared c) v spare m new old kept a =
     compared_kept r c v (spare_apart c.left r a.1.0 spare) (spare_apart c.right r a.2.0 spare) m new old kept a
+not_in_spare r (ComparedWith n) v spare m new old kept a = numbered_kept r n v (λ free. spare_apart n.comparison.left r free spare)
+    (λ free. spare_apart n.comparison.right r free spare) m new old kept a
 
 pub there_kept : (r : ℕ) (hs : List Holding) (temps : ℕ → Content) → is_spare (suc r) ≡ true → Stable (suc r) (AreThere hs temps)
 there_kept r [] temps spare m new old kept a = tt
@@ -324,32 +377,3 @@ there_elsewhere t r v hs temps m new old here free kept a =
       there_first 31 (without_temporary t (without_register (suc r) (with_result t hs))) set m new
           (subst (λ ls. AreThere ls set m new) (sym (had_another t (suc r) s others)) after),
     )
-
--- ---- what is saved
-
--- where there is no result, nothing more is shown than before
-pub follows_none : (keeps : Bool) (before after : List Bool) → Follows keeps [] before after → Covers before after
-follows_none keeps before after follows u now =
-    ⊎_elim (λ (h : (false ≡ true) × (keeps ≡ true)). absurd (cc (h.0))) (λ (h : (false ≡ false) × (flag_at before u ≡ true)). h.1) (follows u now)
-
--- a temporary is saved, unless it is known where else its word is
-abbrev pub IsServed : World → Waiting → List Holding → ℕ → Type 0
-IsServed w x hs t = source_of hs t ≡ None → IsKept w x t
-
--- the first of those that code uses, and the others
-pub served_first : (w : World) (x : Waiting) (hs : List Holding) (t : ℕ) (ts : List ℕ) → AreKept w x (unknown_in hs (t ∷ ts)) → IsServed w x hs t
-served_first w x hs t ts kept e = (subst (λ s. AreKept w x (if_unknown s t (unknown_in hs ts))) e kept).0
-
-pub served_others : (w : World) (x : Waiting) (hs : List Holding) (t : ℕ) (ts : List ℕ) → AreKept w x (unknown_in hs (t ∷ ts))
-    → AreKept w x (unknown_in hs ts)
-served_others w x hs t ts kept = by (source_of hs t) kept
-  where
-    by : (s : Option Source) → AreKept w x (if_unknown s t (unknown_in hs ts)) → AreKept w x (unknown_in hs ts)
-    by None kept = kept.1
-    by (Some s) kept = kept
-
-pub served_one : (w : World) (x : Waiting) (hs : List Holding) (t : ℕ) → AreKept w x (unknown_in hs (t ∷ [])) → IsServed w x hs t
-served_one w x hs t kept = served_first w x hs t [] kept
-
-pub served_two : (w : World) (x : Waiting) (hs : List Holding) (t u : ℕ) → AreKept w x (unknown_in hs (t ∷ u ∷ [])) → IsServed w x hs t × IsServed w x hs u
-served_two w x hs t u kept = (served_first w x hs t (u ∷ []) kept, served_one w x hs u (served_others w x hs t (u ∷ []) kept))

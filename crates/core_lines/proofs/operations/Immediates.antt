@@ -32,7 +32,7 @@ use Rattle.std.proofs.Common.{
   arith,
 }
 use Rattle.std.proofs.lemmas.Bool.Decides.{nat_tests}
-use Rattle.cyc_words.specs.Words.{word, sum_of, difference_of}
+use Rattle.cyc_words.specs.Words.{word, sum_of}
 use Rattle.rv32_isa.specs.declared.instruction.Instr.{Instr}
 use Rattle.rv32_isa.specs.declared.instruction.Instr.TheVariants as instr
 use Rattle.rv32_machine.specs.Run.{Run}
@@ -56,6 +56,7 @@ use Rattle.core_lines.proofs.memory.Moving.{Comes}
 use Rattle.core_lines.proofs.memory.Relations.{World, IsInOrder, Has, Waiting}
 use Rattle.core_lines.proofs.memory.Slots.{Kept}
 use Rattle.core_lines.proofs.memory.Words.{short_word}
+use Rattle.core_lines.proofs.operations.NumberVerdicts.{turned_is}
 use Rattle.core_lines.proofs.operations.Registers.{AtWith, InRegister, IsThere, puts_value, puts_twice}
 use Rattle.core_lines.proofs.operations.Values.{same_truth, is_zero, is_some, two_below}
 
@@ -66,15 +67,8 @@ pub let_through : (c : Bool) (lines some : List Line) → (if c then Some lines 
 let_through true lines some e = let same : lines ≡ some = cc in (refl, same)
 let_through false lines some e = absurd (cc)
 
--- the number whose sign is turned, added, is the difference
-turned_added : (a n : ℕ) → n < 2 ^ 32 → sum_of a (turned n) ≡ difference_of a n
-turned_added a n few = omega arith
-
 pub short_is : (n : ℕ) → is_short n ≡ true → n < 2 ^ 32 → word (lower_of n) ≡ n
 short_is n short few = short_word n short few
-
-pub turned_is : (a n : ℕ) → is_short (turned n) ≡ true → n < 2 ^ 32 → sum_of a (word (lower_of (turned n))) ≡ difference_of a n
-turned_is a n short few = ap (sum_of a) (short_word (turned n) short (omega arith)) ∙ turned_added a n few
 
 below_one : (a : ℕ) → nat_lt a 1 ≡ nat_eq a 0
 below_one a = grind (arith, nat_tests)

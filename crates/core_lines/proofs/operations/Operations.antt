@@ -24,6 +24,7 @@ use Rattle.core_lines.specs.Held.{
   Register,
   Number,
   Compared,
+  ComparedWith,
   Holding,
   source_of,
   number_in,
@@ -42,11 +43,13 @@ use Rattle.core_lines.proofs.memory.Moving.{Comes, comes_then, comes_as}
 use Rattle.core_lines.proofs.Steps.{state_at}
 use Rattle.core_lines.proofs.frames.Passing.{has_first, has_second, temp_lies}
 pub use Rattle.core_lines.proofs.operations.Registers.{having}
-use Rattle.core_lines.proofs.operations.Judging.{verdict_into}
+use Rattle.core_lines.proofs.operations.Judging.{verdict_into, numbered_into}
 use Rattle.core_lines.proofs.operations.Registers.{
   is_so,
   verdict,
   truth_few,
+  numbered_verdict,
+  numbered_few,
   AtWith,
   AtHolding,
   with_there,
@@ -123,6 +126,9 @@ module _ (w : World) (order : IsInOrder w) (x : Waiting) (outer : List Waiting) 
       by (Some (Compared c)) e =
           let found = there_found hs y (Compared c) x.config.temps a.maps s.registers a.holds e in
           below (verdict c s.registers) found.0 (truth_few (is_so c s.registers))
+      by (Some (ComparedWith c)) e =
+          let found = there_found hs y (ComparedWith c) x.config.temps a.maps s.registers a.holds e in
+          below (numbered_verdict c s.registers) found.0 (numbered_few c s.registers)
 
   -- a temporary into a register
   pub loads_into : (r t place : ℕ) → t < x.fn.temporaries → IsKept w x t → stays (suc r) ≡ false → Has w place (loading (suc r) t)
@@ -231,8 +237,10 @@ module _ (w : World) (order : IsInOrder w) (x : Waiting) (outer : List Waiting) 
         by (Some (Register zero)) e has = absurd (source_not_zero hs y e)
         by (Some (Register (suc q))) e has = comes_then w _ _ _ (comes_as w _ _ (with_there w x outer mem place hs)) (moved q e (nat_eq (suc q) 7) refl has)
         by (Some (Number n)) e has = comes_then w _ _ _ (comes_as w _ _ (with_there w x outer mem place hs)) (as_number n e (cases_lt n (2 ^ 32)) has)
-        by (Some (Compared c)) e has = verdict_into w order x outer mem after t c place v hs named keeps follows
+        by (Some (Compared c)) e has = verdict_into w order x outer mem after t place v hs named c keeps follows
             (λ s a. there_found hs y (Compared c) x.config.temps a.maps s.registers a.holds e) has
+        by (Some (ComparedWith n)) e has = numbered_into w order x outer mem after t place v hs named n keeps follows
+            (λ s a. there_found hs y (ComparedWith n) x.config.temps a.maps s.registers a.holds e) has
 
     -- ---- operations on one word
 
@@ -281,6 +289,7 @@ module _ (w : World) (order : IsInOrder w) (x : Waiting) (outer : List Waiting) 
         by None e has = narrow y n place hs named' served is has
         by (Some (Register q)) e has = narrow y n place hs named' served is has
         by (Some (Compared c)) e has = narrow y n place hs named' served is has
+        by (Some (ComparedWith c)) e has = narrow y n place hs named' served is has
         by (Some (Number k)) e has =
             number_into w order x outer mem keeps after t (k % 256) place (Word (n % 256)) hs named follows (omega arith)
             (λ s a.

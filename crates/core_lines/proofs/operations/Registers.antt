@@ -20,7 +20,7 @@ use Rattle.core_lines.specs.declared.line.Line.TheVariants.{Plain}
 use Rattle.core_lines.specs.Lines.{code_length}
 use Rattle.core_lines.specs.Frames.{save_code, slot_of}
 use Rattle.core_lines.specs.Held.{Source, Register, Number, Compared, Holding, source_of, without_register, with_source, with_result, result_index}
-use Rattle.core_lines.specs.Held.{result_register}
+use Rattle.core_lines.specs.Held.{ComparedWith, result_register}
 use Rattle.core_lines.specs.Homes.{stays}
 use Rattle.core_lines.specs.Lies.{Maps, Shows}
 use Rattle.core_lines.specs.Operands.{number_code, register_for, operand_in, bring_code, operand_code, fetch_code, into_code, keep_code, number_kept}
@@ -33,7 +33,11 @@ pub use Rattle.core_lines.proofs.operations.Holding.{
   is_so,
   verdict,
   truth_few,
+  numbered_verdict,
+  numbered_few,
   IsSteady,
+  AreSides,
+  read_beside,
   not_in_spare,
   having,
   is_spare,
@@ -90,6 +94,7 @@ pub use Rattle.core_lines.proofs.operations.Standing.{
   puts_twice,
   puts_number,
   puts_verdict,
+  puts_numbered,
   puts_into,
 }
 
@@ -136,6 +141,14 @@ module _ (w : World) (order : IsInOrder w) (x : Waiting) (outer : List Waiting) 
       own : IsFree (suc r) (suc r)
       own = inl (eq-eqb (suc r) (suc r) refl)
 
+      has_value : (m : Maps) (new old : ℕ → ℕ) (k : ℕ) → new (suc r) ≡ k → Shows m (x.config.temps t) k × (k < 2 ^ 32) → Kept (suc r) new old
+          → Known hs H m old → WithOperand (suc r) (suc r) t hs H m new
+      has_value m new old k is shown kept h = (
+        (subst (λ k. Shows m (x.config.temps t) k × (k < 2 ^ 32)) (sym is) shown, own),
+        there_kept r hs x.config.temps spare m new old kept h.0,
+        stable m new old kept h.1,
+      )
+
       by : (s : Option Source) → source_of hs t ≡ s → Has w place (bring_code x.fn.passed (suc r) t s)
           → Comes w (AtWith w x outer mem place (Known hs H))
           (AtWith w x outer mem (place + code_length (bring_code x.fn.passed (suc r) t s)) (WithOperand (suc r) (register_for (suc r) s) t hs H))
@@ -146,21 +159,16 @@ module _ (w : World) (order : IsInOrder w) (x : Waiting) (outer : List Waiting) 
           (λ m registers h. let found = there_found hs t (Register (suc q)) x.config.temps m registers h.0 e in ((found.0, inr found.1), h.0, h.1))
       by (Some (Number n)) e has = puts_number w order x outer mem r n place (Known hs H) (WithOperand (suc r) (suc r) t hs H)
           (λ m registers h. (there_found hs t (Number n) x.config.temps m registers h.0 e).1) (spare_leaves (suc r) spare) has
-          (λ m new old is kept h.
-          let found = there_found hs t (Number n) x.config.temps m old h.0 e in (
-            (subst (λ k. Shows m (x.config.temps t) k × (k < 2 ^ 32)) (sym is) found, own),
-            there_kept r hs x.config.temps spare m new old kept h.0,
-            stable m new old kept h.1,
-          ))
+          (λ m new old is kept h. has_value m new old n is (there_found hs t (Number n) x.config.temps m old h.0 e) kept h)
       by (Some (Compared c)) e has = puts_verdict w order x outer mem r c place (Known hs H) (WithOperand (suc r) (suc r) t hs H)
           (λ m registers h. let found = there_found hs t (Compared c) x.config.temps m registers h.0 e in (found.1.1, found.2.1)) (spare_leaves (suc r) spare)
           has
-          (λ m new old is kept h.
-          let found = there_found hs t (Compared c) x.config.temps m old h.0 e in (
-            (subst (λ k. Shows m (x.config.temps t) k × (k < 2 ^ 32)) (sym is) (found.0, truth_few (is_so c old)), own),
-            there_kept r hs x.config.temps spare m new old kept h.0,
-            stable m new old kept h.1,
-          ))
+          (λ m new old is kept h. has_value m new old (verdict c old) is
+          ((there_found hs t (Compared c) x.config.temps m old h.0 e).0, truth_few (is_so c old)) kept h)
+      by (Some (ComparedWith n)) e has = puts_numbered w order x outer mem r n place (Known hs H) (WithOperand (suc r) (suc r) t hs H)
+          (λ m registers h. let found = there_found hs t (ComparedWith n) x.config.temps m registers h.0 e in (found.1, found.2)) (spare_leaves (suc r) spare) has
+          (λ m new old is kept h. has_value m new old (numbered_verdict n old) is
+          ((there_found hs t (ComparedWith n) x.config.temps m old h.0 e).0, numbered_few n old) kept h)
 
   -- where nothing else is known
   pub brings : (r t place : ℕ) (hs : List Holding) → t < x.fn.temporaries → IsServed w x hs t → is_spare (suc r) ≡ true
@@ -276,6 +284,11 @@ module _ (w : World) (order : IsInOrder w) (x : Waiting) (outer : List Waiting) 
           (λ m new old is kept h.
           let found = there_found hs t (Compared c) x.config.temps m old h.0 e in
           changed m new old (subst (λ k. Shows m (x.config.temps t) k × (k < 2 ^ 32)) (sym is) (found.0, truth_few (is_so c old))) kept h)
+      by (Some (ComparedWith n)) e has = puts_numbered w order x outer mem r n place (Known hs H) (Fetched (suc r) t hs H)
+          (λ m registers h. let found = there_found hs t (ComparedWith n) x.config.temps m registers h.0 e in (found.1, found.2)) other has
+          (λ m new old is kept h.
+          let found = there_found hs t (ComparedWith n) x.config.temps m old h.0 e in
+          changed m new old (subst (λ k. Shows m (x.config.temps t) k × (k < 2 ^ 32)) (sym is) (found.0, numbered_few n old)) kept h)
 
   -- ---- results: they are saved or not, and behind that these slots show their temporaries' words
 

@@ -11,6 +11,7 @@ use Rattle.rv32_machine.specs.State.{code_base, set_register}
 use Rattle.rv32_machine.specs.Step.{effect, gives}
 use Rattle.rv32_machine.specs.Audit.{AccessIsLawful}
 use Rattle.core_lines.specs.declared.comparison.Comparison.{Comparison}
+use Rattle.core_lines.specs.declared.comparison.NumberComparison.{NumberComparison}
 use Rattle.core_lines.specs.Comparisons.{verdict_code}
 use Rattle.core_lines.specs.declared.line.Line.{Line}
 use Rattle.core_lines.specs.Lines.{HasInstr, code_length}
@@ -33,8 +34,9 @@ use Rattle.core_lines.proofs.memory.Relations.{
   At,
 }
 use Rattle.core_lines.specs.Held.{Holding}
-use Rattle.core_lines.specs.Operands.{number_code}
-use Rattle.core_lines.proofs.operations.Holding.{having, InRegister, AreThere, register_stays}
+use Rattle.core_lines.specs.Operands.{number_code, numbered_code}
+use Rattle.core_lines.proofs.operations.Holding.{having, InRegister, AreSides, numbered_verdict, AreThere, register_stays}
+use Rattle.core_lines.proofs.operations.NumberVerdicts as numbers
 use Rattle.core_lines.proofs.memory.Moving.{Comes, comes_then, comes_as, bare}
 use Rattle.core_lines.specs.Homes.{stays}
 use Rattle.core_lines.proofs.homes.Homes.{Stays, kept_stays, set_stays}
@@ -356,3 +358,13 @@ module _ (w : World) (order : IsInOrder w) (x : Waiting) (outer : List Waiting) 
   puts_verdict r c place P Q small other has gets = puts_by (verdict_code (suc r) c) r (verdict c) place P Q
       (λ registers. (reads registers c.left < 2 ^ 32) × (reads registers c.right < 2 ^ 32)) small other
       (λ registers bytes st below few. verdicts.puts_verdict w order place registers bytes st below c r few.0 few.1 has) gets
+
+  -- and that of a comparison with a number
+  pub puts_numbered : (r : ℕ) (n : NumberComparison) (place : ℕ) (P Q : Maps → (ℕ → ℕ) → Type 0)
+      → ((m : Maps) (registers : ℕ → ℕ) → P m registers → (n.number < 2 ^ 32) × AreSides n.comparison registers)
+      → stays (suc r) ≡ false → Has w place (numbered_code (suc r) n)
+      → ((m : Maps) (new old : ℕ → ℕ) → new (suc r) ≡ numbered_verdict n old → Kept (suc r) new old → P m old → Q m new)
+      → Comes w (AtWith w x outer mem place P) (AtWith w x outer mem (place + code_length (numbered_code (suc r) n)) Q)
+  puts_numbered r n place P Q small other has gets = puts_by (numbered_code (suc r) n) r (numbered_verdict n) place P Q
+      (λ registers. (n.number < 2 ^ 32) × AreSides n.comparison registers) small other
+      (λ registers bytes st below few. numbers.puts_numbered w order place registers bytes st below n r few.0 few.1 has) gets

@@ -4,7 +4,7 @@ use Rattle.std.proofs.lemmas.Option.{none-some}
 use Rattle.core_meaning.specs.Memory.{Content}
 use Rattle.core_meaning.specs.Meaning as core
 use Rattle.core_meaning.specs.Steps.{Config, Step}
-use Rattle.core_lines.specs.Held.{Source, Register, Number, Compared, Holding, source_of, number_in}
+use Rattle.core_lines.specs.Held.{Source, Register, Number, Compared, ComparedWith, Holding, source_of, number_in}
 use Rattle.core_lines.specs.Lies.{Maps, Shows}
 use Rattle.core_lines.specs.Machines.{Machine}
 use Rattle.core_lines.proofs.memory.Relations.{World, Waiting, Goes, active_of, keeping}
@@ -20,6 +20,7 @@ number_found None n e = absurd (none-some n e)
 number_found (Some (Register r)) n e = absurd (none-some n e)
 number_found (Some (Number w)) n e = cc e
 number_found (Some (Compared c)) n e = absurd (none-some n e)
+number_found (Some (ComparedWith c)) n e = absurd (none-some n e)
 
 module _ (w : World) (x : Waiting) (outer : List Waiting) (kept : List Bool) (fuel : ℕ) (held : List Holding) (t place : ℕ) where
   abbrev At_choice : Config → Machine → Type 0

@@ -9,7 +9,7 @@ use Rattle.core_lines.specs.declared.comparison.Condition.TheVariants.{Equal}
 use Rattle.core_lines.specs.declared.comparison.Comparison.{Comparison}
 use Rattle.core_lines.specs.declared.line.Line.{Line}
 use Rattle.core_lines.specs.declared.line.Line.TheVariants.{Plain}
-use Rattle.core_lines.specs.Held.{Source, Register, Number, Compared, Holding, source_of, with_moved, null_source, result_register}
+use Rattle.core_lines.specs.Held.{Source, Register, Number, Compared, ComparedWith, Holding, source_of, with_moved, null_source, result_register}
 use Rattle.core_lines.specs.Lies.{Maps, Shows, Points}
 use Rattle.core_lines.specs.Lines.{code_length}
 use Rattle.core_lines.specs.Operands.{operand_in, operand_code, keep_code, move_kept}
@@ -49,7 +49,7 @@ module _ (w : World) (order : IsInOrder w) (x : Waiting) (outer : List Waiting) 
         by : (s : Option Source) → source_of hs y ≡ s → Told n (null_source s)
         by None e = computed
         by (Some (Register zero)) e = absurd (source_not_zero hs y e)
-        by (Some (Register (suc q))) e = verdict_into w order x outer mem after t (with_none (suc q)) place (Word n) hs named keeps follows
+        by (Some (Register (suc q))) e = verdict_into w order x outer mem after t place (Word n) hs named (with_none (suc q)) keeps follows
             (λ s a.
             let found = there_found hs y (Register (suc q)) x.config.temps a.maps s.registers a.holds e in (
               ap truth (sym (below_one (s.registers (suc q)))) ∙ gets a.maps (s.registers (suc q)) found.0.0,
@@ -63,6 +63,7 @@ module _ (w : World) (order : IsInOrder w) (x : Waiting) (outer : List Waiting) 
             sym (ap truth (le-ltb (suc k) 1 (omega arith)))
             ∙ gets a.maps (suc k) (there_found hs y (Number (suc k)) x.config.temps a.maps s.registers a.holds e).0)
         by (Some (Compared c)) e = computed
+        by (Some (ComparedWith c)) e = computed
 
   pub null_is : x.config.temps y ≡ Null → Told 1 (null_source (source_of hs y))
   null_is is = is_null_as 1 (omega arith) (λ m k shows.

@@ -2,7 +2,7 @@
 use Rattle.std.specs.Prelude.{if◌then◌else◌}
 use Rattle.std.proofs.Common.{◌≡◌, ℕ, zero, suc, ◌+◌, ◌<◌, inr, Bool, true, false, List, [], ◌++◌, Option, Some, None, refl, arith}
 use Rattle.core_meaning.specs.Memory.{Content, Memory}
-use Rattle.core_lines.specs.Held.{Source, Register, Number, Compared, Holding, source_of, is_zero}
+use Rattle.core_lines.specs.Held.{Source, Register, Number, Compared, ComparedWith, Holding, source_of, is_zero}
 use Rattle.core_lines.specs.Lies.{Maps}
 use Rattle.core_lines.specs.Lines.{code_length}
 use Rattle.core_lines.specs.Operands.{operand_in, operand_code, stored_in, stored_code}
@@ -32,6 +32,7 @@ zero_known (Some (Register r)) e = absurd (cc e)
 zero_known (Some (Number zero)) e = refl
 zero_known (Some (Number (suc w))) e = absurd (cc e)
 zero_known (Some (Compared c)) e = absurd (cc e)
+zero_known (Some (ComparedWith c)) e = absurd (cc e)
 
 module _ (w : World) (order : IsInOrder w) (x : Waiting) (outer : List Waiting) (mem : Memory) (hs : List Holding) where
   abbrev Known : (Maps → (ℕ → ℕ) → Type 0) → Maps → (ℕ → ℕ) → Type 0

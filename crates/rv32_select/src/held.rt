@@ -12,7 +12,7 @@ ghost use Rattle.cyc_core.specs.Trees.{binary_tree, body_tree, bytes_of, optiona
 ghost use Rattle.rv32_select.specs.Known.{source_tree, holding_tree, keeper_tree};
 
 use crate::keeper::{Keeper, compared, keeper_of};
-use crate::parameters::parameter_register;
+use crate::taking::parameter_register;
 use core_lines::{Comparison, Condition};
 use cyc_core::{Binary, Statement, Temporary, Width, Words};
 use rv32_isa::Register;

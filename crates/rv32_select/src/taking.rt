@@ -50,11 +50,7 @@ fn home_put_at(homes: &[Register], parameter: Temporary, statements: &[Statement
 
 /// The register that a parameter is taken into: the home of the local that gets it, or that of its temporary's results.
 #[tactic(auto, using(crate::proofs::Taken::register_without, crate::proofs::Taken::register_with))]
-pub fn parameter_register(
-    homes: &[Register],
-    body: &[Statement],
-    parameter: Temporary,
-) -> Register
+pub fn parameter_register(homes: &[Register], body: &[Statement], parameter: Temporary) -> Register
     ensures { result ≡ parameter_register homes.now (body_tree body.now) parameter.0 }
 {
     let home = match body {

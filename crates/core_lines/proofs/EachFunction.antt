@@ -56,7 +56,8 @@ pub function_does : (w : World) (order : IsInOrder w) (data_objects number : ℕ
     ≡ frame_bytes f
     → (code : IsAtCode w number f) → BodyDoes w order number code.next f → FunctionDoes w order number f
 function_does w order data_objects number f selectable frame code body =
-    let starts : ℕ → List Line = λ size. prologue_code w.refused size f.passed (saved_slot f) (saved_by f) (live_at_start w.data_offsets f) (parameter_registers f) f.parameters in
+    let starts : ℕ → List Line =
+    λ size. prologue_code w.refused size f.passed (saved_slot f) (saved_by f) (live_at_start w.data_offsets f) (parameter_registers f) f.parameters in
     let prologue = starts (frame_bytes f) in
     let lines = ended_code (ends_in_return_all f.body)
     (statements_code (saves_at w.data_offsets f) (around w.wide w.data_offsets code.next f) (code.next + 1) number number f.body) in

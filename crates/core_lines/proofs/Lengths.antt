@@ -254,7 +254,8 @@ prologue_within : (refused bytes passed first : ℕ) (saved : List ℕ) (start :
     → IsWithin (52 + code_length (saves_code first saved) + 24 * parameters) (prologue_code refused bytes passed first saved start registers parameters)
 prologue_within refused bytes passed first saved start registers parameters =
     let s = code_length (saves_code first saved) in
-    both_within (52 + s) (24 * parameters) (frame_code refused bytes ++ save_code 1 0 ++ saves_code first saved) (take_code bytes passed start registers 0 parameters)
+    both_within (52 + s) (24 * parameters) (frame_code refused bytes ++ save_code 1 0 ++ saves_code first saved)
+    (take_code bytes passed start registers 0 parameters)
     (both_within 52 s (frame_code refused bytes ++ save_code 1 0) (saves_code first saved)
     (both_within 40 12 (frame_code refused bytes) (save_code 1 0)
     (if_within 40 (nat_lt bytes 2048) _ _ (record { is = omega arith }) (record { is = omega arith }))

@@ -7,6 +7,7 @@ pub mod Begun
 pub mod Taking
 pub mod Parameters
 pub mod Entering
+mod StartSamples
 pub mod Jumping
 pub mod Results
 pub mod Leaving

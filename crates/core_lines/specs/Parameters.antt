@@ -24,8 +24,8 @@ abbrev pub home_or_result : (t home : ℕ) → ℕ
 home_or_result t zero = result_index t
 home_or_result t (suc h) = h
 
--- The register of a parameter: the home of the local that gets it, or that of its temporary's results. The k-th statement of a function's block is looked at for
--- the k-th parameter, where these are the homes of the function's locals.
+-- The register of a parameter: the home of the local that gets it, or that of its temporary's results. For the k-th parameter the k-th statement of a
+-- function's block is looked at, where these are the homes of the function's locals.
 abbrev pub parameter_index : (homes : List ℕ) → Statements → ℕ → ℕ
 parameter_index homes body k = home_or_result k (home_put_at homes k k (in_first_block body))
 

@@ -214,7 +214,8 @@ ended_code returns lines = (if returns then take (length lines - 1) lines else l
 -- A function has its number as its label; `next` is where it ends, and the labels behind that are for what stands within it. At `refused` its frame is refused.
 abbrev pub function_code : (ℕ → Bool) → List ℕ → (refused number next : ℕ) → Function → List Line
 function_code wide statics refused number next f =
-    (Label number ∷ []) ++ prologue_code refused (frame_bytes f) f.passed (saved_slot f) (saved_by f) (live_at_start statics f) (parameter_registers f) f.parameters ++
+    (Label number ∷ []) ++
+    prologue_code refused (frame_bytes f) f.passed (saved_slot f) (saved_by f) (live_at_start statics f) (parameter_registers f) f.parameters ++
     ended_code (ends_in_return_all f.body) (statements_code (saves_at statics f) (around wide statics next f) (next + 1) number number f.body) ++
     (Label next ∷ []) ++ epilogue_code (frame_bytes f) (saved_slot f) (saved_by f)
 

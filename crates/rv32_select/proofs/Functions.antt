@@ -21,9 +21,9 @@ behind before lines all more e = ap (λ x. x ++ more) e ∙ append_assoc before 
 module _ (statics : List ℕ) (refused number next : ℕ) (f : Function) where
   pub function_joined : (before labelled begun inside joined ended whole : List Line) (bytes first slot : ℕ) (homes saved : List ℕ) (start kept : List Bool)
       (u : Surroundings)
-      → bytes ≡ frame_bytes f → u ≡ around far statics next f → first ≡ next + 1 → slot ≡ saved_slot f → homes ≡ homes_in f → saved ≡ saved_by f → start ≡ live_at_start statics f
-      → kept ≡ saves_at statics f
-      → labelled ≡ before ++ Label number ∷ [] → begun ≡ labelled ++ prologue_code refused bytes u.passed (saved_slot f) saved start (parameter_register homes f.body) f.parameters
+      → bytes ≡ frame_bytes f → u ≡ around far statics next f → first ≡ next + 1 → slot ≡ saved_slot f → homes ≡ homes_in f → saved ≡ saved_by f
+      → start ≡ live_at_start statics f → kept ≡ saves_at statics f → labelled ≡ before ++ Label number ∷ []
+      → begun ≡ labelled ++ prologue_code refused bytes u.passed (saved_slot f) saved start (parameter_register homes f.body) f.parameters
       → inside ≡ begun ++ statements_code kept u first number number f.body → joined ≡ ended_code (ends_in_return_all f.body) inside
       → ended ≡ joined ++ Label next ∷ []
       → whole ≡ ended ++ epilogue_code bytes slot saved → whole ≡ before ++ function_code far statics refused number next f

@@ -1,7 +1,7 @@
 -- The register of a parameter, by the statement that puts it into a local.
-use Rattle.std.specs.Prelude.{slice_index_or, nat_eq, ◌&&◌, not, if◌then◌else◌}
-use Rattle.std.proofs.Common.{◌≡◌, ℕ, zero, suc, ◌+◌, ◌-◌, ◌<◌, ◌≤◌, Bool, true, false, List, [], ◌∷◌, length, map, refl, sym, ap, ◌∙◌, arith}
-use Rattle.core_meaning.specs.Core.{Statement, Statements, MoreStatements}
+use Rattle.std.specs.Prelude.{slice_index_or}
+use Rattle.std.proofs.Common.{◌≡◌, ℕ, zero, suc, ◌+◌, ◌-◌, ◌<◌, ◌≤◌, false, List, [], ◌∷◌, length, map, refl, sym, ap, ◌∙◌, arith}
+use Rattle.core_meaning.specs.Core.{Statements}
 use Rattle.core_lines.specs.Held as lines
 use Rattle.core_lines.specs.Held.{nth, nth_block, result_register, with_taken, with_put}
 use Rattle.core_lines.specs.Parameters.{home_put_at, home_or_result, in_first_block, parameter_register}
@@ -9,11 +9,14 @@ use Rattle.core_lines.specs.Straight.{home_put_by}
 use Rattle.cyc_core.specs.declared.statement.Statement as code
 use Rattle.cyc_core.specs.Trees.{statement_tree, body_tree}
 
--- a local of a block further out has none of the homes
-pub put_none : (homes : List ℕ) (out local : ℕ) (c : Bool) → nat_eq out 0 ≡ false → 0 ≡ (if c then nth (nth_block (homes ∷ []) out) local else 0)
-put_none homes zero local c other = absurd (cc other)
-put_none homes (suc out) local true other = refl
-put_none homes (suc out) local false other = refl
+-- by whether a local is of the block
+pub home_here : (homes : List ℕ) (out local home : ℕ) → out ≡ 0 → home ≡ nth homes local → home ≡ nth (nth_block (homes ∷ []) out) local
+home_here homes zero local home here is = is
+home_here homes (suc out) local home here is = absurd (omega (arith, here))
+
+pub none_outside : (homes : List ℕ) (out local : ℕ) → 0 < out → 0 ≡ nth (nth_block (homes ∷ []) out) local
+none_outside homes zero local outside = absurd (omega (arith, outside))
+none_outside homes (suc out) local outside = refl
 
 pub at_some : (homes : List ℕ) (t : ℕ) (ss : List code.Statement) (k : ℕ) (s : code.Statement) (home : ℕ) → k < length ss → s ≡ slice_index_or ss k s
     → home ≡ home_put_by (homes ∷ []) t (statement_tree s) → home ≡ home_put_at homes t k (body_tree ss)
@@ -27,14 +30,14 @@ at_none homes t (q ∷ ss) zero le = absurd (omega (arith, le))
 at_none homes t (q ∷ ss) (suc k) le = at_none homes t ss k (omega (arith, le))
 
 -- where there is no home, and where there is one
-pub register_without : (homes : List ℕ) (body : Statements) (t home register : ℕ) → home ≡ home_put_at homes t t (in_first_block body) → nat_eq home 0 ≡ true
+pub register_without : (homes : List ℕ) (body : Statements) (t home register : ℕ) → home ≡ home_put_at homes t t (in_first_block body) → home ≡ 0
     → register ≡ result_register t → register ≡ parameter_register homes body t
 register_without homes body t zero register is none e = e ∙ ap (λ h. suc (home_or_result t h)) is
-register_without homes body t (suc home) register is none e = absurd (cc none)
+register_without homes body t (suc home) register is none e = absurd (omega (arith, none))
 
-pub register_with : (homes : List ℕ) (body : Statements) (t home : ℕ) → home ≡ home_put_at homes t t (in_first_block body) → nat_eq home 0 ≡ false
+pub register_with : (homes : List ℕ) (body : Statements) (t home : ℕ) → home ≡ home_put_at homes t t (in_first_block body) → 0 < home
     → home ≡ parameter_register homes body t
-register_with homes body t zero is some = absurd (cc some)
+register_with homes body t zero is some = absurd (omega (arith, some))
 register_with homes body t (suc home) is some = ap (λ h. suc (home_or_result t h)) is
 
 -- one parameter more is known

@@ -25,9 +25,9 @@ use crate::labelled::Labelled;
 use crate::layout::{highest_of, saved_slot, statics, sum};
 use crate::live::find_saves;
 use crate::operands::put_kept;
-use crate::parameters::parameter_register;
 use crate::place::Place;
 use crate::statement::{Ways, following, put_statements};
+use crate::taking::parameter_register;
 use core_lines::Line;
 use cyc_core::{Function, Program, Statement, Temporary};
 use rv32_isa::{BranchOffset, Instr, Register, Signed12};
@@ -155,8 +155,9 @@ fn put_parameter(
     live: &[bool],
     parameter: Temporary,
 ) -> Result<(), AllocError>
-    ensures { let register = parameter_register place.now.homes.items (function_tree function.now).body parameter.0 in OnOk result (lines.new.items ≡ lines.old.items
-        ++ load_code register (bytes / 4 + 1 + parameter.0) ++ keep_code (flag_at live.now parameter.0) place.now.passed register parameter.0) }
+    ensures { let register = parameter_register place.now.homes.items (function_tree function.now).body parameter.0 in
+        OnOk result (lines.new.items ≡ lines.old.items ++ load_code register (bytes / 4 + 1 + parameter.0)
+        ++ keep_code (flag_at live.now parameter.0) place.now.passed register parameter.0) }
 {
     let register = parameter_register(&place.homes, &function.body, parameter);
     put_load(lines, register, sum(bytes / 4 + 1, u64::from(parameter.0))?)?;
@@ -247,6 +248,7 @@ fn put_epilogue(
 }
 
 /// The labels of a function: where its frame is refused, its number, where it begins, and `next`, where it ends and behind which the labels are free.
+#[derive(Clone, Copy)]
 struct Labels {
     refused: usize,
     number: usize,

@@ -12,7 +12,7 @@ ghost use Rattle.cyc_core.specs.Trees.{binary_tree, body_tree, bytes_of, optiona
 ghost use Rattle.rv32_select.specs.Known.{source_tree, holding_tree, keeper_tree};
 
 use crate::keeper::{Keeper, compared, keeper_of};
-use crate::parameters::parameter_register;
+use crate::taking::parameter_register;
 use core_lines::{Comparison, Condition, NumberComparison};
 use cyc_core::{Binary, Statement, Temporary, Width, Words};
 use rv32_isa::Register;
@@ -45,8 +45,9 @@ impl Source {
                     || comparison.right.number() == register.number()
             }
             Source::ComparedWith(numbered) => {
-                numbered.comparison.left.number() == register.number()
-                    || numbered.comparison.right.number() == register.number()
+                let comparison = numbered.comparison;
+                comparison.left.number() == register.number()
+                    || comparison.right.number() == register.number()
             }
         }
     }
@@ -270,7 +271,7 @@ impl Known {
     }
 
     /// The register that has a temporary's word, if one has.
-    fn keeper(&self, temporary: Temporary) -> Keeper
+    pub fn keeper(&self, temporary: Temporary) -> Keeper
         ensures { keeper_tree result ≡ register_in (source_of self.now temporary.0) }
     {
         keeper_of(self.source(temporary))

@@ -378,7 +378,8 @@ module _ (w : World) (order : IsInOrder w) (each : (f : ℕ) (fn : Function) →
       (λ (large : longest_stack < w.frame_bytes f). goes_nowhere w R' (w.names f ∷ active_of w outer) most c
       (λ s a. too_large y outer (entered fn arguments mem).memory place s large (at_any w y outer (entered fn arguments mem).memory place held s a)))
       (λ (fits : w.frame_bytes f ≤ longest_stack).
-      subst (λ k. Goes w most c (AtHolding w y outer (entered fn arguments mem).memory (w.places f + code_length (prologue_of w f fn k)) (with_taken (parameter_registers fn) 0 k []))
+      subst (λ k. Goes w most c (AtHolding w y outer (entered fn arguments mem).memory (w.places f + code_length (prologue_of w f fn k))
+      (with_taken (parameter_registers fn) 0 k []))
       (w.names f ∷ active_of w outer)) (sym as_many)
       (d.does is most fits calls outer mem arguments (left f mem.calls next) (left_goes most f fn is outer mem arguments next goes) (λ c. (refl, refl, refl))))
       (cases_lt (longest_stack) (w.frame_bytes f)) in

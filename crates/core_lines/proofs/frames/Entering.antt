@@ -326,7 +326,8 @@ module _ (w : World) (order : IsInOrder w) (f : ℕ) (fn : Function) (is : slice
   -- take more bytes than it has.
   pub enters : length arguments ≤ fn.temporaries → Has w entry lines
       → (count : ℕ) × ((s : Machine) → Calling w f outer mem arguments s
-      → Reach w.areas count (AtHolding w begun outer (with_call mem) (entry + code_length lines) (with_taken (parameter_registers fn) 0 (length arguments) [])) s
+      → Reach w.areas count
+      (AtHolding w begun outer (with_call mem) (entry + code_length lines) (with_taken (parameter_registers fn) 0 (length arguments) [])) s
       ⊎ (Full w count s × (w.areas.stack < frames w.bound (w.names f ∷ active_of w outer))))
   enters few has =
       let both = saving_lines ++ taking_lines in

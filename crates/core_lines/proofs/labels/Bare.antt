@@ -413,5 +413,6 @@ pub prologue_bare : (refused bytes passed first : ℕ) (saved : List ℕ) (start
     → are_bare (prologue_code refused bytes passed first saved start registers parameters) ≡ true
 prologue_bare refused bytes passed first saved start registers parameters =
     two (frame_code refused bytes ++ save_code 1 0 ++ saves_code first saved) (take_code bytes passed start registers 0 parameters)
-    (three (frame_code refused bytes) (save_code 1 0) (saves_code first saved) (either (nat_lt bytes 2048) _ _ refl refl) (save_bare 1 0) (saves_bare first saved))
+    (three (frame_code refused bytes) (save_code 1 0) (saves_code first saved) (either (nat_lt bytes 2048) _ _ refl refl) (save_bare 1 0)
+    (saves_bare first saved))
     (take_bare bytes passed start registers 0 parameters)

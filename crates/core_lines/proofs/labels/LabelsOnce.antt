@@ -234,7 +234,8 @@ function_places wide statics refused number next f less =
     let one : labels_placed (front ++ body) ≡ number ∷ labels_placed body =
     labels_placed-append front body
     ∙ ap (λ ls. ls ++ labels_placed body) (labels_placed-append (Label number ∷ []) prologue
-    ∙ ap (λ ls. number ∷ ls) (prologue_none refused (frame_bytes f) f.passed (saved_slot f) (saved_by f) (live_at_start statics f) (parameter_registers f) f.parameters)) in
+    ∙ ap (λ ls. number ∷ ls)
+    (prologue_none refused (frame_bytes f) f.passed (saved_slot f) (saved_by f) (live_at_start statics f) (parameter_registers f) f.parameters)) in
     let two : labels_placed (((front ++ body) ++ (Label next ∷ [])) ++ leaves) ≡ number ∷ (labels_placed body ++ (next ∷ [])) =
     labels_placed-append ((front ++ body) ++ (Label next ∷ [])) leaves
     ∙ ap (λ ls. labels_placed ((front ++ body) ++ (Label next ∷ [])) ++ ls) (epilogue_none (frame_bytes f) (saved_slot f) (saved_by f))
@@ -306,8 +307,10 @@ pub program_labels_once : (wide : ℕ → Bool) (p : Program) → AreOnce (label
 program_labels_once wide p =
     let n = length p.functions in
     let lines = functions_code wide (data_offsets p.data_objects) n 0 (n + 1) p.functions in
-    let of_functions = functions_places wide (data_offsets p.data_objects) n 0 (n + 1) p.functions (omega arith) in
-    (All-weaker (IsOf 0 (0 + n) (n + 1)) (λ other. nat_eq n other ≡ false) (λ other h. apart n other h) (labels_placed lines) of_functions.within, of_functions.once)
+    let of_functions = functions_places wide (data_offsets p.data_objects) n 0 (n + 1) p.functions (omega arith) in (
+      All-weaker (IsOf 0 (0 + n) (n + 1)) (λ other. nat_eq n other ≡ false) (λ other h. apart n other h) (labels_placed lines) of_functions.within,
+      of_functions.once,
+    )
   where
     apart : (n other : ℕ) → IsOf 0 (0 + n) (n + 1) other → nat_eq n other ≡ false
     apart n other (inl h) = let r = h.1 in ne_eqb n other (λ e. omega (arith, e, r))

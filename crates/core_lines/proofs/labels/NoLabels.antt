@@ -57,4 +57,5 @@ epilogue_none bytes first saved = bare_places (epilogue_code bytes first saved) 
 pub prologue_none : (refused bytes passed first : ℕ) (saved : List ℕ) (start : List Bool) (registers : ℕ → ℕ) (parameters : ℕ)
     → labels_placed (prologue_code refused bytes passed first saved start registers parameters) ≡ []
 prologue_none refused bytes passed first saved start registers parameters =
-    bare_places (prologue_code refused bytes passed first saved start registers parameters) (prologue_bare refused bytes passed first saved start registers parameters)
+    bare_places (prologue_code refused bytes passed first saved start registers parameters)
+    (prologue_bare refused bytes passed first saved start registers parameters)

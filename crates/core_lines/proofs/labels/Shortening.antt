@@ -324,7 +324,9 @@ module _ (wide : ℕ → Bool) where
       → shortened_to wide (function_code far statics refused number next f) ≡ function_code wide statics refused number next f
   function_short statics refused number next f =
       let start = live_at_start statics f in
-      let front : List Line = (Label number ∷ []) ++ prologue_code refused (frame_bytes f) f.passed (saved_slot f) (saved_by f) start (parameter_registers f) f.parameters in
+      let registers = parameter_registers f in
+      let prologue = prologue_code refused (frame_bytes f) f.passed (saved_slot f) (saved_by f) start registers f.parameters in
+      let front : List Line = (Label number ∷ []) ++ prologue in
       let leaves = epilogue_code (frame_bytes f) (saved_slot f) (saved_by f) in
       let exit : List Line = Label next ∷ [] in
       let returns = ends_in_return_all f.body in
@@ -333,7 +335,8 @@ module _ (wide : ℕ → Bool) where
       let a' = ended_code returns (statements_code (saves_at statics f) (around wide statics next f) (next + 1) number number f.body) in
       both ((front ++ a) ++ exit) leaves ((front ++ a') ++ exit) leaves
       (both (front ++ a) exit (front ++ a') exit
-      (both front a front a' (no_targets_stay wide front (prologue_none refused (frame_bytes f) f.passed (saved_slot f) (saved_by f) start (parameter_registers f) f.parameters))
+      (both front a front a'
+      (no_targets_stay wide front (prologue_none refused (frame_bytes f) f.passed (saved_slot f) (saved_by f) start registers f.parameters))
       (ended_short wide returns all
       ∙ ap (λ ls. ended_code returns ls) (statements_short (saves_at statics f) (around wide statics next f) (next + 1) number number f.body))) refl)
       (no_targets_stay wide leaves (epilogue_none (frame_bytes f) (saved_slot f) (saved_by f)))
@@ -343,7 +346,8 @@ module _ (wide : ℕ → Bool) where
   functions_short statics refused number next [] = refl
   functions_short statics refused number next (f ∷ fs) =
       both (function_code far statics refused number next f) (functions_code far statics refused (number + 1) (next + labels_within f) fs)
-      (function_code wide statics refused number next f) (functions_code wide statics refused (number + 1) (next + labels_within f) fs) (function_short statics refused number next f)
+      (function_code wide statics refused number next f) (functions_code wide statics refused (number + 1) (next + labels_within f) fs)
+      (function_short statics refused number next f)
       (functions_short statics refused (number + 1) (next + labels_within f) fs)
 
   program_short : (p : Program) → shortened_to wide (program_code far p) ≡ program_code wide p

@@ -196,7 +196,8 @@ function_targets wide statics refused number next f =
     let leaves = epilogue_code (frame_bytes f) (saved_slot f) (saved_by f) in
     let front : List Line = (Label number ∷ []) ++ prologue in
     let a : TargetsFrom low high (front ++ body) =
-    join low high (none_from low low front (prologue_none refused (frame_bytes f) f.passed (saved_slot f) (saved_by f) (live_at_start statics f) (parameter_registers f) f.parameters))
+    join low high (none_from low low front
+    (prologue_none refused (frame_bytes f) f.passed (saved_slot f) (saved_by f) (live_at_start statics f) (parameter_registers f) f.parameters))
     (record {
       within = subst (λ ls. All (λ label. (next + 1 ≤ label) × (label < next + 1 + labels_of f.body)) ls) (sym as_many) of_all.within;
       once = subst AreOnce (sym as_many) of_all.once;

@@ -92,3 +92,16 @@ module _ (w : World) (order : IsInOrder w) (x : Waiting) (outer : List Waiting) 
       (now_known w order x outer mem (place + code_length first + code_length second) _ _ _ (λ m registers h. (h.2, h.0, h.1))
       (stored_into y (place + code_length first) (InOperand 5 (operand_in hs 5 p) (x.config.temps p)) named' served'
       (operand_stays 5 (operand_in hs 5 p) 6 (x.config.temps p) refl refl refl) (has_second w place first second has))))
+
+-- ---- samples
+
+-- 0 needs no register but x0
+zero_stored : stored_in (record { temporary = 5; source = Number 0 } ∷ []) 6 5 ≡ 0
+zero_stored = refl
+
+zero_ready : stored_code 0 (record { temporary = 5; source = Number 0 } ∷ []) 6 5 ≡ []
+zero_ready = refl
+
+-- another number is put into the spare one
+seven_stored : stored_in (record { temporary = 5; source = Number 7 } ∷ []) 6 5 ≡ 6
+seven_stored = refl

@@ -31,7 +31,8 @@ pub returns-clause-code : goal.returns-clause-code
 returns-clause-code c =
     let statics = ap (λ (u : Surroundings). u.statics) (c.in_ok-live.ensures.place ∙ c.in_ok-saved.ensures.place) in
     on_ok_weaker c.put_begun.result
-    (λ e. e ∙ ap (λ s. c.args.lines.now.items ++ function_code far s c.args.labels.refused c.args.labels.number c.args.labels.next (function_tree c.args.function.now)) statics)
+    (λ e. e ∙ ap (λ s. c.args.lines.now.items
+    ++ function_code far s c.args.labels.refused c.args.labels.number c.args.labels.next (function_tree c.args.function.now)) statics)
     c.put_begun.ensures.code
 
 pub returns-clause-same : goal.returns-clause-same

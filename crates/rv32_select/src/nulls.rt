@@ -10,7 +10,9 @@ ghost use Rattle.rv32_select.specs.Places.{surroundings};
 
 use crate::emit::{FIRST, put};
 use crate::held::{Known, Source, result_register};
-use crate::operands::{put_kept, put_number_kept, put_operand, put_result, put_verdict_kept};
+use crate::operands::{
+    put_kept, put_number_kept, put_numbered_kept, put_operand, put_result, put_verdict_kept,
+};
 use crate::place::Place;
 use core_lines::{Comparison, Condition, Line};
 use cyc_core::Temporary;
@@ -36,7 +38,7 @@ fn null_source(source: Option<Source>) -> Option<Source>
                     Some(Source::Number(0))
                 }
             }
-            Source::Compared(_) => None,
+            Source::Compared(_) | Source::ComparedWith(_) => None,
         },
         None => None,
     }
@@ -71,6 +73,7 @@ fn put_source_kept(
         Source::Register(register) => put_kept(lines, place, keeps, register, to),
         Source::Number(word) => put_number_kept(lines, place, keeps, to, word),
         Source::Compared(comparison) => put_verdict_kept(lines, place, keeps, to, comparison),
+        Source::ComparedWith(numbered) => put_numbered_kept(lines, place, keeps, to, numbered),
     }
 }
 

@@ -281,6 +281,7 @@ fn put_begun(
         next,
     } = labels;
     let bytes = frame_bytes(place, &function.body)?;
+    let slot = saved_slot(function);
     put_lines(lines, &[Line::Label(number)])?;
     put_prologue(lines, place, refused, bytes, function, saved, live)?;
     let ways = Ways {
@@ -291,7 +292,7 @@ fn put_begun(
     let free = put_statements(lines, place, first, ways, &function.body)?;
     end_lines(lines, &function.body);
     put_lines(lines, &[Line::Label(next)])?;
-    put_epilogue(lines, bytes, saved_slot(function), saved)?;
+    put_epilogue(lines, bytes, slot, saved)?;
     Ok(free)
 }
 

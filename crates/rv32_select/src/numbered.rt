@@ -161,11 +161,10 @@ pub fn put_numbered(
 ) -> Result<(), AllocError>
     ensures { OnOk result (lines.new.items ≡ lines.old.items ++ numbered_code to numbered) }
 {
-    let number = numbered.number;
-    let comparison = numbered.comparison;
+    let NumberComparison { comparison, number } = numbered;
+    let (condition, left) = (comparison.condition, comparison.left);
     if has_room(comparison, number) {
-        let instructions = short_verdict(comparison.condition, to, comparison.left, number);
-        return put_instructions(lines, instructions);
+        return put_instructions(lines, short_verdict(condition, to, left, number));
     }
     put_number(lines, ADDRESS, number)?;
     put_verdict(lines, to, comparison)

@@ -3,7 +3,8 @@
 ghost use Rattle.std.specs.Prelude.{◌≡◌, ◌++◌, ◌&&◌, nat_eq, option_map, OnOk};
 ghost use Rattle.core_lines.specs.Held.{source_of, register_in, some_number, numbered_by, number_comparison_of, with_judged};
 ghost use Rattle.core_lines.specs.Numbered.{has_room, short_on};
-ghost use Rattle.core_lines.specs.Operands.{numbered_code};
+ghost use Rattle.core_lines.specs.Comparisons.{verdict_code};
+ghost use Rattle.core_lines.specs.Operands.{number_code, numbered_code};
 ghost use Rattle.cyc_core.specs.Trees.{binary_tree};
 ghost use Rattle.rv32_select.specs.Immediates.{instruction_lines};
 ghost use Rattle.rv32_select.specs.Known.{source_tree, keeper_tree};
@@ -153,6 +154,32 @@ fn short_verdict(condition: Condition, to: Register, left: Register, number: u64
     }
 }
 
+/// Appends the instructions that tell whether a comparison with such a number holds.
+fn put_short(
+    lines: &mut Vec<Line>,
+    to: Register,
+    comparison: Comparison,
+    number: u64,
+) -> Result<(), AllocError>
+    ensures { OnOk result (lines.new.items ≡ lines.old.items ++ short_on comparison.condition to comparison.left number) }
+{
+    let instructions = short_verdict(comparison.condition, to, comparison.left, number);
+    put_instructions(lines, instructions)
+}
+
+/// Appends what puts a number into x7, and what tells whether a comparison holds then.
+fn put_long(
+    lines: &mut Vec<Line>,
+    to: Register,
+    comparison: Comparison,
+    number: u64,
+) -> Result<(), AllocError>
+    ensures { OnOk result (lines.new.items ≡ lines.old.items ++ number_code 7 number ++ verdict_code to comparison) }
+{
+    put_number(lines, ADDRESS, number)?;
+    put_verdict(lines, to, comparison)
+}
+
 /// Appends what puts 1 into a register where a comparison with a number holds, and else 0.
 pub fn put_numbered(
     lines: &mut Vec<Line>,
@@ -161,11 +188,9 @@ pub fn put_numbered(
 ) -> Result<(), AllocError>
     ensures { OnOk result (lines.new.items ≡ lines.old.items ++ numbered_code to numbered) }
 {
-    let NumberComparison { comparison, number } = numbered;
-    let (condition, left) = (comparison.condition, comparison.left);
-    if has_room(comparison, number) {
-        return put_instructions(lines, short_verdict(condition, to, left, number));
+    if has_room(numbered.comparison, numbered.number) {
+        put_short(lines, to, numbered.comparison, numbered.number)
+    } else {
+        put_long(lines, to, numbered.comparison, numbered.number)
     }
-    put_number(lines, ADDRESS, number)?;
-    put_verdict(lines, to, comparison)
 }

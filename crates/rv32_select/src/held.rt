@@ -43,8 +43,9 @@ impl Source {
                     || comparison.right.number() == register.number()
             }
             Source::ComparedWith(numbered) => {
-                numbered.comparison.left.number() == register.number()
-                    || numbered.comparison.right.number() == register.number()
+                let comparison = numbered.comparison;
+                comparison.left.number() == register.number()
+                    || comparison.right.number() == register.number()
             }
         }
     }
@@ -268,7 +269,7 @@ impl Known {
     }
 
     /// The register that has a temporary's word, if one has.
-    fn keeper(&self, temporary: Temporary) -> Keeper
+    pub fn keeper(&self, temporary: Temporary) -> Keeper
         ensures { keeper_tree result ≡ register_in (source_of self.now temporary.0) }
     {
         keeper_of(self.source(temporary))

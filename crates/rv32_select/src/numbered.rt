@@ -1,7 +1,7 @@
 // Comparisons of a register's word with a number.
 
 ghost use Rattle.std.specs.Prelude.{◌≡◌, ◌++◌, ◌&&◌, nat_eq, option_map, OnOk};
-ghost use Rattle.core_lines.specs.Held.{source_of, some_number, numbered_by, numbered, number_comparison_of, with_judged};
+ghost use Rattle.core_lines.specs.Held.{source_of, register_in, some_number, numbered_by, number_comparison_of, with_judged};
 ghost use Rattle.core_lines.specs.Numbered.{has_room, short_on};
 ghost use Rattle.core_lines.specs.Operands.{numbered_code};
 ghost use Rattle.cyc_core.specs.Trees.{binary_tree};
@@ -12,7 +12,7 @@ use crate::comparing::put_verdict;
 use crate::emit::{ADDRESS, is_short, lower, put_number};
 use crate::held::{Known, Source};
 use crate::immediates::{Instructions, put_instructions, turned};
-use crate::keeper::{Keeper, keeper_of};
+use crate::keeper::Keeper;
 use core_lines::{Comparison, Condition, Line, NumberComparison};
 use cyc_core::{Binary, Temporary};
 use rv32_isa::{Instr, Register, Signed12};
@@ -34,36 +34,36 @@ fn some_number(source: Option<Source>) -> Option<u64>
     }
 }
 
-/// The comparison of two words, by the registers that have them and the numbers that they are, if a register has one of them and the other
-/// is a number.
-fn numbered_by(
-    condition: Condition,
-    left: Keeper,
-    first: Option<u64>,
-    right: Keeper,
-    second: Option<u64>,
-) -> Option<NumberComparison>
-    ensures { result ≡ numbered_by condition (keeper_tree left) first (keeper_tree right) second }
+/// One word of a comparison: the register that has it, and the number other than 0 that it is.
+#[derive(Clone, Copy)]
+struct Side {
+    register: Keeper,
+    number: Option<u64>,
+}
+
+/// The comparison of two words of which a register has one and the other is a number.
+fn numbered_by(condition: Condition, left: Side, right: Side) -> Option<NumberComparison>
+    ensures { result ≡ numbered_by condition (keeper_tree left.register) left.number (keeper_tree right.register) right.number }
 {
-    match left {
-        Keeper::In(left) => match second {
+    match left.register {
+        Keeper::In(register) => match right.number {
             Some(number) => Some(NumberComparison {
                 comparison: Comparison {
                     condition,
-                    left,
+                    left: register,
                     right: ADDRESS,
                 },
                 number,
             }),
             None => None,
         },
-        Keeper::Nowhere => match first {
-            Some(number) => match right {
-                Keeper::In(right) => Some(NumberComparison {
+        Keeper::Nowhere => match left.number {
+            Some(number) => match right.register {
+                Keeper::In(register) => Some(NumberComparison {
                     comparison: Comparison {
                         condition,
                         left: ADDRESS,
-                        right,
+                        right: register,
                     },
                     number,
                 }),
@@ -74,19 +74,18 @@ fn numbered_by(
     }
 }
 
-/// The comparison of two words, if a register has one of them and the other is a number that isn't 0.
-fn numbered(
-    condition: Condition,
-    left: Option<Source>,
-    right: Option<Source>,
-) -> Option<NumberComparison>
-    ensures { result ≡ numbered condition (option_map source_tree left) (option_map source_tree right) }
-{
-    let (first, second) = (some_number(left), some_number(right));
-    numbered_by(condition, keeper_of(left), first, keeper_of(right), second)
-}
-
 impl Known {
+    /// What is known of a temporary's word that is compared.
+    fn side(&self, temporary: Temporary) -> Side
+        ensures register { keeper_tree result.register ≡ register_in (source_of self.now temporary.0) }
+        ensures number { result.number ≡ some_number (source_of self.now temporary.0) }
+    {
+        Side {
+            register: self.keeper(temporary),
+            number: some_number(self.source(temporary)),
+        }
+    }
+
     /// The comparison that an operation on two temporaries is, if a register has one's word and the other's is a number that isn't 0.
     pub fn number_comparison(
         &self,
@@ -96,14 +95,14 @@ impl Known {
     ) -> Option<NumberComparison>
         ensures { result ≡ number_comparison_of (binary_tree operation) (source_of self.now left.0) (source_of self.now right.0) }
     {
-        let (first, second) = (self.source(left), self.source(right));
+        let (first, second) = (self.side(left), self.side(right));
         match operation {
-            Binary::Equal => numbered(Condition::Equal, first, second),
-            Binary::NotEqual => numbered(Condition::NotEqual, first, second),
-            Binary::Less => numbered(Condition::Less, first, second),
-            Binary::LessEqual => numbered(Condition::NotLess, second, first),
-            Binary::LessUnsigned => numbered(Condition::LessUnsigned, first, second),
-            Binary::LessEqualUnsigned => numbered(Condition::NotLessUnsigned, second, first),
+            Binary::Equal => numbered_by(Condition::Equal, first, second),
+            Binary::NotEqual => numbered_by(Condition::NotEqual, first, second),
+            Binary::Less => numbered_by(Condition::Less, first, second),
+            Binary::LessEqual => numbered_by(Condition::NotLess, second, first),
+            Binary::LessUnsigned => numbered_by(Condition::LessUnsigned, first, second),
+            Binary::LessEqualUnsigned => numbered_by(Condition::NotLessUnsigned, second, first),
             _ => None,
         }
     }
@@ -125,15 +124,15 @@ impl Known {
 }
 
 /// Whether an instruction has room for the number of a comparison, on the right side.
-fn has_room(numbered: NumberComparison) -> bool
-    ensures { result ≡ (nat_eq numbered.comparison.right 7 && has_room numbered.comparison.condition numbered.number) }
+fn has_room(comparison: Comparison, number: u64) -> bool
+    ensures { result ≡ (nat_eq comparison.right 7 && has_room comparison.condition number) }
 {
-    if numbered.comparison.right.number() != ADDRESS.number() {
+    if comparison.right.number() != ADDRESS.number() {
         return false;
     }
-    match numbered.comparison.condition {
-        Condition::Equal | Condition::NotEqual => is_short(turned(numbered.number)),
-        _ => is_short(numbered.number),
+    match comparison.condition {
+        Condition::Equal | Condition::NotEqual => is_short(turned(number)),
+        _ => is_short(number),
     }
 }
 
@@ -162,8 +161,9 @@ pub fn put_numbered(
 ) -> Result<(), AllocError>
     ensures { OnOk result (lines.new.items ≡ lines.old.items ++ numbered_code to numbered) }
 {
-    let (comparison, number) = (numbered.comparison, numbered.number);
-    if has_room(numbered) {
+    let number = numbered.number;
+    let comparison = numbered.comparison;
+    if has_room(comparison, number) {
         let instructions = short_verdict(comparison.condition, to, comparison.left, number);
         return put_instructions(lines, instructions);
     }

@@ -56,7 +56,7 @@ fn line_of(
             let last = last_of(traced, number);
             format!(in alloc; "function {first:08x} {last:08x} frame {frame} {function}\n")
         }
-        Sight::Raise => raise_line(alloc, traced, point),
+        Sight::Raise(_) => raise_line(alloc, traced, point),
         Sight::Call(_) => call_line(alloc, traced, names, point),
     }
 }

@@ -1,5 +1,6 @@
 // Where in the code functions begin, and where raises and calls are.
 
+use cyc_words::Kind;
 use rv32_isa::{Instr, Register, decode};
 use rv32_machine::{CODE_BASE, RAISE};
 use std::alloc::{AllocError, Global};
@@ -9,6 +10,9 @@ const BEFORE_SMALL_TEST: u32 = 4;
 
 const BEFORE_LARGE_TEST: u32 = 8;
 
+/// The bytes of what raises an exception.
+const RAISE_BYTES: u32 = 12;
+
 /// The bytes from which on a frame is large.
 const LARGE_FRAME: u32 = 2048;
 
@@ -17,8 +21,8 @@ const LARGE_FRAME: u32 = 2048;
 pub enum Sight {
     /// The branch of a function's test of the stack, for a frame of this size in bytes.
     Test(u32),
-    /// An ECALL that raises.
-    Raise,
+    /// An ECALL that raises this exception.
+    Raise(Kind),
     /// A call of this address.
     Call(u32),
 }
@@ -28,16 +32,23 @@ impl Sight {
     pub fn at(code: &[u8], address: u32) -> Option<Sight> {
         let instruction = instruction_at(code, address)?;
         match instruction {
-            Instr::Ecall => {
-                let number = added_at(code, address.wrapping_sub(4), Register::ARGUMENT_7)?;
-                (number == RAISE).then_some(Sight::Raise)
-            }
+            Instr::Ecall => Sight::of_request(code, address),
             Instr::Bgeu(left, _, _) => Sight::of_branch(code, address, left),
             Instr::Jal(to, offset) => {
                 let is_call = to.number() == Register::RETURN_ADDRESS.number();
                 is_call.then_some(Sight::Call(address.wrapping_add_signed(offset.value())))
             }
             _ => None,
+        }
+    }
+
+    /// What an ECALL is, by the number that is put into x17 before it.
+    fn of_request(code: &[u8], address: u32) -> Option<Sight> {
+        let number = added_at(code, address.wrapping_sub(4), Register::ARGUMENT_7)?;
+        if number == RAISE {
+            Some(Sight::Raise(kind_before(code, address)?))
+        } else {
+            None
         }
     }
 
@@ -64,6 +75,15 @@ fn added_at(code: &[u8], address: u32, register: Register) -> Option<u32> {
         Instr::Addi(to, _, number) if to.number() == register.number() => {
             Some(0u32.wrapping_add_signed(number.value()))
         }
+        _ => None,
+    }
+}
+
+/// The exception whose number is put into x10 before the ECALL at an address.
+fn kind_before(code: &[u8], address: u32) -> Option<Kind> {
+    match added_at(code, address.wrapping_sub(8), Register::ARGUMENT_0)? {
+        1 => Some(Kind::NullException),
+        2 => Some(Kind::ArrayBounds),
         _ => None,
     }
 }
@@ -102,6 +122,28 @@ impl Point {
     }
 }
 
+/// An ECALL that raises an exception.
+#[derive(Clone, Copy)]
+pub struct Raising {
+    pub address: u32,
+    pub kind: Kind,
+}
+
+impl Raising {
+    /// Whether it raises this exception.
+    pub fn is(self, kind: Kind) -> bool {
+        match self.kind {
+            Kind::NullException => matches!(kind, Kind::NullException),
+            Kind::ArrayBounds => matches!(kind, Kind::ArrayBounds),
+        }
+    }
+
+    /// Whether what raises it is next behind what raises another one.
+    pub fn is_behind(self, other: Raising) -> bool {
+        self.address == other.address.wrapping_add(RAISE_BYTES)
+    }
+}
+
 /// How many functions, raises and calls there are.
 #[derive(Clone, Copy)]
 pub struct Counts {
@@ -115,7 +157,7 @@ impl Counts {
     fn add(&mut self, sight: Sight) -> usize {
         match sight {
             Sight::Test(_) => next(&mut self.functions),
-            Sight::Raise => next(&mut self.raises),
+            Sight::Raise(_) => next(&mut self.raises),
             Sight::Call(_) => next(&mut self.calls),
         }
     }
@@ -175,6 +217,18 @@ impl Points {
             })?;
         }
         Ok(())
+    }
+
+    /// Those of its points that raise.
+    pub fn raising(&self, alloc: Global) -> Result<Vec<Raising>, AllocError> {
+        let mut raising = Vec::new(alloc);
+        for point in &self.all {
+            if let Sight::Raise(kind) = point.sight {
+                let address = point.address;
+                raising.push(Raising { address, kind })?;
+            }
+        }
+        Ok(raising)
     }
 
     /// The point at an address.

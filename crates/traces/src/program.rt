@@ -36,15 +36,23 @@ impl Traced {
             Err(_) => return Ok(None),
         };
         let core = lower(alloc, &checked)?;
+        let points = Points::of(alloc, code)?;
+        let raising = points.raising(alloc)?;
+        let sites = Sites::of(alloc, &core, &raising)?;
+        let same = sites.are(&raising);
         let traced = Traced {
             main: core.main,
             functions: core.functions.len(),
             positions: Positions::of(alloc, text)?,
-            sites: Sites::of(alloc, &core)?,
-            points: Points::of(alloc, code)?,
+            sites,
+            points,
             checked,
         };
-        Ok(if traced.agrees() { Some(traced) } else { None })
+        Ok(if same && traced.agrees() {
+            Some(traced)
+        } else {
+            None
+        })
     }
 
     /// Whether the code has a function and a raise for each of the program, and a call for each, with the one of `main` before them.
@@ -81,7 +89,7 @@ impl Traced {
     /// Where the raise at an address of the code stands.
     pub fn raise(&self, address: u32) -> Option<Place> {
         let point = self.points.at(address)?;
-        let Sight::Raise = point.sight else {
+        let Sight::Raise(_) = point.sight else {
             return None;
         };
         let (_, place) = self.site_of_raise(point.number)?;

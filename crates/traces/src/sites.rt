@@ -1,5 +1,6 @@
 // The raises and calls of a program of Core that have code.
 
+use crate::points::Raising;
 use cyc_core::{Origin, Program, Statement};
 use cyc_words::Kind;
 use std::alloc::{AllocError, Global};
@@ -18,7 +19,30 @@ pub struct Call {
     pub origin: Origin,
 }
 
-/// The raises and the calls of a program, in the order of its code. What stands behind a statement that can't complete has no code.
+/// The raise that statements are, if they are nothing else.
+fn raise_of(body: &[Statement]) -> Option<Raise> {
+    match body {
+        [Statement::Raise(kind, origin)] => Some(Raise {
+            kind: *kind,
+            origin: *origin,
+        }),
+        _ => None,
+    }
+}
+
+/// Both raises of a choice that is a check of two exceptions.
+fn either_of(these: &[Statement], those: &[Statement]) -> Option<(Raise, Raise)> {
+    if !these.is_empty() {
+        return None;
+    }
+    match those {
+        [Statement::If(_, first, second)] => Some((raise_of(first)?, raise_of(second)?)),
+        _ => None,
+    }
+}
+
+/// The raises and the calls of a program, in the order of its code. What stands behind a statement that can't complete has no code, nor does one of a
+/// check's two exceptions have any where it is known which one a failed check raises.
 #[derive(Drop)]
 pub struct Sites {
     pub raises: Vec<Raise>,
@@ -26,35 +50,82 @@ pub struct Sites {
 }
 
 impl Sites {
-    /// Those of a program.
-    pub fn of(alloc: Global, program: &Program) -> Result<Sites, AllocError> {
+    /// Those of a program, in whose code these raise.
+    pub fn of(alloc: Global, program: &Program, raising: &[Raising]) -> Result<Sites, AllocError> {
         let mut sites = Sites {
             raises: Vec::new(alloc),
             calls: Vec::new(alloc),
         };
         for function in &program.functions {
-            sites.add_all(&function.body)?;
+            sites.add_all(raising, &function.body)?;
         }
         Ok(sites)
     }
 
+    /// Whether there is a raise for each of these, of the same exception.
+    pub fn are(&self, raising: &[Raising]) -> bool {
+        for (number, raise) in self.raises.iter().enumerate() {
+            let Some(one) = raising.get(number) else {
+                return false;
+            };
+            if !one.is(raise.kind) {
+                return false;
+            }
+        }
+        self.raises.len() == raising.len()
+    }
+
+    /// Appends those raises of a check of two exceptions that have code: both, the second one next behind the first one, or one.
+    fn add_either(
+        &mut self,
+        raising: &[Raising],
+        first: Raise,
+        second: Raise,
+    ) -> Result<(), AllocError> {
+        let one = raising.get(self.raises.len());
+        let other = raising.get(self.raises.len().saturating_add(1));
+        if let (Some(one), Some(other)) = (one, other) {
+            if one.is(first.kind) && other.is(second.kind) && other.is_behind(*one) {
+                self.raises.push(first)?;
+                return self.raises.push(second);
+            }
+        }
+        match one {
+            Some(one) if one.is(second.kind) => self.raises.push(second),
+            _ => self.raises.push(first),
+        }
+    }
+
+    /// Appends those of a choice, and says whether it can complete.
+    #[cycle(sites)]
+    fn add_choice(
+        &mut self,
+        raising: &[Raising],
+        these: &[Statement],
+        those: &[Statement],
+    ) -> Result<bool, AllocError> {
+        if let Some((first, second)) = either_of(these, those) {
+            self.add_either(raising, first, second)?;
+            return Ok(true);
+        }
+        let first = self.add_all(raising, these)?;
+        let second = self.add_all(raising, those)?;
+        Ok(first || second)
+    }
+
     /// Appends those of a statement, and says whether it can complete.
     #[cycle(sites)]
-    fn add(&mut self, statement: &Statement) -> Result<bool, AllocError> {
+    fn add(&mut self, raising: &[Raising], statement: &Statement) -> Result<bool, AllocError> {
         match statement {
-            Statement::If(_, these, those) => {
-                let first = self.add_all(these)?;
-                let second = self.add_all(those)?;
-                Ok(first || second)
-            }
+            Statement::If(_, these, those) => self.add_choice(raising, these, those),
             Statement::While(test, _, body) => {
-                self.add_all(test)?;
-                self.add_all(body)?;
+                self.add_all(raising, test)?;
+                self.add_all(raising, body)?;
                 Ok(true)
             }
-            Statement::Block(_, body) => self.add_all(body),
+            Statement::Block(_, body) => self.add_all(raising, body),
             Statement::Leave(body) => {
-                self.add_all(body)?;
+                self.add_all(raising, body)?;
                 Ok(true)
             }
             Statement::Call(_, function, _, origin) => {
@@ -82,9 +153,9 @@ impl Sites {
 
     /// Appends those of statements up to the first one that can't complete, and says whether all can.
     #[cycle(sites)]
-    fn add_all(&mut self, body: &[Statement]) -> Result<bool, AllocError> {
+    fn add_all(&mut self, raising: &[Raising], body: &[Statement]) -> Result<bool, AllocError> {
         for statement in body {
-            if !self.add(statement)? {
+            if !self.add(raising, statement)? {
                 return Ok(false);
             }
         }

@@ -1,29 +1,30 @@
-// Which results of a function are saved, by one walk from its end backwards: what is loaded from slots behind each statement is known before the statement is
-// looked at.
+// Statements from the last one back: what is loaded from slots behind each of them is known before it is looked at, and so which of its results are saved.
 
-ghost use Rattle.std.specs.Prelude.{◌≡◌, true, [], ◌++◌, reverse, IfOk, OnOk, map, option_map, option_to_list};
+ghost use Rattle.std.specs.Prelude.{◌≡◌, ◌≤◌, true, [], ◌++◌, reverse, IfOk, OnOk, length, map};
 ghost use Rattle.core_meaning.specs.Core as core;
-ghost use Rattle.core_lines.specs.Choosing.{far};
 ghost use Rattle.core_lines.specs.Held.{raises_only};
-ghost use Rattle.core_lines.specs.Homes.{homes_in};
 ghost use Rattle.core_lines.specs.Loaded.{loads_of};
-ghost use Rattle.core_lines.specs.Saved.{all_flagged, at_loop, live_in, live_of, behind_test, saves_in, saves_of};
-ghost use Rattle.core_lines.specs.Saved.{either_flagged, either_way, live_at_start, saves_at};
-ghost use Rattle.core_lines.specs.Selected.{around, names_after_all, holding, naming};
-ghost use Rattle.cyc_core.specs.Trees.{temporary_tree, local_tree, statement_tree, body_tree, function_tree};
-ghost use Rattle.rv32_select.specs.Places.{surroundings, saves_left};
+ghost use Rattle.core_lines.specs.Saved.{all_flagged, live_in, live_of, behind_test, saves_in, saves_of};
+ghost use Rattle.core_lines.specs.Saved.{either_flagged, either_way};
+ghost use Rattle.core_lines.specs.Selected.{names_after_all, holding, naming};
+ghost use Rattle.cyc_core.specs.Trees.{local_tree, statement_tree, body_tree};
+ghost use Rattle.rv32_select.specs.Places.{surroundings};
 
-use crate::flags::{copied, either, no_flags, set_flag};
+use crate::flags::{copied, either, set_flag};
+use crate::joining::{joined, loop_head};
 use crate::live_leaves::{
     live_call, live_end, live_jump, live_operation, live_request, live_return,
 };
-use crate::loads::{flag_all, flag_some, flag_while, if_unknown, pass};
+use crate::loads::{flag_all, flag_some, if_unknown, pass};
 use crate::place::Place;
 use crate::points::{point_behind, points_of};
 use crate::raising::raises_only;
 use crate::settling::settle;
-use cyc_core::{Function, Local, Statement, Temporary};
-use std::alloc::{AllocError, Global};
+use cyc_core::{Local, Statement, Temporary};
+use std::alloc::AllocError;
+
+/// Of how many statements of a list, at most, it is known at once where they begin. Each knows up to 32 temporaries there.
+const FEW: usize = 4096;
 
 /// Goes back over a statement, before which the place is, behind which `live` are loaded, and where a `Break` and a `Continue` go `out` and `again`.
 /// Appends which of its results are saved, the last one first. The place is somewhere in the same block then.
@@ -74,21 +75,6 @@ fn live_statement(
         Statement::Return(value) => live_return(place, live, *value),
         Statement::Raise(..) => live_end(place, live),
     }
-}
-
-/// What is loaded where one way or another goes on, and a temporary, if there is one.
-fn joined(
-    alloc: Global,
-    first: &[bool],
-    second: Vec<bool>,
-    tested: Option<Temporary>,
-) -> Result<Vec<bool>, AllocError>
-    ensures { IfOk result (λ both. both.items
-        ≡ all_flagged true (option_to_list (option_map temporary_tree tested)) (either_flagged first.now second.items)) }
-{
-    let mut both = either(alloc, first, &second)?;
-    flag_some(&mut both, tested);
-    Ok(both)
 }
 
 /// Goes back over statements, behind which these are loaded. Answers what is loaded before them.
@@ -229,27 +215,6 @@ fn live_if(
     Ok(())
 }
 
-/// What is loaded from the start of a loop on: all that it loads, and what is loaded where it is left. The place goes on behind the loop.
-fn loop_head(
-    place: &mut Place,
-    after: &[bool],
-    out: &[bool],
-    again: &[bool],
-    test: &[Statement],
-    flag: Temporary,
-    body: &[Statement],
-) -> Result<Vec<bool>, AllocError>
-    ensures head { let u = surroundings place.old in IfOk result (λ head. head.items ≡ at_loop u.homes u.statics u.names
-        after.now out.now again.now (core.While (body_tree test.now) flag.0 (body_tree body.now))) }
-    ensures same { OnOk result (surroundings place.new ≡ holding place.new.held (naming (surroundings place.new).names (surroundings place.old))) }
-    ensures homes { OnOk result (place.new.homes.items ≡ place.old.homes.items) }
-{
-    let ways = either(place.alloc, out, again)?;
-    let mut head = joined(place.alloc, after, ways, None)?;
-    flag_while(&mut head, place, test, flag, body)?;
-    Ok(head)
-}
-
 /// Goes back over a loop's body, and to behind its test, where the place is at the loop's start. Answers what is loaded behind the test.
 #[cycle(live)]
 fn live_body(
@@ -351,7 +316,31 @@ fn live_leavable(
 
 /// Goes back over statements, the last one first. The place is somewhere in the same block then.
 #[cycle(live)]
-fn live_statements(
+pub fn live_statements(
+    saves: &mut Vec<bool>,
+    place: &mut Place,
+    live: &mut Vec<bool>,
+    out: &[bool],
+    again: &[bool],
+    statements: &[Statement],
+) -> Result<(), AllocError>
+    ensures saves { let u = surroundings place.old in OnOk result (saves.new.items ≡ saves.old.items
+        ++ reverse (saves_of u.homes u.statics u.names u.held live.old.items out.now again.now (body_tree statements.now))) }
+    ensures live { let u = surroundings place.old in OnOk result (live.new.items
+        ≡ live_of u.homes u.statics u.names u.held live.old.items out.now again.now (body_tree statements.now)) }
+    ensures same { OnOk result (surroundings place.new ≡ holding place.new.held (naming (surroundings place.new).names (surroundings place.old))) }
+    ensures homes { OnOk result (place.new.homes.items ≡ place.old.homes.items) }
+{
+    match statements {
+        [only] => live_statement(saves, place, live, out, again, only),
+        _ if statements.len() <= FEW => live_few(saves, place, live, out, again, statements),
+        _ => live_halves(saves, place, live, out, again, statements),
+    }
+}
+
+/// The same of a list for which it is known where each of its statements begins, before the last one is looked at.
+#[cycle(live)]
+fn live_few(
     saves: &mut Vec<bool>,
     place: &mut Place,
     live: &mut Vec<bool>,
@@ -375,25 +364,29 @@ fn live_statements(
     Ok(())
 }
 
-/// Goes over a function at whose start the place is, and back to its start, where it is known which results are saved. Answers which temporaries are
-/// loaded from their slots from there on.
-pub fn find_saves(
+/// The same of at least two statements: of the second half, and then of the first. Of the first it is known meanwhile where it begins, and nothing more.
+#[cycle(live)]
+fn live_halves(
+    saves: &mut Vec<bool>,
     place: &mut Place,
-    function: &Function,
-    exit: usize,
-) -> Result<Vec<bool>, AllocError>
-    requires place { surroundings place.old ≡ around far place.old.statics.items exit (function_tree function.now) }
-    requires homes { place.old.homes.items ≡ homes_in (function_tree function.now) }
-    ensures place { OnOk result (surroundings place.new ≡ surroundings place.old) }
-    ensures saves { OnOk result (saves_left place.new ≡ saves_at place.old.statics.items (function_tree function.now)) }
-    ensures live { IfOk result (λ live. live.items ≡ live_at_start place.old.statics.items (function_tree function.now)) }
+    live: &mut Vec<bool>,
+    out: &[bool],
+    again: &[bool],
+    statements: &[Statement],
+) -> Result<(), AllocError>
+    requires { 2 ≤ length statements.now }
+    ensures saves { let u = surroundings place.old in OnOk result (saves.new.items ≡ saves.old.items
+        ++ reverse (saves_of u.homes u.statics u.names u.held live.old.items out.now again.now (body_tree statements.now))) }
+    ensures live { let u = surroundings place.old in OnOk result (live.new.items
+        ≡ live_of u.homes u.statics u.names u.held live.old.items out.now again.now (body_tree statements.now)) }
+    ensures same { OnOk result (surroundings place.new ≡ holding place.new.held (naming (surroundings place.new).names (surroundings place.old))) }
     ensures homes { OnOk result (place.new.homes.items ≡ place.old.homes.items) }
 {
-    let count = function.temporaries as usize;
-    let mut saves = Vec::new(place.alloc);
-    let mut live = no_flags(place.alloc, count)?;
-    let none = no_flags(place.alloc, count)?;
-    live_statements(&mut saves, place, &mut live, &none, &none, &function.body)?;
-    place.begin_again(function, saves)?;
-    Ok(live)
+    let (first, second) = statements.split_at(statements.len() / 2);
+    let start = place.point()?;
+    pass(place, first)?;
+    live_statements(saves, place, live, out, again, second)?;
+    place.go_to(start);
+    live_statements(saves, place, live, out, again, first)?;
+    Ok(())
 }

@@ -3,6 +3,8 @@ use Rattle.std.proofs.Common.{
   ◌∙◌,
   ◌+◌,
   ◌<◌,
+  ◌≤◌,
+  ◌/◌,
   ◌++◌,
   ℕ,
   Bool,
@@ -28,6 +30,7 @@ use Rattle.std.proofs.lemmas.List.{append_assoc, reverse-append, length-map, map
 use Rattle.core_meaning.specs.Core.{Statement, Statements, If, While, Block, Leave}
 use Rattle.cyc_core.specs.Trees.{local_tree, body_tree, optional_tree, statement_tree, temporary_tree}
 use Rattle.cyc_core.specs.declared.operation.Temporary.{Temporary}
+use Rattle.cyc_core.specs.declared.statement.Statement as code
 use Rattle.core_lines.specs.Held.{held_behind_all}
 use Rattle.core_lines.specs.Loaded.{unknown_in, loads_of}
 use Rattle.core_lines.specs.Saved.{all_flagged, either_flagged, live_in, live_of, saves_in, saves_of}
@@ -37,6 +40,7 @@ use Rattle.rv32_select.specs.Starts.{Start, point_start, starting, starts_of}
 use Rattle.cyc_core.proofs.Forms.{block_tree, call_tree, do_tree, if_tree, leave_tree, while_tree}
 use Rattle.rv32_select.proofs.Sizes.{statement_size, statements_size}
 use Rattle.rv32_select.proofs.Backwards.{ends_alike, size_last, last_start, starts_last, starts_many, as_same, same_back, same_there, live_back, saves_back}
+use Rattle.rv32_select.proofs.Halves.{size_parts, size_some, halves_live, halves_saves}
 use Rattle.rv32_select.proofs.Raised.{check_saves}
 use Rattle.rv32_select.proofs.live.+live.Goals as goal
 
@@ -53,8 +57,8 @@ module _ {T E : Type 0} (result : Result T E) (old new kept left out loop : List
   judged_as : (s t : Statement) → t ≡ s → Judged s → Judged t
   judged_as s t is judged = subst Judged (sym is) judged
 
-pub live_statements-each-init : goal.live_statements-each-init
-live_statements-each-init n c =
+pub live_few-each-init : goal.live_few-each-init
+live_few-each-init n c =
     let u = surroundings c.args.place.now in
     let xs = c.args.statements.now in
     let points = c.in_ok-points.points.items in
@@ -83,8 +87,8 @@ live_block-returns-clause-same n c =
     as_same u (surroundings c.leave.new.self) [] inside.names
     (c.leave.ensures.place ls u inside.names inside.held (c.in_ok-live_statements.ensures.same ∙ within) c.in_ok-low.ensures.place.0)
 
-pub live_statements-live_statement-requires : goal.live_statements-live_statement-requires
-live_statements-live_statement-requires n c =
+pub live_few-live_statement-requires : goal.live_few-live_statement-requires
+live_few-live_statement-requires n c =
     let xs = c.args.statements.now in
     let left = c.pop.new.self.items in
     let k = length left in
@@ -99,8 +103,8 @@ live_statements-live_statement-requires n c =
     let fewer = c.each.invariant.size in
     omega (arith, size, fewer, c.decreases)
 
-pub live_statements-each-preserved : goal.live_statements-each-preserved
-live_statements-each-preserved n c =
+pub live_few-each-preserved : goal.live_few-each-preserved
+live_few-each-preserved n c =
     let u = surroundings c.args.place.now in
     let homes = c.args.place.now.homes.items in
     let xs = c.args.statements.now in
@@ -386,3 +390,58 @@ live_statement-returns-in-Call-clause-live t c =
     (subst (λ (ts : List Temporary). OnOk c.live_call.result (c.live_call.new.live.items
     ≡ all_flagged true (unknown_in u.held (map temporary_tree ts)) (all_flagged false (optional_tree x.results) a.live.now.items)))
     c.deref-in-Call.ensures.value c.live_call.ensures.live)
+
+-- both halves have statements, so that each is less than both
+halves_less : (xs ys all : List code.Statement) (mid : ℕ) → all ≡ xs ++ ys → length xs ≡ mid → length ys + mid ≡ length all → 2 ≤ length all
+    → mid ≡ length all / 2
+    → (statements_size (body_tree xs) + 1 ≤ statements_size (body_tree all)) × (statements_size (body_tree ys) + 1 ≤ statements_size (body_tree all))
+halves_less xs ys all mid is front back many half =
+    let parts = ap (λ ss. statements_size (body_tree ss)) is ∙ size_parts xs ys in
+    let first = size_some xs in
+    let second = size_some ys in
+    (omega (arith, parts, first, second, front, back, many, half), omega (arith, parts, first, second, front, back, many, half))
+
+pub live_halves-live_statements-requires : goal.live_halves-live_statements-requires
+live_halves-live_statements-requires n c =
+    let parts = c.split_at.ensures in
+    let less = halves_less c.split_at.result.0.now c.split_at.result.1.now c.args.statements.now _ parts.by_index.0 parts.front_len parts.back_len c.requires
+    (ap (λ k. k / 2) c.len.ensures) in
+    omega (arith, less.1, c.decreases)
+
+pub live_halves-live_statements-2-requires : goal.live_halves-live_statements-2-requires
+live_halves-live_statements-2-requires n c =
+    let parts = c.split_at.ensures in
+    let less = halves_less c.split_at.result.0.now c.split_at.result.1.now c.args.statements.now _ parts.by_index.0 parts.front_len parts.back_len c.requires
+    (ap (λ k. k / 2) c.len.ensures) in
+    omega (arith, less.0, c.decreases)
+
+pub live_halves-returns : goal.live_halves-returns
+live_halves-returns t c =
+    let a = c.args in
+    let u = surroundings a.place.now in
+    let parts = c.split_at.result in
+    let xs = parts.0.now in
+    let ys = parts.1.now in
+    let middle = c.in_ok-pass.ensures in
+    let later = c.in_ok-live_statements.ensures in
+    let done = c.in_ok-live_statements-2.ensures in
+    let second = surroundings c.pass.new.place in
+    let between = surroundings c.live_statements.new.place in
+    let first = surroundings c.go_to.new.self in
+    let last = surroundings c.live_statements-2.new.place in
+    let start = point_start c.live_statements.new.place.homes.items c.in_ok-start.start in
+    let homes = later.homes ∙ middle.homes in
+    let between_at = later.same ∙ ap (λ (v : Surroundings). holding between.held (naming between.names v)) middle.same in
+    let at_first = same_there u between first start.held start.names between_at c.go_to.ensures.place
+    ∙ ap (λ (s : Start). starting s u) (ap (λ hs. point_start hs c.in_ok-start.start) homes ∙ c.in_ok-start.ensures) in
+    let is = c.split_at.ensures.by_index.0 in
+    record {
+      saves =
+          halves_saves u first second a.out.now a.again.now xs ys a.statements.now at_first middle.same is a.live.now.items c.live_statements.new.live.items
+          a.saves.now.items c.live_statements.new.saves.items c.live_statements-2.new.saves.items later.live later.saves done.saves;
+      live =
+          halves_live u first second a.out.now a.again.now xs ys a.statements.now at_first middle.same is a.live.now.items c.live_statements.new.live.items
+          c.live_statements-2.new.live.items later.live done.live;
+      same = done.same ∙ ap (λ (v : Surroundings). holding last.held (naming last.names v)) at_first;
+      homes = done.homes ∙ c.go_to.ensures.homes ∙ homes;
+    }

@@ -8,44 +8,50 @@ use Rattle.rv32_select.proofs.Sizes.{statement_size, statements_size}
 use Rattle.rv32_select.proofs.live.+live.Given as goal
 
 abbrev pub decreases-live_statement : goal.decreases-live_statement
-decreases-live_statement l = 3 * statement_size (statement_tree l.statement.now)
+decreases-live_statement l = 4 * statement_size (statement_tree l.statement.now)
 
 abbrev pub decreases-live_statements : goal.decreases-live_statements
-decreases-live_statements l = 3 * statements_size (body_tree l.statements.now)
+decreases-live_statements l = 4 * statements_size (body_tree l.statements.now) + 1
+
+abbrev pub decreases-live_few : goal.decreases-live_few
+decreases-live_few l = 4 * statements_size (body_tree l.statements.now)
+
+abbrev pub decreases-live_halves : goal.decreases-live_halves
+decreases-live_halves l = 4 * statements_size (body_tree l.statements.now)
 
 abbrev pub decreases-live_if : goal.decreases-live_if
-decreases-live_if l = 3 * (statements_size (body_tree l.these.now) + statements_size (body_tree l.those.now)) + 4
+decreases-live_if l = 4 * (statements_size (body_tree l.these.now) + statements_size (body_tree l.those.now)) + 5
 
 abbrev pub decreases-live_ways : goal.decreases-live_ways
-decreases-live_ways l = 3 * (statements_size (body_tree l.these.now) + statements_size (body_tree l.those.now)) + 3
+decreases-live_ways l = 4 * (statements_size (body_tree l.these.now) + statements_size (body_tree l.those.now)) + 4
 
 abbrev pub decreases-live_both : goal.decreases-live_both
-decreases-live_both l = 3 * (statements_size (body_tree l.these.now) + statements_size (body_tree l.those.now)) + 2
+decreases-live_both l = 4 * (statements_size (body_tree l.these.now) + statements_size (body_tree l.those.now)) + 3
 
 abbrev pub decreases-live_check : goal.decreases-live_check
-decreases-live_check l = 3 * (statements_size (body_tree l.these.now) + statements_size (body_tree l.those.now)) + 2
+decreases-live_check l = 4 * (statements_size (body_tree l.these.now) + statements_size (body_tree l.those.now)) + 3
 
 abbrev pub decreases-live_while : goal.decreases-live_while
-decreases-live_while l = 3 * (statements_size (body_tree l.test.now) + statements_size (body_tree l.body.now)) + 3
+decreases-live_while l = 4 * (statements_size (body_tree l.test.now) + statements_size (body_tree l.body.now)) + 4
 
 abbrev pub decreases-live_body : goal.decreases-live_body
-decreases-live_body l = 3 * (statements_size (body_tree l.test.now) + statements_size (body_tree l.body.now)) + 2
+decreases-live_body l = 4 * (statements_size (body_tree l.test.now) + statements_size (body_tree l.body.now)) + 3
 
 abbrev pub decreases-live_before : goal.decreases-live_before
-decreases-live_before l = 3 * statements_size (body_tree l.statements.now) + 1
+decreases-live_before l = 4 * statements_size (body_tree l.statements.now) + 2
 
 abbrev pub decreases-live_block : goal.decreases-live_block
-decreases-live_block l = 3 * statements_size (body_tree l.body.now) + 1
+decreases-live_block l = 4 * statements_size (body_tree l.body.now) + 2
 
 abbrev pub decreases-live_leavable : goal.decreases-live_leavable
-decreases-live_leavable l = 3 * statements_size (body_tree l.body.now) + 1
+decreases-live_leavable l = 4 * statements_size (body_tree l.body.now) + 2
 
-abbrev pub decreases-live_statements-each : goal.decreases-live_statements-each
-decreases-live_statements-each l = length l.points.items
+abbrev pub decreases-live_few-each : goal.decreases-live_few-each
+decreases-live_few-each l = length l.points.items
 
 -- what the statements that are left make of what is loaded so far, and add to what is saved, is what all of them do
-abbrev pub invariant-live_statements-each : goal.invariant-live_statements-each
-invariant-live_statements-each l = record {
+abbrev pub invariant-live_few-each : goal.invariant-live_few-each
+invariant-live_few-each l = record {
   points : map (point_start l.fn.place.homes.items) l.points.items ≡
       starts_of (surroundings l.fn.place).homes (surroundings l.fn.place).statics (surroundings l.fn.place).names (surroundings l.fn.place).held
       (body_tree (take (length l.points.items) l.statements));

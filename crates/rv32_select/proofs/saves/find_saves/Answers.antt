@@ -7,7 +7,7 @@ use Rattle.core_lines.specs.Parameters.{parameter_register}
 use Rattle.core_lines.specs.Saved.{live_of, saves_of, taken_in}
 use Rattle.core_lines.specs.Selected.{Surroundings, holding, naming}
 use Rattle.rv32_select.specs.Places.{surroundings}
-use Rattle.rv32_select.proofs.live.find_saves.Goals as goal
+use Rattle.rv32_select.proofs.saves.find_saves.Goals as goal
 
 pub returns-clause-place : goal.returns-clause-place
 returns-clause-place c =

@@ -1,0 +1,50 @@
+// What is loaded where ways meet: behind a choice, and where a loop begins.
+
+ghost use Rattle.std.specs.Prelude.{◌≡◌, true, IfOk, OnOk, option_map, option_to_list};
+ghost use Rattle.core_meaning.specs.Core as core;
+ghost use Rattle.core_lines.specs.Saved.{all_flagged, at_loop, either_flagged};
+ghost use Rattle.core_lines.specs.Selected.{holding, naming};
+ghost use Rattle.cyc_core.specs.Trees.{temporary_tree, body_tree};
+ghost use Rattle.rv32_select.specs.Places.{surroundings};
+
+use crate::flags::either;
+use crate::loads::{flag_some, flag_while};
+use crate::place::Place;
+use cyc_core::{Statement, Temporary};
+use std::alloc::{AllocError, Global};
+
+/// What is loaded where one way or another goes on, and a temporary, if there is one.
+pub fn joined(
+    alloc: Global,
+    first: &[bool],
+    second: Vec<bool>,
+    tested: Option<Temporary>,
+) -> Result<Vec<bool>, AllocError>
+    ensures { IfOk result (λ both. both.items
+        ≡ all_flagged true (option_to_list (option_map temporary_tree tested)) (either_flagged first.now second.items)) }
+{
+    let mut both = either(alloc, first, &second)?;
+    flag_some(&mut both, tested);
+    Ok(both)
+}
+
+/// What is loaded from the start of a loop on: all that it loads, and what is loaded where it is left. The place goes on behind the loop.
+pub fn loop_head(
+    place: &mut Place,
+    after: &[bool],
+    out: &[bool],
+    again: &[bool],
+    test: &[Statement],
+    flag: Temporary,
+    body: &[Statement],
+) -> Result<Vec<bool>, AllocError>
+    ensures head { let u = surroundings place.old in IfOk result (λ head. head.items ≡ at_loop u.homes u.statics u.names
+        after.now out.now again.now (core.While (body_tree test.now) flag.0 (body_tree body.now))) }
+    ensures same { OnOk result (surroundings place.new ≡ holding place.new.held (naming (surroundings place.new).names (surroundings place.old))) }
+    ensures homes { OnOk result (place.new.homes.items ≡ place.old.homes.items) }
+{
+    let ways = either(place.alloc, out, again)?;
+    let mut head = joined(place.alloc, after, ways, None)?;
+    flag_while(&mut head, place, test, flag, body)?;
+    Ok(head)
+}

@@ -80,6 +80,7 @@ pub enum Command<'a> {
         fuel: u64,
         shows_ending: bool,
         shows_why: bool,
+        shows_where: bool,
     },
     /// Runs an image, for at most so many instructions.
     Exec {

@@ -104,7 +104,14 @@ const ALL: Choice = Choice {
     takes: Takes::Nothing,
 };
 
-/// Whether it is told where a run stopped.
+/// Whether it is told where a run by the meaning stopped.
+const STOP: Choice = Choice {
+    name: "where",
+    help: "Says where the run stopped, and in which calls",
+    takes: Takes::Nothing,
+};
+
+/// Whether it is told where the run of an image stopped.
 const WHERE: Choice = Choice {
     name: "where",
     help: "Says where the run stopped, and in which calls; the run is several times slower",
@@ -157,7 +164,7 @@ pub const COMMANDS: [Words; 7] = [
         name: "eval",
         about: "Runs a source by its meaning",
         below: SOURCE_FAULTS,
-        choices: &[SOURCE, FUEL, ENDING, WHY],
+        choices: &[SOURCE, FUEL, ENDING, WHY, STOP],
     },
     Words {
         name: "exec",

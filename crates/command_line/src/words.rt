@@ -107,6 +107,7 @@ fn bounded<'a>(name: &str, input: &'a str, matches: &ArgMatches<'a>) -> Option<C
             fuel: steps,
             shows_ending,
             shows_why,
+            shows_where: matches.get_flag("where"),
         }),
         "exec" => Some(Command::Exec {
             input,

@@ -13,7 +13,7 @@ use crate::memory::Memory;
 use crate::object::blank_objects;
 use crate::pending::{Due, Now, Pending};
 use crate::value::Value;
-use cyc_core::{Function, Local, Program, Words};
+use cyc_core::{Function, Local, Origin, Program, Words};
 use std::alloc::{AllocError, Global};
 use std::mem;
 
@@ -49,6 +49,7 @@ pub fn enter_call<'p>(
     let begun = Frame {
         temps: arguments,
         base: memory.blocks.len(),
+        at: Origin(0),
     };
     let saved = mem::replace(frame, begun);
     wait(stack, Pending::Caller(to, function, saved))?;

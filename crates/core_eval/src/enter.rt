@@ -216,7 +216,8 @@ pub fn enter_statement<'p>(
         Statement::Leave(body) => enter_breakable(body, stack),
         Statement::Break => Ok(Due::Go(Now::Leave(Flow::Breaks))),
         Statement::Continue => Ok(Due::Go(Now::Leave(Flow::Continues))),
-        Statement::Call(result, function, arguments, _) => {
+        Statement::Call(result, function, arguments, origin) => {
+            frame.at = *origin;
             let values = arguments_of(alloc, frame, &mut memory.spare, arguments)?;
             Ok(Due::Call(*result, *function, values))
         }
@@ -224,7 +225,10 @@ pub fn enter_statement<'p>(
             let values = returned(frame, *words)?;
             leave_function(values, stack, frame, memory)
         }
-        Statement::Raise(kind, _) => Ok(Due::Raised(*kind)),
+        Statement::Raise(kind, origin) => {
+            frame.at = *origin;
+            Ok(Due::Raised(*kind))
+        }
     }
 }
 

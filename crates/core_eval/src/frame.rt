@@ -6,7 +6,7 @@ ghost use Rattle.core_meaning.specs.Steps.{set_temp};
 ghost use Rattle.core_eval.specs.Values.{content_of, temp_of};
 
 use crate::value::Value;
-use cyc_core::Temporary;
+use cyc_core::{Origin, Temporary};
 use std::alloc::{AllocError, Global};
 
 /// A function's activation.
@@ -16,6 +16,8 @@ pub struct Frame {
     pub temps: Vec<Value>,
     /// How many blocks there are outside of the function.
     pub base: usize,
+    /// The phrase of the text at which it stands: its last call or raise. No promise rests on it.
+    pub at: Origin,
 }
 
 impl Frame {
@@ -27,6 +29,7 @@ impl Frame {
         Frame {
             temps: Vec::new(alloc),
             base: 0,
+            at: Origin(0),
         }
     }
 

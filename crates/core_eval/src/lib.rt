@@ -2,8 +2,9 @@
 //!
 //! `evaluate_core` moves from one statement to the next, and keeps what is still to be done on a stack of its own, callers among
 //! it, so that no program drives the host's stack deeper, however deep its calls and statements are. Its promise is `IsEvaluated`
-//! of specs/Evaluated: what is written is the output of the program's run, and the ending is that run's. Stands on `cyc_core`,
-//! `cyc_host` and `cyc_words`, and on the definitions of `core_meaning` and `step_trees`.
+//! of specs/Evaluated: what is written is the output of the program's run, and the ending is that run's. A `Stop` says where in its
+//! text the run stopped, and in which calls; no clause speaks of that. Stands on `cyc_core`, `cyc_host` and `cyc_words`, and on the
+//! definitions of `core_meaning` and `step_trees`.
 #![tactic(auto)]
 
 mod arithmetic;
@@ -24,6 +25,7 @@ mod region;
 mod request;
 mod running;
 mod spare;
+mod stop;
 mod take;
 mod value;
 mod whole;
@@ -31,3 +33,4 @@ mod words;
 
 pub use ending::EvalEnding;
 pub use running::evaluate_core;
+pub use stop::{ActiveCall, Stop};

@@ -21,6 +21,7 @@ use crate::frame::Frame;
 use crate::memory::Memory;
 use crate::operation::give;
 use crate::pending::{Due, Now, Pending};
+use crate::stop::{Stop, stop_of};
 use crate::take::take_flow;
 use crate::value::Value;
 use cyc_core::{Function, Program, Statement, Temporary};
@@ -215,13 +216,14 @@ fn pay_unit<'p, R: Input, W: Output>(
 /// was left, store or return a pointer as a count, an index or a tag, copy or clear a tagged union as what is none or
 /// what is none as a tagged union, or reach a byte behind the first part of a cell. After a failed call neither device
 /// is called again. Output is written when 4,096 bytes are gathered, before each read and at each ending. Each byte that
-/// is taken from the reader was asked for.
+/// is taken from the reader was asked for. `stop` gets where the run stopped, unless the host has no memory for it.
 pub fn evaluate_core<R: Input, W: Output>(
     alloc: Global,
     program: &Program,
     reader: &mut R,
     writer: &mut W,
     fuel: u64,
+    stop: &mut Option<Stop>,
 ) -> EvalEnding
     // what is written is the output of the program's run on the bytes that the reader gave, and the ending is that run's
     ensures evaluated { IsEvaluated result (program_tree program.now) fuel
@@ -258,7 +260,10 @@ pub fn evaluate_core<R: Input, W: Output>(
             left,
         ) {
             Ok(next) => due = next,
-            Err(ending) => return ending,
+            Err(ending) => {
+                *stop = stop_of(alloc, program.main, &stack, &frame).ok();
+                return ending;
+            }
         }
         left -= 1;
     }

@@ -5,7 +5,7 @@ ghost use Rattle.core_eval.specs.Evaluated.{reads_failed, writes_failed};
 ghost use Rattle.cyc_meaning.specs.Evaluated.{IsEvaluated};
 
 use accepted_programs::Checked;
-use core_eval::{EvalEnding, evaluate_core};
+use core_eval::{EvalEnding, Stop, evaluate_core};
 use cyc_words::{Input, Output};
 use lower_checks::lower;
 use std::alloc::Global;
@@ -16,13 +16,15 @@ use std::alloc::Global;
 /// left. `WriteFault` comes in place of any other ending, where a write failed or took no byte; `ReadFault` where a read
 /// failed; `HostMemory` where the host has no memory for what is still to be done. After a failed call neither device is
 /// called again. Output is written when 4,096 bytes are gathered, before each read and at each ending. Each byte that is
-/// taken from the reader was asked for. It is never `Stuck`.
+/// taken from the reader was asked for. It is never `Stuck`. `stop` gets where the run stopped, unless the host has no
+/// memory for it.
 pub fn eval<R: Input, W: Output>(
     alloc: Global,
     checked: &Checked,
     reader: &mut R,
     writer: &mut W,
     fuel: u64,
+    stop: &mut Option<Stop>,
 ) -> EvalEnding
     // what is written is the output of the source's run on the bytes that the reader gave, and the ending is that run's
     ensures evaluated { IsEvaluated result checked.now fuel
@@ -36,7 +38,7 @@ pub fn eval<R: Input, W: Output>(
     // a checked program is an accepted one
     checked.program();
     match lower(alloc, checked) {
-        Ok(core) => evaluate_core(alloc, &core, reader, writer, fuel),
+        Ok(core) => evaluate_core(alloc, &core, reader, writer, fuel, stop),
         Err(_) => EvalEnding::HostMemory,
     }
 }

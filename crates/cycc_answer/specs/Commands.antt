@@ -11,7 +11,7 @@ abbrev pub longest : Command → ℕ
 longest (command.Check input shows_why shows_all) = text_limit
 longest (command.Compile input output map pages stack_pages shows_why) = text_limit
 longest (command.Run input pages stack_pages steps shows_ending shows_why shows_where shows_stats) = text_limit
-longest (command.Eval input fuel shows_ending shows_why) = text_limit
+longest (command.Eval input fuel shows_ending shows_why shows_where) = text_limit
 longest (command.Exec input steps shows_ending shows_where shows_stats) = header_length + code_limit + data_limit
 longest (command.Dump input) = header_length + code_limit + data_limit
 longest (command.Explain text) = 0
@@ -24,7 +24,7 @@ IsAnswered (command.Compile input output map pages stack_pages shows_why) file r
     IsCompiled file pages stack_pages bytes status
 IsAnswered (command.Run input pages stack_pages steps shows_ending shows_why shows_where shows_stats) file reader_old reader_new writer_old writer_new bytes status =
     (bytes ≡ None) × IsRun file pages stack_pages steps reader_old reader_new writer_old writer_new status
-IsAnswered (command.Eval input fuel shows_ending shows_why) file reader_old reader_new writer_old writer_new bytes status =
+IsAnswered (command.Eval input fuel shows_ending shows_why shows_where) file reader_old reader_new writer_old writer_new bytes status =
     (bytes ≡ None) × IsEval file fuel reader_old reader_new writer_old writer_new status
 IsAnswered (command.Exec input steps shows_ending shows_where shows_stats) file reader_old reader_new writer_old writer_new bytes status =
     (bytes ≡ None) × IsExec file steps reader_old reader_new writer_old writer_new status

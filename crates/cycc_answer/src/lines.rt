@@ -72,10 +72,12 @@ impl<'a> Told<'a> {
             Command::Eval {
                 shows_ending,
                 shows_why,
+                shows_where,
                 ..
             } => Told {
                 shows_ending,
                 shows_why,
+                shows_where,
                 ..little
             },
             Command::Exec {

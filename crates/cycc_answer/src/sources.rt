@@ -5,8 +5,9 @@ ghost use Rattle.std.specs.Option.{option_map};
 ghost use Rattle.cycc_answer.specs.Answers.{IsChecked, IsCompiled, IsRun, IsEval};
 ghost use Rattle.cycc_answer.specs.Devices.{AreCounted};
 
-use crate::lines::{Told, ended, evaluated, printed};
+use crate::lines::{Told, ended, printed};
 use crate::result::Answer;
+use crate::watching::told_of_evaluation;
 use crate::why::refused_in;
 use command_line::Pages;
 use command_line::status::SUCCESS;
@@ -104,7 +105,7 @@ pub fn ran<R: Input, W: Output, E: Write>(
     }
 }
 
-/// Runs a source by its meaning between a reader and a writer, and answers the status.
+/// Runs a source by its meaning between a reader and a writer, says what is asked for of the run, and answers the status.
 pub fn interpreted<R: Input, W: Output, E: Write>(
     alloc: Global,
     told: Told<'_>,
@@ -122,8 +123,9 @@ pub fn interpreted<R: Input, W: Output, E: Write>(
     ensures devices { IfOk result (λ status. AreCounted status
         (R.fault_count reader.old) (R.fault_count reader.new) (W.fault_count writer.old) (W.fault_count writer.new)) }
 {
-    match evaluate(alloc, file, reader, writer, fuel) {
-        Ok(ending) => evaluated(alloc, ending, told.shows_ending, faults),
+    let mut stop = None;
+    match evaluate(alloc, file, reader, writer, fuel, &mut stop) {
+        Ok(ending) => told_of_evaluation(alloc, told, file, ending, stop.as_ref(), faults),
         Err(fault) => refused_in(alloc, told, file, fault, faults),
     }
 }

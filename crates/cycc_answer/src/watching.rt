@@ -3,10 +3,11 @@
 ghost use Rattle.std.specs.Prelude.{◌≡◌, ◌≤◌, IfOk};
 ghost use Rattle.cycc_answer.specs.Answers.{IsRun};
 ghost use Rattle.cycc_answer.specs.Devices.{AreCounted};
-ghost use Rattle.cycc_answer.specs.Statuses.{status_of};
+ghost use Rattle.cycc_answer.specs.Statuses.{evaluated_status, status_of};
 
-use crate::lines::{Told, ended, say};
+use crate::lines::{Told, ended, evaluated, say};
 use crate::why::refused_in;
+use core_eval::{EvalEnding, Stop};
 use cyc_host::{Ending, Watch};
 use cyc_words::{Input, Output};
 use cycc_driver::{Limits, execute_watched};
@@ -16,7 +17,7 @@ use rv32_machine::{
 };
 use std::alloc::{AllocError, Global};
 use std::io::Write;
-use traces::{image_trace, trace};
+use traces::{eval_trace, image_trace, trace};
 
 /// The requests that are counted, by their numbers and names.
 const REQUESTS: [(u32, &str); 11] = [
@@ -104,16 +105,9 @@ fn shown_of(
     Ok(shown)
 }
 
-/// Says what is asked for of a run behind its ending, or that no host memory is left for it.
-fn show<E: Write>(
-    alloc: Global,
-    told: Told<'_>,
-    ran: Ran<'_>,
-    ending: Ending,
-    watch: &Watch,
-    faults: &mut E,
-) {
-    match shown_of(alloc, told, ran, ending, watch) {
+/// Says the lines that are asked for of a run behind its ending, or that no host memory is left for them.
+fn show<E: Write>(lines: Result<String, AllocError>, faults: &mut E) {
+    match lines {
         Ok(shown) => {
             let _ = faults.write_all(shown.as_bytes());
         }
@@ -133,7 +127,25 @@ pub fn told_of<E: Write>(
     ensures { IfOk result (λ status. status ≡ status_of ending) }
 {
     let status = ended(alloc, ending, ran.address(), told.shows_ending, faults)?;
-    show(alloc, told, ran, ending, watch, faults);
+    show(shown_of(alloc, told, ran, ending, watch), faults);
+    Ok(status)
+}
+
+/// Says how a run of a text by its meaning ended, and where it stopped if that is asked for, and answers the status.
+pub fn told_of_evaluation<E: Write>(
+    alloc: Global,
+    told: Told<'_>,
+    text: &[u8],
+    ending: EvalEnding,
+    stop: Option<&Stop>,
+    faults: &mut E,
+) -> Result<u8, AllocError>
+    ensures { IfOk result (λ status. status ≡ evaluated_status ending) }
+{
+    let status = evaluated(alloc, ending, told.shows_ending, faults)?;
+    if told.shows_where {
+        show(eval_trace(alloc, told.input, text, ending, stop), faults);
+    }
     Ok(status)
 }
 

@@ -8,20 +8,22 @@ ghost use Rattle.cycc_driver.specs.Evaluated.{IsTextEvaluated};
 
 use crate::compiling::front;
 use crate::fault::CompileFault;
-use core_eval::EvalEnding;
+use core_eval::{EvalEnding, Stop};
 use cyc_meaning::eval;
 use cyc_words::{Input, Output};
 use std::alloc::Global;
 
 /// Runs a text by the meaning of its source, with so many units of fuel: a turn of a loop takes one, and a call.
 ///
-/// Refuses what `check` refuses, before anything is read or written. Otherwise answers how the run ended.
+/// Refuses what `check` refuses, before anything is read or written. Otherwise answers how the run ended, and `stop` gets where, unless the
+/// host has no memory for it.
 pub fn evaluate<R: Input, W: Output>(
     alloc: Global,
     text: &[u8],
     reader: &mut R,
     writer: &mut W,
     fuel: u64,
+    stop: &mut Option<Stop>,
 ) -> Result<EvalEnding, CompileFault>
     // what is written is the output of a program's run on the bytes that the reader gave, and the ending is that run's
     ensures run { IfOk result (λ ending. IsTextEvaluated text.now fuel ending
@@ -39,5 +41,5 @@ pub fn evaluate<R: Input, W: Output>(
         Ok(checked) => checked,
         Err(fault) => return Err(fault),
     };
-    Ok(eval(alloc, &checked, reader, writer, fuel))
+    Ok(eval(alloc, &checked, reader, writer, fuel, stop))
 }

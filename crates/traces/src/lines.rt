@@ -2,13 +2,12 @@
 
 use crate::points::Sight;
 use crate::program::{Active, Traced};
+use crate::text::name_of;
+use crate::told::{SHOWN_CALLS, called_at, in_function, limited, push_count, raised_at};
 use cyc_host::{Ending, Watch};
 use cyc_words::Kind;
 use rv32_machine::{KEY_NEW, REGION_ALLOC, REGION_NEW, STACK_REFUSED, UNIQUE_ALLOC};
 use std::alloc::{AllocError, Global};
-
-/// How many active calls are shown where there are more.
-const SHOWN_CALLS: usize = 64;
 
 /// A text that was run, and the names of its functions.
 #[derive(Clone, Copy)]
@@ -20,7 +19,7 @@ struct Source<'a> {
 impl<'a> Source<'a> {
     /// The name of a function.
     fn name(self, function: usize) -> &'a str {
-        self.names.get(function).copied().unwrap_or("")
+        name_of(self.names, function)
     }
 }
 
@@ -63,8 +62,7 @@ fn inside_of(alloc: Global, run: Run<'_>) -> Result<String, AllocError> {
     let Some(active) = run.innermost(source) else {
         return Ok(String::new(alloc));
     };
-    let function = source.name(active.function);
-    format!(in alloc; " in {function}")
+    in_function(alloc, source.name(active.function))
 }
 
 /// The request that had no space.
@@ -91,9 +89,7 @@ fn raised(alloc: Global, run: Run<'_>, kind: Kind) -> Result<String, AllocError>
     let Some(place) = source.traced.raise(pc) else {
         return Ok(String::new(alloc));
     };
-    let line = place.line;
-    let column = place.column;
-    format!(in alloc; "{input}:{line}:{column}: {kind}\n")
+    raised_at(alloc, input, place, kind)
 }
 
 /// The first line: where a raise is, what had no space, or where the steps ended. Of another ending there is none.
@@ -105,7 +101,7 @@ fn stop_of(alloc: Global, run: Run<'_>, ending: Ending) -> Result<String, AllocE
     let inside = inside.as_str();
     match ending {
         Ending::Exhausted => exhausted(alloc, run.watch, inside),
-        Ending::StepLimit => format!(in alloc; "step limit{inside}\n"),
+        Ending::StepLimit => limited(alloc, inside),
         _ => Ok(String::new(alloc)),
     }
 }
@@ -123,10 +119,7 @@ fn call_in(
     let Some(place) = active.call else {
         return Ok(String::new(alloc));
     };
-    let line = place.line;
-    let column = place.column;
-    let function = source.name(active.function);
-    format!(in alloc; "{input}:{line}:{column}: call of {function}\n")
+    called_at(alloc, input, place, source.name(active.function))
 }
 
 /// The line of an active call, with its position, or with its address and the one that it calls.
@@ -141,15 +134,6 @@ fn call_of(alloc: Global, run: Run<'_>, address: u32) -> Result<String, AllocErr
         }
         _ => Ok(String::new(alloc)),
     }
-}
-
-/// Appends how many calls aren't shown, if there are any.
-fn push_count(alloc: Global, lines: &mut String, count: u64) -> Result<(), AllocError> {
-    if count == 0 {
-        return Ok(());
-    }
-    let line = format!(in alloc; ".. {count} calls\n")?;
-    lines.push_str(line.as_str())
 }
 
 /// Appends the lines of the active calls, the innermost first.

@@ -2,6 +2,7 @@
 
 use crate::points::{Point, Sight};
 use crate::program::Traced;
+use crate::text::name_of;
 use std::alloc::{AllocError, Global};
 
 /// The last address of the function whose test is at this number of the points.
@@ -37,7 +38,7 @@ fn call_line(
         return Ok(String::new(alloc));
     };
     let (address, line, column) = (point.address, place.line, place.column);
-    let function = names.get(call.function).copied().unwrap_or("");
+    let function = name_of(names, call.function);
     format!(in alloc; "call {address:08x} {line}:{column} {function}\n")
 }
 
@@ -51,7 +52,7 @@ fn line_of(
 ) -> Result<String, AllocError> {
     match point.sight {
         Sight::Test(frame) => {
-            let function = names.get(point.number).copied().unwrap_or("");
+            let function = name_of(names, point.number);
             let first = point.start();
             let last = last_of(traced, number);
             format!(in alloc; "function {first:08x} {last:08x} frame {frame} {function}\n")

@@ -1,11 +1,9 @@
 // A text with where its raises and calls are in it and in its code.
 
 use crate::points::{Counts, Point, Points, Sight};
-use crate::positions::Positions;
 use crate::sites::{Call, Raise, Sites};
-use accepted_programs::Checked;
-use cyc_tree::Item;
-use cycc_driver::{CompileFault, Place, front};
+use crate::text::Text;
+use cycc_driver::Place;
 use lower_checks::lower;
 use std::alloc::{AllocError, Global};
 
@@ -19,10 +17,9 @@ pub struct Active {
 /// An accepted text with the positions of its raises and calls.
 #[derive(Drop)]
 pub struct Traced {
-    checked: Checked,
+    text: Text,
     main: usize,
     functions: usize,
-    positions: Positions,
     sites: Sites,
     points: Points,
 }
@@ -30,12 +27,10 @@ pub struct Traced {
 impl Traced {
     /// A text with its code. None where the text isn't accepted, or the code has other numbers of functions, raises or calls than the program.
     pub fn of(alloc: Global, text: &[u8], code: &[u8]) -> Result<Option<Traced>, AllocError> {
-        let checked = match front(alloc, text) {
-            Ok(checked) => checked,
-            Err(CompileFault::Memory) => return Err(AllocError),
-            Err(_) => return Ok(None),
+        let Some(text) = Text::of(alloc, text)? else {
+            return Ok(None);
         };
-        let core = lower(alloc, &checked)?;
+        let core = lower(alloc, text.checked())?;
         let points = Points::of(alloc, code)?;
         let raising = points.raising(alloc)?;
         let sites = Sites::of(alloc, &core, &raising)?;
@@ -43,10 +38,9 @@ impl Traced {
         let traced = Traced {
             main: core.main,
             functions: core.functions.len(),
-            positions: Positions::of(alloc, text)?,
             sites,
             points,
-            checked,
+            text,
         };
         Ok(if same && traced.agrees() {
             Some(traced)
@@ -77,13 +71,13 @@ impl Traced {
     /// The raise with this number.
     pub fn site_of_raise(&self, number: usize) -> Option<(Raise, Place)> {
         let raise = self.sites.raises.get(number)?;
-        Some((*raise, self.positions.place(raise.origin)))
+        Some((*raise, self.text.place(raise.origin)))
     }
 
     /// The call with this number, where 0 is the one of `main`, which the text doesn't have.
     pub fn site_of_call(&self, number: usize) -> Option<(Call, Place)> {
         let call = self.sites.calls.get(number.checked_sub(1)?)?;
-        Some((*call, self.positions.place(call.origin)))
+        Some((*call, self.text.place(call.origin)))
     }
 
     /// Where the raise at an address of the code stands.
@@ -117,12 +111,6 @@ impl Traced {
 
     /// The names of the functions, by their numbers.
     pub fn names(&self, alloc: Global) -> Result<Vec<&str>, AllocError> {
-        let mut names = Vec::new(alloc);
-        for item in self.checked.program().items() {
-            if let Item::Function(declared) = item {
-                names.push(std::str::from_utf8(&declared.name.text).unwrap_or(""))?;
-            }
-        }
-        Ok(names)
+        self.text.names(alloc)
     }
 }

@@ -33,7 +33,7 @@ fn ending_of(
 ) -> Option<EvalEnding> {
     let mut reader = Counted::new(Script::new(0, input));
     let mut writer = Counted::new(Tape::new(output));
-    let ending = evaluate_core(alloc, program, &mut reader, &mut writer, fuel);
+    let ending = evaluate_core(alloc, program, &mut reader, &mut writer, fuel, &mut None);
     if reader.faults() == 0 && writer.faults() == 0 && writer.get_ref().is_whole() {
         Some(ending)
     } else {

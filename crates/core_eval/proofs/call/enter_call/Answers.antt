@@ -39,7 +39,7 @@ returns c =
     (ap (λ b. Go (Follow (body_tree b))) c.deref-2.ensures.value)
     (c.in_ok-wait.ensures ∙ ap (λ f. Caller (optional_tree c.args.to) c.args.function (saved_of f) ∷ ws) c.replace-saved.ensures.value)
     (ap (λ f. known_of f m') c.replace-saved.ensures.after
-    ∙ called_known f m m' (record { temps = c.args.arguments; base = c.len-2.result }) c.in-Some.callee.now.own.items outside
+    ∙ called_known f m m' (record { temps = c.args.arguments; base = c.len-2.result; at = record { 0 = 0 } }) c.in-Some.callee.now.own.items outside
     c.in_ok-enter_call.ensures.blocks c.in_ok-enter_call.ensures.entered
     (c.in_ok-enter_call.ensures.owns
     ∙ ap (λ os. record { number = m.called; objects = os } ∷ map activation_of m.owns.items)

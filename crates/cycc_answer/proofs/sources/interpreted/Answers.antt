@@ -7,11 +7,11 @@ use Rattle.cycc_answer.proofs.sources.interpreted.Goals as goal
 
 pub returns-in-Ok-clause-evaluated : goal.returns-in-Ok-clause-evaluated
 returns-in-Ok-clause-evaluated g c =
-    IfOk-weaker c.evaluated.result (λ (status : ℕ). status ≡ evaluated_status c.in-Ok.ending)
+    IfOk-weaker c.told_of_evaluation.result (λ (status : ℕ). status ≡ evaluated_status c.in-Ok.ending)
     (IsEval c.args.file.now c.args.fuel (g.R.Read.remaining c.args.reader.now) (g.R.Read.remaining c.evaluate.new.reader)
     (g.W.Write.contents c.args.writer.now) (g.W.Write.contents c.evaluate.new.writer))
-    (λ status shown. inl (record { why = c.in-Ok.ending; evaluated = c.in-Ok.ensures.run; shown = shown })) c.evaluated.ensures
+    (λ status shown. inl (record { why = c.in-Ok.ending; evaluated = c.in-Ok.ensures.run; shown = shown })) c.told_of_evaluation.ensures
 
 pub returns-in-Ok-clause-devices : goal.returns-in-Ok-clause-devices
 returns-in-Ok-clause-devices g c =
-    of_evaluation c.evaluated.result _ _ _ _ c.in-Ok.ending c.evaluated.ensures c.in-Ok.ensures.reads c.in-Ok.ensures.writes
+    of_evaluation c.told_of_evaluation.result _ _ _ _ c.in-Ok.ending c.told_of_evaluation.ensures c.in-Ok.ensures.reads c.in-Ok.ensures.writes

@@ -1,0 +1,80 @@
+// The lines that say where a run by the meaning of a source stopped.
+
+use crate::text::{Text, name_of};
+use crate::told::{SHOWN_CALLS, called_at, in_function, limited, push_count, raised_at};
+use core_eval::{ActiveCall, EvalEnding, Stop};
+use std::alloc::{AllocError, Global};
+
+/// A text that was run: the path of its file, and the names of its functions.
+#[derive(Clone, Copy)]
+struct Source<'a> {
+    input: &'a str,
+    text: &'a Text,
+    names: &'a [&'a str],
+}
+
+impl Source<'_> {
+    /// The line of an active call.
+    fn call(self, alloc: Global, call: ActiveCall) -> Result<String, AllocError> {
+        let place = self.text.place(call.origin);
+        called_at(alloc, self.input, place, name_of(self.names, call.function))
+    }
+
+    /// The first line: where a raise is, or in which function the fuel was used up. Of another ending there is none.
+    fn stop(self, alloc: Global, ending: EvalEnding, stop: &Stop) -> Result<String, AllocError> {
+        match ending {
+            EvalEnding::Raised(kind) => {
+                raised_at(alloc, self.input, self.text.place(stop.at), kind)
+            }
+            EvalEnding::Running => {
+                let inside = in_function(alloc, name_of(self.names, stop.function))?;
+                limited(alloc, inside.as_str())
+            }
+            _ => Ok(String::new(alloc)),
+        }
+    }
+}
+
+/// Appends the lines of the active calls, the innermost first.
+fn push_calls(
+    alloc: Global,
+    source: Source<'_>,
+    calls: &[ActiveCall],
+    lines: &mut String,
+) -> Result<(), AllocError> {
+    for call in calls.iter().take(SHOWN_CALLS) {
+        let line = source.call(alloc, *call)?;
+        lines.push_str(line.as_str())?;
+    }
+    let more = calls.len().saturating_sub(SHOWN_CALLS);
+    push_count(alloc, lines, more as u64)
+}
+
+/// The lines that say where the run of an accepted text by its meaning stopped, as `trace` has them: the position of what raised, or in which
+/// function the fuel was used up; and behind it the active calls. Of another ending nothing. Fails also where `stop` wasn't kept.
+pub fn eval_trace(
+    alloc: Global,
+    input: &str,
+    text: &[u8],
+    ending: EvalEnding,
+    stop: Option<&Stop>,
+) -> Result<String, AllocError> {
+    if !matches!(ending, EvalEnding::Raised(_) | EvalEnding::Running) {
+        return Ok(String::new(alloc));
+    }
+    let Some(stop) = stop else {
+        return Err(AllocError);
+    };
+    let Some(text) = Text::of(alloc, text)? else {
+        return Ok(String::new(alloc));
+    };
+    let names = text.names(alloc)?;
+    let source = Source {
+        input,
+        text: &text,
+        names: &names,
+    };
+    let mut lines = source.stop(alloc, ending, stop)?;
+    push_calls(alloc, source, &stop.calls, &mut lines)?;
+    Ok(lines)
+}

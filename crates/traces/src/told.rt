@@ -1,0 +1,51 @@
+// The lines that say where a run of a text stopped, by positions and names.
+
+use cyc_words::Kind;
+use cycc_driver::Place;
+use std::alloc::{AllocError, Global};
+
+/// How many active calls are shown where there are more.
+pub const SHOWN_CALLS: usize = 64;
+
+/// The line of a raise.
+pub fn raised_at(
+    alloc: Global,
+    input: &str,
+    place: Place,
+    kind: Kind,
+) -> Result<String, AllocError> {
+    let line = place.line;
+    let column = place.column;
+    format!(in alloc; "{input}:{line}:{column}: {kind}\n")
+}
+
+/// The line of a call of a function.
+pub fn called_at(
+    alloc: Global,
+    input: &str,
+    place: Place,
+    function: &str,
+) -> Result<String, AllocError> {
+    let line = place.line;
+    let column = place.column;
+    format!(in alloc; "{input}:{line}:{column}: call of {function}\n")
+}
+
+/// Says in which function a run stopped, behind what is said of it.
+pub fn in_function(alloc: Global, function: &str) -> Result<String, AllocError> {
+    format!(in alloc; " in {function}")
+}
+
+/// The line of a run whose steps are used up.
+pub fn limited(alloc: Global, inside: &str) -> Result<String, AllocError> {
+    format!(in alloc; "step limit{inside}\n")
+}
+
+/// Appends how many calls aren't shown, if there are any.
+pub fn push_count(alloc: Global, lines: &mut String, count: u64) -> Result<(), AllocError> {
+    if count == 0 {
+        return Ok(());
+    }
+    let line = format!(in alloc; ".. {count} calls\n")?;
+    lines.push_str(line.as_str())
+}

@@ -1,7 +1,7 @@
 // Comparisons of a register's word with a number.
 
 ghost use Rattle.std.specs.Prelude.{◌≡◌, ◌++◌, ◌&&◌, nat_eq, option_map, OnOk};
-ghost use Rattle.core_lines.specs.Held.{source_of, register_in, some_number, numbered_by, number_comparison_of, with_judged};
+ghost use Rattle.core_lines.specs.Held.{source_of, some_number, numbered_by, number_comparison_of, with_judged};
 ghost use Rattle.core_lines.specs.Numbered.{has_room, short_on};
 ghost use Rattle.core_lines.specs.Comparisons.{verdict_code};
 ghost use Rattle.core_lines.specs.Operands.{number_code, numbered_code};
@@ -35,36 +35,36 @@ fn some_number(source: Option<Source>) -> Option<u64>
     }
 }
 
-/// One word of a comparison: the register that has it, and the number other than 0 that it is.
-#[derive(Clone, Copy)]
-struct Side {
-    register: Keeper,
-    number: Option<u64>,
-}
-
-/// The comparison of two words of which a register has one and the other is a number.
-fn numbered_by(condition: Condition, left: Side, right: Side) -> Option<NumberComparison>
-    ensures { result ≡ numbered_by condition (keeper_tree left.register) left.number (keeper_tree right.register) right.number }
+/// The comparison of two words, by the registers that have them and the numbers that they are, if a register has one of them and the other
+/// is a number.
+fn numbered_by(
+    condition: Condition,
+    left: Keeper,
+    first: Option<u64>,
+    right: Keeper,
+    second: Option<u64>,
+) -> Option<NumberComparison>
+    ensures { result ≡ numbered_by condition (keeper_tree left) first (keeper_tree right) second }
 {
-    match left.register {
-        Keeper::In(register) => match right.number {
+    match left {
+        Keeper::In(left) => match second {
             Some(number) => Some(NumberComparison {
                 comparison: Comparison {
                     condition,
-                    left: register,
+                    left,
                     right: ADDRESS,
                 },
                 number,
             }),
             None => None,
         },
-        Keeper::Nowhere => match left.number {
-            Some(number) => match right.register {
-                Keeper::In(register) => Some(NumberComparison {
+        Keeper::Nowhere => match first {
+            Some(number) => match right {
+                Keeper::In(right) => Some(NumberComparison {
                     comparison: Comparison {
                         condition,
                         left: ADDRESS,
-                        right: register,
+                        right,
                     },
                     number,
                 }),
@@ -76,17 +76,6 @@ fn numbered_by(condition: Condition, left: Side, right: Side) -> Option<NumberCo
 }
 
 impl Known {
-    /// What is known of a temporary's word that is compared.
-    fn side(&self, temporary: Temporary) -> Side
-        ensures register { keeper_tree result.register ≡ register_in (source_of self.now temporary.0) }
-        ensures number { result.number ≡ some_number (source_of self.now temporary.0) }
-    {
-        Side {
-            register: self.keeper(temporary),
-            number: some_number(self.source(temporary)),
-        }
-    }
-
     /// The comparison that an operation on two temporaries is, if a register has one's word and the other's is a number that isn't 0.
     pub fn number_comparison(
         &self,
@@ -96,14 +85,16 @@ impl Known {
     ) -> Option<NumberComparison>
         ensures { result ≡ number_comparison_of (binary_tree operation) (source_of self.now left.0) (source_of self.now right.0) }
     {
-        let (first, second) = (self.side(left), self.side(right));
+        let (left_in, right_in) = (self.keeper(left), self.keeper(right));
+        let first = some_number(self.source(left));
+        let second = some_number(self.source(right));
         match operation {
-            Binary::Equal => numbered_by(Condition::Equal, first, second),
-            Binary::NotEqual => numbered_by(Condition::NotEqual, first, second),
-            Binary::Less => numbered_by(Condition::Less, first, second),
-            Binary::LessEqual => numbered_by(Condition::NotLess, second, first),
-            Binary::LessUnsigned => numbered_by(Condition::LessUnsigned, first, second),
-            Binary::LessEqualUnsigned => numbered_by(Condition::NotLessUnsigned, second, first),
+            Binary::Equal => numbered_by(Condition::Equal, left_in, first, right_in, second),
+            Binary::NotEqual => numbered_by(Condition::NotEqual, left_in, first, right_in, second),
+            Binary::Less => numbered_by(Condition::Less, left_in, first, right_in, second),
+            Binary::LessEqual => numbered_by(Condition::NotLess, right_in, second, left_in, first),
+            Binary::LessUnsigned => numbered_by(Condition::LessUnsigned, left_in, first, right_in, second),
+            Binary::LessEqualUnsigned => numbered_by(Condition::NotLessUnsigned, right_in, second, left_in, first),
             _ => None,
         }
     }

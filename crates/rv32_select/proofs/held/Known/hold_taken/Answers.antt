@@ -1,4 +1,4 @@
-use Rattle.std.proofs.Common.{◌-◌, ◌+◌, ap, ◌∙◌}
+use Rattle.std.proofs.Common.{◌-◌, ◌+◌, false, ap, ◌∙◌}
 use Rattle.cyc_core.specs.Trees.{body_tree}
 use Rattle.core_lines.specs.Held.{with_taken, with_put}
 use Rattle.core_lines.specs.Parameters.{parameter_register}

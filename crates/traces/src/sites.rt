@@ -87,13 +87,15 @@ impl Sites {
         if let (Some(one), Some(other)) = (one, other) {
             if one.is(first.kind) && other.is(second.kind) && other.is_behind(*one) {
                 self.raises.push(first)?;
-                return self.raises.push(second);
+                self.raises.push(second)?;
+                return Ok(());
             }
         }
         match one {
-            Some(one) if one.is(second.kind) => self.raises.push(second),
-            _ => self.raises.push(first),
+            Some(one) if one.is(second.kind) => self.raises.push(second)?,
+            _ => self.raises.push(first)?,
         }
+        Ok(())
     }
 
     /// Appends those of a choice, and says whether it can complete.

@@ -408,8 +408,8 @@ live_halves-live_statements-requires n c =
     (ap (λ k. k / 2) c.len.ensures) in
     omega (arith, less.1, c.decreases)
 
-pub live_halves-live_statements-2-requires : goal.live_halves-live_statements-2-requires
-live_halves-live_statements-2-requires n c =
+pub live_halves-live_statements-requires-2 : goal.live_halves-live_statements-requires-2
+live_halves-live_statements-requires-2 n c =
     let parts = c.split_at.ensures in
     let less = halves_less c.split_at.result.0.now c.split_at.result.1.now c.args.statements.now _ parts.by_index.0 parts.front_len parts.back_len c.requires
     (ap (λ k. k / 2) c.len.ensures) in

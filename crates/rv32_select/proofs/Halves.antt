@@ -11,7 +11,7 @@ use Rattle.rv32_select.proofs.Sizes.{statement_size, statements_size}
 
 pub size_parts : (xs ys : List Statement)
     → statements_size (body_tree (xs ++ ys)) ≡ statements_size (body_tree xs) + statements_size (body_tree ys)
-size_parts [] ys = refl
+size_parts [] ys = omega arith
 size_parts (x ∷ xs) ys = let rest = size_parts xs ys in omega (arith, rest)
 
 pub size_some : (xs : List Statement) → length xs ≤ statements_size (body_tree xs)

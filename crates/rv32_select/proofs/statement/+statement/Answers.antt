@@ -287,9 +287,9 @@ put_statement-returns t c =
     let s = statement_tree a.statement.now in
     let done = λ (form : Statement) (is : s ≡ form) (code : m.lines.items ≡ a.lines.now.items
     ++ statement_code (saves_left a.place.now) u a.next a.ways.out a.ways.again form) (free : a.next ≡ a.next + labels_in form)
-    (same : holding c.forget.new.self (surroundings m.place) ≡ holding (held_behind u.homes u.statics u.held form) (naming (names_after form u.names) u))
-    (saves : saves_left m.place ≡ drop (results_in form) (saves_left a.place.now)).
-    done_as a.lines.now.items m.lines.items (saves_left a.place.now) (saves_left m.place) u (holding c.forget.new.self (surroundings m.place)) a.next
+    (same : holding c.forget.new.self u ≡ holding (held_behind u.homes u.statics u.held form) (naming (names_after form u.names) u))
+    (saves : saves_left a.place.now ≡ drop (results_in form) (saves_left a.place.now)).
+    done_as a.lines.now.items m.lines.items (saves_left a.place.now) (saves_left a.place.now) u (holding c.forget.new.self u) a.next
     a.ways.out a.ways.again form s is
     record {
       code = code;
@@ -297,7 +297,7 @@ put_statement-returns t c =
       same = same;
       saves = saves;
     } in
-    let same = λ (is : surroundings m.place ≡ u). ending u (surroundings m.place) c.forget.new.self is c.forget.ensures in
+    let same = ending u u c.forget.new.self refl c.forget.ensures in
     let free = none_more a.next in
     let items = λ (ls : Vec Line Global). ls.items in
     elim m.branch [
@@ -307,26 +307,26 @@ put_statement-returns t c =
           (ap statement_tree (x.is ∙ sym (form.rolls-Copy x.to x.from x.layout))
           ∙ fold-roll-Statement Statement statement_step (Statement-F.Copy x.to x.from x.layout)
           ∙ ap (λ l. Do (core.Copy x.to.0 x.from.0 (layout_tree l))) (sym w.as_ref.ensures))
-          (ap items w.lines-is ∙ w.in_ok-put_copy-in-Copy.ensures) free (same (ap surroundings w.place-is)) (ap saves_left w.place-is)
+          (ap items w.lines-is ∙ w.in_ok-put_copy-in-Copy.ensures) free same refl
       | put_statement-in-Clear+in_ok-put_clear-in-Clear w ↦
           let x = w.in-Clear in
           done (Do (core.Clear x.pointer.0 (layout_tree w.as_ref-in-Clear.result.now) x.count))
           (ap statement_tree (x.is ∙ sym (form.rolls-Clear x.pointer x.layout x.count))
           ∙ fold-roll-Statement Statement statement_step (Statement-F.Clear x.pointer x.layout x.count)
           ∙ ap (λ l. Do (core.Clear x.pointer.0 (layout_tree l) x.count)) (sym w.as_ref-in-Clear.ensures))
-          (ap items w.lines-is ∙ w.in_ok-put_clear-in-Clear.ensures) free (same (ap surroundings w.place-is)) (ap saves_left w.place-is)
+          (ap items w.lines-is ∙ w.in_ok-put_clear-in-Clear.ensures) free same refl
       | put_statement-in-Break+in_ok-put_lines-in-Break w ↦
           done Break (ap statement_tree (w.in-Break.is ∙ sym form.rolls-Break) ∙ fold-roll-Statement Statement statement_step Statement-F.Break)
-          (ap items w.lines-is ∙ w.in_ok-put_lines-in-Break.ensures) free (same (ap surroundings w.place-is)) (ap saves_left w.place-is)
+          (ap items w.lines-is ∙ w.in_ok-put_lines-in-Break.ensures) free same refl
       | put_statement-in-Continue+in_ok-put_lines-in-Continue w ↦
           done Continue
           (ap statement_tree (w.in-Continue.is ∙ sym form.rolls-Continue) ∙ fold-roll-Statement Statement statement_step Statement-F.Continue)
-          (ap items w.lines-is ∙ w.in_ok-put_lines-in-Continue.ensures) free (same (ap surroundings w.place-is)) (ap saves_left w.place-is)
+          (ap items w.lines-is ∙ w.in_ok-put_lines-in-Continue.ensures) free same refl
       | put_statement-in-Raise+in_ok-put_raise-in-Raise w ↦
           let x = w.in-Raise in
           done (Raise x.kind)
           (ap statement_tree (x.is ∙ sym (form.rolls-Raise x.kind _)) ∙ fold-roll-Statement Statement statement_step (Statement-F.Raise x.kind _))
-          (ap items w.lines-is ∙ w.in_ok-put_raise-in-Raise.ensures) free (same (ap surroundings w.place-is)) (ap saves_left w.place-is)
+          (ap items w.lines-is ∙ w.in_ok-put_raise-in-Raise.ensures) free same refl
     ]
 
 -- ---- statements

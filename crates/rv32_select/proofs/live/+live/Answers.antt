@@ -24,6 +24,7 @@ use Rattle.std.proofs.Common.{
   take,
   subst,
   sym,
+  refl,
 }
 use Rattle.std.specs.Prelude.{OnOk, Result}
 use Rattle.std.proofs.lemmas.List.{append_assoc, reverse-append, length-map, map-append, length_push, take_all, take_more}
@@ -405,14 +406,14 @@ pub live_halves-live_statements-requires : goal.live_halves-live_statements-requ
 live_halves-live_statements-requires n c =
     let parts = c.split_at.ensures in
     let less = halves_less c.split_at.result.0.now c.split_at.result.1.now c.args.statements.now _ parts.by_index.0 parts.front_len parts.back_len c.requires
-    (ap (λ k. k / 2) c.len.ensures) in
+    refl in
     omega (arith, less.1, c.decreases)
 
 pub live_halves-live_statements-requires-2 : goal.live_halves-live_statements-requires-2
 live_halves-live_statements-requires-2 n c =
     let parts = c.split_at.ensures in
     let less = halves_less c.split_at.result.0.now c.split_at.result.1.now c.args.statements.now _ parts.by_index.0 parts.front_len parts.back_len c.requires
-    (ap (λ k. k / 2) c.len.ensures) in
+    refl in
     omega (arith, less.0, c.decreases)
 
 pub live_halves-returns : goal.live_halves-returns

@@ -1,4 +1,4 @@
-use Rattle.std.proofs.Common.{◌≡◌, ◌∙◌, ◌+◌, ◌++◌, ℕ, Bool, true, false, List, [], ◌∷◌, arith, rules, sym, ap, ap₂, subst, drop, map, reverse}
+use Rattle.std.proofs.Common.{◌≡◌, ◌∙◌, ◌+◌, ◌++◌, ℕ, Bool, true, false, List, [], ◌∷◌, arith, rules, refl, sym, ap, ap₂, subst, drop, map, reverse}
 use Rattle.std.specs.Prelude.{IfOk, OnOk, Result, take, nat_eq, not, ◌&&◌, if◌then◌else◌}
 use Rattle.std.specs.declared.alloc.AllocError.{AllocError}
 use Rattle.std.specs.declared.alloc.Global.{Global}

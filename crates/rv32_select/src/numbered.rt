@@ -93,8 +93,20 @@ impl Known {
             Binary::NotEqual => numbered_by(Condition::NotEqual, left_in, first, right_in, second),
             Binary::Less => numbered_by(Condition::Less, left_in, first, right_in, second),
             Binary::LessEqual => numbered_by(Condition::NotLess, right_in, second, left_in, first),
-            Binary::LessUnsigned => numbered_by(Condition::LessUnsigned, left_in, first, right_in, second),
-            Binary::LessEqualUnsigned => numbered_by(Condition::NotLessUnsigned, right_in, second, left_in, first),
+            Binary::LessUnsigned => numbered_by(
+                Condition::LessUnsigned,
+                left_in,
+                first,
+                right_in,
+                second,
+            ),
+            Binary::LessEqualUnsigned => numbered_by(
+                Condition::NotLessUnsigned,
+                right_in,
+                second,
+                left_in,
+                first,
+            ),
             _ => None,
         }
     }

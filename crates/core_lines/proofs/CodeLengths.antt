@@ -1,14 +1,12 @@
 -- How long lines are: those of numbers and of comparisons.
-use Rattle.std.specs.Prelude.{nat_eq, ◌&&◌, if◌then◌else◌}
-use Rattle.std.proofs.Common.{ℕ, zero, suc, ◌+◌, ◌%◌, ◌^◌, ◌≤◌, Bool, true, false, List, [], ◌++◌, arith}
+use Rattle.std.specs.Prelude.{nat_eq, ◌&&◌}
+use Rattle.std.proofs.Common.{ℕ, zero, suc, ◌%◌, ◌^◌, arith}
 use Rattle.core_lines.specs.declared.comparison.Condition.{Condition}
 use Rattle.core_lines.specs.declared.comparison.Condition.TheVariants as condition
 use Rattle.core_lines.specs.declared.comparison.Comparison.{Comparison}
 use Rattle.core_lines.specs.declared.comparison.NumberComparison.{NumberComparison}
-use Rattle.core_lines.specs.declared.line.Line.{Line}
 use Rattle.core_lines.specs.Comparisons.{verdict_on, verdict_code}
 use Rattle.core_lines.specs.Frames.{is_short, word_code}
-use Rattle.core_lines.specs.Lines.{code_length}
 use Rattle.core_lines.specs.Numbered.{has_room, short_on}
 use Rattle.core_lines.specs.Operands.{number_code, numbered_code}
 use Rattle.core_lines.proofs.Within.{IsWithin, both_within, less_within, if_within}

@@ -41,7 +41,8 @@ use Rattle.core_lines.specs.declared.line.Line.TheVariants.{Plain, Label, CallTo
 use Rattle.core_lines.specs.Machines.{Machine}
 use Rattle.core_lines.specs.Lines.{code_length}
 use Rattle.core_lines.specs.Frames.{stack_start_code, refusal_code}
-use Rattle.core_lines.specs.Selected.{frame_bytes, too_many, slots_of, own_end, placed_body, datum_locals, function_code, functions_code, program_code, labels_within}
+use Rattle.core_lines.specs.Selected.{frame_bytes, too_many, slots_of, own_end, placed_body, datum_locals, function_code, functions_code, program_code}
+use Rattle.core_lines.specs.Selected.{labels_within}
 use Rattle.core_meaning.specs.Selectable.{AreLayouts, HaveLayouts, IsSelectable}
 use Rattle.core_lines.specs.Running.{AreBounded, Begins, DoesAsCore, data_offsets, data_end}
 use Rattle.core_lines.proofs.memory.Relations.{World, IsInOrder, Has}

@@ -1,32 +1,6 @@
 -- What the code of `putchar` and `getchar` does: each shows its event, and pays a unit.
-use Rattle.std.proofs.Common.{
-  ◌≡◌,
-  ℕ,
-  zero,
-  suc,
-  pos,
-  ◌+◌,
-  ◌%◌,
-  ◌^◌,
-  ◌<◌,
-  ◌≤◌,
-  inl,
-  Bool,
-  true,
-  List,
-  [],
-  ◌∷◌,
-  ◌++◌,
-  Option,
-  Some,
-  None,
-  refl,
-  sym,
-  ap,
-  subst,
-  ◌∙◌,
-  arith,
-}
+use Rattle.std.proofs.Common.{◌≡◌, ℕ, zero, suc, pos, ◌+◌, ◌%◌, ◌^◌, ◌<◌, ◌≤◌, inl, Bool, List, [], ◌∷◌, ◌++◌, Option, Some, None, refl, sym, ap, subst, ◌∙◌}
+use Rattle.std.proofs.Common.{arith}
 use Rattle.cyc_words.specs.Events.{AreBytes, ByteRead, ByteWritten}
 use Rattle.cyc_words.specs.Words.{word, sum_of}
 use Rattle.arena_laws.specs.Lawful.{Answer}

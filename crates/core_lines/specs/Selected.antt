@@ -13,7 +13,8 @@ use Rattle.core_lines.specs.declared.line.Line.TheVariants.{Plain, Label, Jump, 
 use Rattle.core_lines.specs.Frames.{word_code, stack_start_code, refusal_code, epilogue_code, environment_code, raise_code}
 use Rattle.core_lines.specs.Loops.{are_words, copy_loop, clear_loop}
 use Rattle.core_lines.specs.Homes.{homes_in, saved_slot, saved_by, flag_at}
-pub use Rattle.core_lines.specs.Held.{nth, nth_block, Source, Register, Number, Compared, ComparedWith, Holding, held_behind, held_behind_all, source_of, number_in}
+pub use Rattle.core_lines.specs.Held.{nth, nth_block, Source, Register, Number, Compared, ComparedWith, Holding, held_behind, held_behind_all, source_of}
+pub use Rattle.core_lines.specs.Held.{number_in}
 pub use Rattle.core_lines.specs.Held.{result_register, same_as, comparison_of, number_comparison_of, null_source}
 use Rattle.core_lines.specs.Operands.{into_code, keep_code, stored_in, stored_code}
 use Rattle.core_lines.specs.Operands.{number_kept, move_kept, call_code, return_code, prologue_code}
@@ -28,7 +29,8 @@ pub use Rattle.core_lines.specs.LocalPlaces.{names_after_all, shrunk_in, shrunk_
 pub use Rattle.core_lines.specs.LocalPlaces.{frame_bytes, datum_local, datum_locals}
 pub use Rattle.core_lines.specs.Computed.{Surroundings, local_offset, local_home, from_temp, to_temp, far_code, read_line, read_code, write_line, write_code}
 pub use Rattle.core_lines.specs.Computed.{inverted, binary_code, short_code, shift_code, turned, difference_code, immediate_code, immediate_for, address_code}
-pub use Rattle.core_lines.specs.Computed.{further_code, operand, has_operand, both_code, apply_code, keep_result, computed_kept, applied_kept, get_code, byte_code, put_code}
+pub use Rattle.core_lines.specs.Computed.{further_code, operand, has_operand, both_code, apply_code, keep_result, computed_kept, applied_kept, get_code}
+pub use Rattle.core_lines.specs.Computed.{byte_code, put_code}
 pub use Rattle.core_lines.specs.Computed.{judged_kept, exponent_of, times_code, element_code, narrow_kept, null_kept}
 
 -- ---- whole objects

@@ -1,5 +1,5 @@
 -- Checks of what is known to be a number.
-use Rattle.std.proofs.Common.{◌≡◌, ℕ, zero, suc, ◌<◌, List, [], ◌++◌, Some, refl, sym, ◌∙◌, arith}
+use Rattle.std.proofs.Common.{◌≡◌, ℕ, zero, suc, List, ◌++◌, Some, refl, sym, ◌∙◌, arith}
 use Rattle.std.proofs.lemmas.List.{append-nil}
 use Rattle.cyc_words.specs.declared.faults.Kind.{Kind}
 use Rattle.core_lines.specs.declared.line.Line.{Line}

@@ -7,7 +7,7 @@ use Rattle.core_lines.specs.Held.{Holding, held_behind, held_behind_all}
 use Rattle.core_lines.specs.LocalPlaces.{names_after, names_after_all}
 use Rattle.core_lines.specs.Saved.{live_in, live_of, saves_in, saves_of}
 use Rattle.core_lines.specs.Selected.{Surroundings, holding, naming}
-use Rattle.rv32_select.proofs.Sizes.{statement_size, statements_size}
+use Rattle.rv32_select.proofs.Sizes.{statements_size}
 
 pub size_parts : (xs ys : List Statement)
     → statements_size (body_tree (xs ++ ys)) ≡ statements_size (body_tree xs) + statements_size (body_tree ys)

@@ -1,6 +1,6 @@
 -- What is known of temporaries, as the code's list has it.
 use Rattle.std.specs.Prelude.{filter, not, nat_eq, if◌then◌else◌}
-use Rattle.std.proofs.Common.{◌≡◌, ℕ, zero, suc, ◌+◌, ◌-◌, ◌<◌, Bool, true, false, List, [], ◌∷◌, ◌%◌, Option, Some, None, map, refl, sym, ap, ◌∙◌, arith}
+use Rattle.std.proofs.Common.{◌≡◌, ℕ, zero, suc, ◌<◌, Bool, true, false, List, [], ◌∷◌, ◌%◌, Option, Some, None, map, refl, ap, ◌∙◌, arith}
 use Rattle.std.proofs.lemmas.Bool.{ne_eqb}
 use Rattle.core_lines.specs.Held as lines
 use Rattle.core_lines.specs.Held.{source_of, some_source, is_in, without_register, without_temporary}

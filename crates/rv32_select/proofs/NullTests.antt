@@ -1,5 +1,5 @@
 -- What is known of whether a word is 0, as NULL is.
-use Rattle.std.proofs.Common.{◌≡◌, ℕ, zero, suc, ◌<◌, List, Option, Some, None, refl, ap, ◌∙◌, arith}
+use Rattle.std.proofs.Common.{◌≡◌, ℕ, zero, suc, List, Option, Some, None, refl, ap, ◌∙◌, arith}
 use Rattle.core_lines.specs.Held.{Source, Number, Holding, with_source, with_result, with_moved, null_source}
 
 pub null_zero : (w : ℕ) (s : Option Source) → Some (Number w) ≡ s → w ≡ 0 → Some (Number 1) ≡ null_source s

@@ -1,6 +1,6 @@
 -- The register of a parameter, by the statement that puts it into a local.
 use Rattle.std.specs.Prelude.{slice_index_or}
-use Rattle.std.proofs.Common.{◌≡◌, ℕ, zero, suc, ◌+◌, ◌-◌, ◌<◌, ◌≤◌, false, List, [], ◌∷◌, length, map, refl, sym, ap, ◌∙◌, arith}
+use Rattle.std.proofs.Common.{◌≡◌, ℕ, zero, suc, ◌+◌, ◌-◌, ◌<◌, ◌≤◌, false, List, [], ◌∷◌, length, refl, sym, ap, ◌∙◌, arith}
 use Rattle.core_meaning.specs.Core.{Statements}
 use Rattle.core_lines.specs.Held as lines
 use Rattle.core_lines.specs.Held.{nth, nth_block, result_register, with_taken, with_put}

@@ -56,7 +56,8 @@ use Rattle.core_lines.proofs.homes.Homes.{kept_stays, set_stays}
 use Rattle.core_lines.proofs.memory.Access.{Saved, behind, length_of_both, written_out, loads, saves, stands_behind}
 use Rattle.core_lines.proofs.frames.Passing.{has_first, has_second, frame_on, temp_lies}
 use Rattle.core_lines.proofs.operations.NumberVerdicts.{puts_numbered}
-use Rattle.core_lines.proofs.operations.Holding.{InRegister, numbered_verdict, numbered_few, AreThere, IsServed, spare_apart, source_not_zero, there_found, there_kept}
+use Rattle.core_lines.proofs.operations.Holding.{InRegister, numbered_verdict, numbered_few, AreThere, IsServed, spare_apart, source_not_zero, there_found}
+use Rattle.core_lines.proofs.operations.Holding.{there_kept}
 use Rattle.core_lines.proofs.operations.Holding.{served_first, served_others}
 
 -- the slots of the innermost frame have the first of them

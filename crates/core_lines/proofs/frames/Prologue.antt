@@ -1,6 +1,7 @@
 -- A function's first lines: the stack is refused where the frame doesn't fit, or x2 goes down by it.
 use Rattle.std.specs.Prelude.{slice_get, if◌then◌else◌}
-use Rattle.std.proofs.Common.{◌≡◌, ℕ, pos, ◌+◌, ◌-◌, ◌%◌, ◌^◌, ◌<◌, ◌≤◌, true, false, not, nat_lt, nat_le, Bool, List, [], ◌∷◌, ◌++◌, Some, refl, sym, ap, ◌∙◌, subst, arith}
+use Rattle.std.proofs.Common.{◌≡◌, ℕ, pos, ◌+◌, ◌-◌, ◌%◌, ◌^◌, ◌<◌, ◌≤◌, true, false, not, nat_lt, nat_le, Bool, List, [], ◌∷◌, ◌++◌, Some, refl, sym, ap}
+use Rattle.std.proofs.Common.{◌∙◌, subst, arith}
 use Rattle.std.proofs.lemmas.Bool.{le-leb, lt-ltb, le-ltb, ltb-true, and_from}
 use Rattle.cyc_words.specs.Words.{word, sum_of}
 use Rattle.rv32_isa.specs.declared.instruction.Instr.TheVariants.{Jal, Add, Bgeu, Addi, Ecall}

@@ -28,11 +28,13 @@ use Rattle.core_lines.specs.Operands.{numbered_code, verdict_kept, numbered_kept
 use Rattle.core_lines.specs.Operands.{pass_code, result_code, call_code, values_code, return_code, take_code, prologue_code}
 use Rattle.core_lines.specs.Selected.{Surroundings, local_offset, local_home, nth, from_temp, far_code, read_line, read_code, write_line, write_code}
 use Rattle.core_lines.specs.Selected.{binary_code, turned, immediate_code, immediate_for, address_code, further_code}
-use Rattle.core_lines.specs.Selected.{operand, has_operand, both_code, apply_code, keep_result, computed_kept, judged_kept, applied_kept, get_code, byte_code, put_code}
+use Rattle.core_lines.specs.Selected.{operand, has_operand, both_code, apply_code, keep_result, computed_kept, judged_kept, applied_kept, get_code, byte_code}
+use Rattle.core_lines.specs.Selected.{put_code}
 use Rattle.core_lines.specs.Straight.{straight_operation, straight_code}
 use Rattle.core_meaning.specs.Core.{Statement, Do}
 use Rattle.core_lines.specs.Selected.{null_source, null_kept}
-use Rattle.core_lines.specs.Selected.{number_in, narrow_kept, exponent_of, times_code, element_code, copy_code, clear_code, bytes_in, bytes_code, operation_code}
+use Rattle.core_lines.specs.Selected.{number_in, narrow_kept, exponent_of, times_code, element_code, copy_code, clear_code, bytes_in, bytes_code}
+use Rattle.core_lines.specs.Selected.{operation_code}
 use Rattle.core_lines.specs.Selected.{argument_code, keep_answer}
 pub use Rattle.core_lines.proofs.labels.BareNumbers.{number_bare, numbered_bare}
 pub use Rattle.core_lines.proofs.labels.BareLines.{are_bare, bare_places, bare_targets, two, three, four, either, one, verdict_bare}

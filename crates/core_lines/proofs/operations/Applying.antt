@@ -76,7 +76,9 @@ use Rattle.core_lines.specs.Selected.{Surroundings, immediate_for, apply_code, a
 use Rattle.core_lines.proofs.memory.Relations.{World, IsInOrder, Has, Waiting, Follows, keeping}
 use Rattle.core_lines.proofs.memory.Moving.{Comes}
 use Rattle.core_lines.proofs.operations.Judging.{verdict_into, numbered_into}
-use Rattle.core_lines.proofs.operations.Registers.{reads, IsSteady, numbered_verdict, read_beside, spare_apart, source_not_zero, having, AtWith, AtHolding, with_there, InRegister, IsThere, AreThere, IsServed, there_found, there_without, result_stays, Alone, result_into}
+use Rattle.core_lines.proofs.operations.Registers.{reads, IsSteady, numbered_verdict, read_beside, spare_apart, source_not_zero, having, AtWith, AtHolding}
+use Rattle.core_lines.proofs.operations.Registers.{with_there, InRegister, IsThere, AreThere, IsServed, there_found, there_without, result_stays, Alone}
+use Rattle.core_lines.proofs.operations.Registers.{result_into}
 use Rattle.core_lines.proofs.operations.Operations.{never, word_few, move}
 use Rattle.core_lines.proofs.operations.Computing.{Operands}
 use Rattle.core_lines.proofs.operations.Computing as computing

@@ -17,7 +17,8 @@ use Rattle.core_lines.proofs.memory.Relations.{World, IsInOrder, Has, Waiting, F
 use Rattle.core_lines.proofs.memory.Slots.{Kept}
 use Rattle.core_lines.proofs.memory.Moving.{Comes, comes_then, comes_as}
 use Rattle.core_lines.proofs.frames.Passing.{has_first, has_second}
-use Rattle.core_lines.proofs.operations.Registers.{having, is_so, verdict, truth_few, numbered_verdict, numbered_few, not_in_spare, InRegister, IsThere, AreThere}
+use Rattle.core_lines.proofs.operations.Registers.{having, is_so, verdict, truth_few, numbered_verdict, numbered_few, not_in_spare, InRegister, IsThere}
+use Rattle.core_lines.proofs.operations.Registers.{AreThere}
 use Rattle.core_lines.proofs.operations.Registers.{AtWith, AtHolding, with_there, in_turn, saves_new, puts_verdict, puts_numbered, there_kept, there_source}
 use Rattle.core_lines.proofs.operations.Registers.{unkept_there}
 

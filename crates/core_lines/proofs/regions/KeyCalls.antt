@@ -1,5 +1,5 @@
 -- What the code of the operations on keys does: a key is asked for, opened, closed and freed.
-use Rattle.std.proofs.Common.{◌≡◌, ℕ, ◌+◌, ◌<◌, ◌⊎◌, inl, inr, ⊎_elim, Bool, true, List, [], ◌∷◌, ◌++◌, Some, refl, sym, ap, ◌∙◌, arith}
+use Rattle.std.proofs.Common.{◌≡◌, ℕ, ◌+◌, ◌<◌, ◌⊎◌, inl, inr, ⊎_elim, Bool, List, [], ◌∷◌, ◌++◌, Some, refl, sym, ap, ◌∙◌, arith}
 use Rattle.cyc_words.specs.Events as events
 use Rattle.arena_laws.specs.declared.refusal.StoreRefusal.TheVariants.{Full, Memory as NoMemory}
 use Rattle.arena_laws.specs.declared.standing.Standing.{Standing as Tag}

@@ -34,7 +34,8 @@ use Rattle.arena_laws.specs.declared.refusal.StoreRefusal.TheVariants.{Full, Not
 use Rattle.arena_laws.specs.Asked.{UniqueAlloc, UniqueFree}
 use Rattle.arena_laws.specs.Counts.{is_too_long_alone, class_of}
 use Rattle.arena_laws.specs.Holdings.{Holdings}
-use Rattle.arena_laws.specs.Lawful.{Answer, Grants, Refuses, Lacks, Done, refuses, is_lawful_room, with_alone, gives_alone, unique_alloc, without_alone, frees_alone}
+use Rattle.arena_laws.specs.Lawful.{Answer, Grants, Refuses, Lacks, Done, refuses, is_lawful_room, with_alone, gives_alone, unique_alloc, without_alone}
+use Rattle.arena_laws.specs.Lawful.{frees_alone}
 use Rattle.step_trees.specs.Trees.{Says}
 use Rattle.core_meaning.specs.Memory.{Born, Single, Dead, Spot, Pointer, Part, Memory, with_standing, with_object}
 use Rattle.core_meaning.specs.Operations.{born}

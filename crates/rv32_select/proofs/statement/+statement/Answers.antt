@@ -1,6 +1,5 @@
-use Rattle.std.proofs.Common.{◌≡◌, ◌∙◌, ◌+◌, ◌++◌, ℕ, Bool, true, false, List, [], ◌∷◌, arith, rules, refl, sym, ap, ap₂, subst, drop, map, reverse}
-use Rattle.std.specs.Prelude.{IfOk, OnOk, Result, take, nat_eq, not, ◌&&◌, if◌then◌else◌}
-use Rattle.std.specs.declared.alloc.AllocError.{AllocError}
+use Rattle.std.proofs.Common.{◌≡◌, ◌∙◌, ◌+◌, ◌++◌, ℕ, Bool, true, false, List, [], ◌∷◌, arith, rules, refl, sym, ap, ap₂, drop, map, reverse}
+use Rattle.std.specs.Prelude.{take, nat_eq, not, ◌&&◌, if◌then◌else◌}
 use Rattle.std.specs.declared.alloc.Global.{Global}
 use Rattle.std.specs.declared.vec.Vec.{Vec}
 use Rattle.std.proofs.lemmas.List.{append-nil, drop-drop, drop_all, drop_more}
@@ -15,7 +14,7 @@ use Rattle.core_lines.specs.Held.{Holding, held_behind, held_behind_all}
 use Rattle.core_lines.specs.Choosing.{between_code}
 use Rattle.core_lines.specs.Completing.{can_complete}
 use Rattle.core_lines.specs.Saved.{results_in, results_all}
-use Rattle.core_lines.specs.Selected.{Surroundings, statement_code, statements_code, labels_in, labels_of, homes_after, holding, naming, names_after}
+use Rattle.core_lines.specs.Selected.{Surroundings, statement_code, labels_in, labels_of, homes_after, holding, naming, names_after}
 use Rattle.core_lines.specs.Selected.{names_after_all, home_behind}
 use Rattle.core_lines.specs.Homes.{flag_at}
 use Rattle.rv32_select.specs.Places.{surroundings, saves_left}

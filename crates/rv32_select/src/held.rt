@@ -1,10 +1,9 @@
 // Where the words of temporaries are known to be besides their slots.
 
 ghost use Rattle.std.specs.Prelude.{◌≡◌, [], map, nat_eq, IfOk, OnOk, option_map};
-ghost use Rattle.core_lines.specs.Held.{some_source, source_of, is_in, without_register, without_temporary, with_source};
-ghost use Rattle.core_lines.specs.Held.{result_register, with_result, with_taken, with_moved, with_local, with_put, with_results};
+ghost use Rattle.core_lines.specs.Held.{some_source, source_of, is_in, without_register, without_temporary, with_source, Register as in_register};
+ghost use Rattle.core_lines.specs.Held.{result_register, with_result, with_taken, with_moved, with_local, with_put, with_results, register_in, with_computed};
 ghost use Rattle.core_lines.specs.Held.{number_in, with_narrowed, is_zero, same_as, with_applied, comparison_of, number_comparison_of};
-ghost use Rattle.core_lines.specs.Held.{Register as in_register, register_in, with_computed};
 ghost use Rattle.core_meaning.specs.Core.{Add};
 ghost use Rattle.core_lines.specs.Parameters.{parameter_register};
 ghost use Rattle.cyc_core.specs.Trees.{binary_tree, body_tree, bytes_of, optional_tree, temporary_tree};

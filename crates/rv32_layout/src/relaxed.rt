@@ -1,6 +1,6 @@
 // Which conditional jumps are branches alone.
 
-ghost use Rattle.std.specs.Prelude.{◌≡◌, ◌<◌, ◌≤◌, Err, IfOk, true, false};
+ghost use Rattle.std.specs.Prelude.{◌≡◌, ◌<◌, ◌≤◌, Err, IfOk, false};
 ghost use Rattle.cyc_image.specs.Format.{code_limit};
 ghost use Rattle.core_lines.specs.Lines.{code_length};
 ghost use Rattle.core_lines.specs.declared.line.Line.TheVariants.{BranchUnless};
@@ -11,7 +11,6 @@ use crate::fault::LayoutFault;
 use crate::length::{length, size};
 use crate::places::{Places, find_places};
 use core_lines::{Comparison, Line};
-use cyc_image::CODE_LIMIT;
 use rv32_select::Labelled;
 use std::alloc::{AllocError, Global};
 
@@ -47,20 +46,6 @@ fn shorten(line: Line) -> Line
         | Line::BranchUnless(_, _)
         | Line::CallTo(_) => line,
     }
-}
-
-/// Whether the lines' code is over the limit even if all their conditional jumps are branches alone.
-fn is_over(lines: &[Line]) -> bool
-    ensures { result ≡ true → code_limit < code_length (shortened (none_wide lines.now) lines.now) }
-{
-    let mut bytes = 0;
-    'each: for line in lines {
-        bytes += size(shorten(*line));
-        if bytes as usize > CODE_LIMIT {
-            return true;
-        }
-    }
-    false
 }
 
 /// The lines, all of whose conditional jumps are branches alone.
@@ -149,11 +134,7 @@ pub(crate) fn relax(alloc: Global, labelled: &Labelled) -> Result<Relaxed, Layou
     ensures placeable { IfOk result (λ relaxed. ArePlaceable relaxed.lines.items relaxed.places) }
     ensures too_large { result ≡ Err LayoutFault.TooLarge → code_limit < code_length (shortened (wide_in labelled.now.lines) labelled.now.lines) }
 {
-    let all = labelled.lines();
-    if is_over(all) {
-        return Err(LayoutFault::TooLarge);
-    }
-    let mut lines = shortest(alloc, all)?;
+    let mut lines = shortest(alloc, labelled.lines())?;
     'rounds: loop {
         if length(lines.as_slice()).is_none() {
             return Err(LayoutFault::TooLarge);

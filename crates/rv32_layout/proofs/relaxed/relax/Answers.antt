@@ -1,4 +1,4 @@
-use Rattle.std.proofs.Common.{◌≡◌, ℕ, ◌+◌, ◌<◌, ◌≤◌, true, false, List, refl, sym, ap, subst, ◌∙◌, arith}
+use Rattle.std.proofs.Common.{◌≡◌, ℕ, ◌+◌, ◌<◌, ◌≤◌, true, false, List, sym, ap, subst, ◌∙◌, arith}
 use Rattle.cyc_image.specs.Format.{code_limit}
 use Rattle.core_lines.specs.declared.line.Line.{Line}
 use Rattle.core_lines.specs.Lines.{code_length}
@@ -12,15 +12,6 @@ pub rounds-init : goal.rounds-init
 rounds-init c =
     at_first c.args.labelled.now.lines c.in_ok-lines.lines.items
     (c.in_ok-lines.ensures ∙ ap (λ (ls : List Line). shortened (none_wide ls) ls) c.lines.ensures.same)
-
--- the shortest lines are no longer than those that are placed
-pub returns-then-is_over-clause-too_large : goal.returns-then-is_over-clause-too_large
-returns-then-is_over-clause-too_large c = λ _.
-    let lines = c.args.labelled.now.lines in
-    let short = shortened (none_wide lines) lines in
-    let over = c.is_over.ensures c.if-is_over.true in
-    let same = ap (λ (ls : List Line). code_length (shortened (none_wide ls) ls)) c.lines.ensures.same in
-    omega (arith, over, same, no_longer_yet lines short (at_first lines short refl))
 
 pub returns-then-is_none-clause-too_large : goal.returns-then-is_none-clause-too_large
 returns-then-is_none-clause-too_large c = λ _.

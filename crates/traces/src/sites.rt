@@ -98,28 +98,34 @@ impl Sites {
         Ok(())
     }
 
-    /// Appends those of a choice, and says whether it can complete.
-    #[cycle(sites)]
-    fn add_choice(
+    /// Appends those of a choice that is a check of two exceptions, and says whether it is one.
+    fn add_check(
         &mut self,
         raising: &[Raising],
         these: &[Statement],
         those: &[Statement],
     ) -> Result<bool, AllocError> {
-        if let Some((first, second)) = either_of(these, those) {
-            self.add_either(raising, first, second)?;
-            return Ok(true);
+        match either_of(these, those) {
+            Some((first, second)) => {
+                self.add_either(raising, first, second)?;
+                Ok(true)
+            }
+            None => Ok(false),
         }
-        let first = self.add_all(raising, these)?;
-        let second = self.add_all(raising, those)?;
-        Ok(first || second)
     }
 
     /// Appends those of a statement, and says whether it can complete.
     #[cycle(sites)]
     fn add(&mut self, raising: &[Raising], statement: &Statement) -> Result<bool, AllocError> {
         match statement {
-            Statement::If(_, these, those) => self.add_choice(raising, these, those),
+            Statement::If(_, these, those) => {
+                if self.add_check(raising, these, those)? {
+                    return Ok(true);
+                }
+                let first = self.add_all(raising, these)?;
+                let second = self.add_all(raising, those)?;
+                Ok(first || second)
+            }
             Statement::While(test, _, body) => {
                 self.add_all(raising, test)?;
                 self.add_all(raising, body)?;

@@ -13,39 +13,15 @@ use Rattle.region_runtime.specs.Sound.{IsOrdered, freed_of, no_page}
 use Rattle.region_runtime.specs.Steps.{next_page, with_word, with_page, with_heap_joined, with_heap_page, with_joined, with_more, with_newest, without_page}
 use Rattle.region_runtime.proofs.Words.{live_own, live_none}
 use Rattle.region_runtime.proofs.Places.{page_in_hand, live_small}
-use Rattle.region_runtime.proofs.Ordered.{page_taken, hand_within, heap_ordered, heap_joined_ordered, grown_ordered, joined_ordered, not_first}
+use Rattle.region_runtime.proofs.Ordered.{page_taken}
+use Rattle.region_runtime.proofs.InHand.{hand_within, heap_ordered, heap_joined_ordered, grown_ordered, joined_ordered, not_first}
 use Rattle.region_runtime.proofs.Owners.{owner_nobody, is_lawful}
 use Rattle.region_runtime.proofs.Held.{page_less}
 use Rattle.region_runtime.proofs.Tags.{word_other, tag_same, taken_same, not_taken, small_unmarked, words_same}
 use Rattle.region_runtime.proofs.Granted.{less_holds, page_untaken, page_words}
-use Rattle.region_runtime.proofs.Placed.{
-  granted,
-  IsRoom,
-  is_room,
-  not_large,
-  room_small,
-  is_short,
-  cut_ordered,
-  no_page_needed,
-  cut_holds,
-  cut_lawful,
-  cut_tags,
-  cut_taken,
-  cut_words,
-  placed,
-  joined,
-  heap_joined_holds,
-  joined_holds,
-  few,
-  nobody,
-  unmarked,
-  heap_live,
-  heaped_holds,
-  heap_now,
-  heap_others,
-  region_live,
-  newest_holds,
-}
+use Rattle.region_runtime.proofs.Placed.{granted, IsRoom, is_room, not_large, room_small, is_short, placed, joined, heap_joined_holds, joined_holds, few}
+use Rattle.region_runtime.proofs.Placed.{nobody, unmarked, heap_live, heaped_holds, heap_now, heap_others, region_live, newest_holds}
+use Rattle.region_runtime.proofs.Cutting.{cut_ordered, no_page_needed, cut_holds, cut_lawful, cut_tags, cut_taken, cut_words}
 
 -- the words of a page in hand and of a region's first page are written
 module _ (word next : ℕ → ℕ → ℕ) (p k : ℕ) (before : nat_eq (owner_of word p) taken_mark ≡ false) (now : nat_eq (owner_of next p) taken_mark ≡ false)

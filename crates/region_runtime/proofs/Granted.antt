@@ -13,7 +13,8 @@ use Rattle.region_runtime.specs.Sound.{IsOrdered, freed_of, no_page}
 use Rattle.region_runtime.specs.Steps.{next_page, with_first, without_page}
 use Rattle.region_runtime.proofs.Words.{live_some, last_of_heap, last_of_region, last_of_other}
 use Rattle.region_runtime.proofs.Places.{page_in_hand, hand_not_own, started_live}
-use Rattle.region_runtime.proofs.Ordered.{page_taken, hand_within, hand_few, hand_small, started_others, started_pages, first_ordered}
+use Rattle.region_runtime.proofs.Ordered.{page_taken}
+use Rattle.region_runtime.proofs.InHand.{hand_within, hand_few, hand_small, started_others, started_pages, first_ordered}
 use Rattle.region_runtime.proofs.Holders.{hand_nobody, hand_unmarked, started_holder}
 use Rattle.region_runtime.proofs.Owners.{owner_empty}
 use Rattle.region_runtime.proofs.Held.{marked_kept, taken_heap, taken_region, taken_other, last_differs, left_other, left_here, IsLess, page_less}

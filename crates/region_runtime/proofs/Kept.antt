@@ -25,7 +25,8 @@ use Rattle.region_runtime.specs.Sound.{AreChains, IsOrdered, freed_of, no_page}
 use Rattle.region_runtime.specs.Steps.{next_page, with_taken, without_page}
 use Rattle.region_runtime.proofs.Words.{last_of_heap, last_of_region, last_of_other}
 use Rattle.region_runtime.proofs.Places.{page_in_hand, uses_kept, live_same}
-use Rattle.region_runtime.proofs.Ordered.{pages_are, page_taken, hand_within, hand_few, hand_small, taken_ordered}
+use Rattle.region_runtime.proofs.Ordered.{pages_are, page_taken}
+use Rattle.region_runtime.proofs.InHand.{hand_within, hand_few, hand_small, taken_ordered}
 use Rattle.region_runtime.proofs.Holders.{holder_kept, holder_taken, hand_nobody, hand_unmarked, marked_others}
 use Rattle.region_runtime.proofs.Owners.{owner_nobody}
 use Rattle.region_runtime.proofs.Held.{marked_kept, taken_heap, taken_region, taken_other, page_less}

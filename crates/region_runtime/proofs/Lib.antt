@@ -3,6 +3,7 @@ pub mod Chains
 pub mod Places
 pub mod Freeing
 pub mod Ordered
+pub mod InHand
 pub mod Holders
 pub mod Owners
 pub mod Held
@@ -11,6 +12,7 @@ pub mod Blank
 pub mod Granted
 pub mod Released
 pub mod Placed
+pub mod Cutting
 pub mod Blocks
 pub mod Runs
 pub mod Kept

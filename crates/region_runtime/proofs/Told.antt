@@ -31,7 +31,8 @@ use Rattle.region_runtime.specs.Touches.{Touched, alloc_least, block_least, read
 use Rattle.region_runtime.proofs.Blank.{cut_words, grow_words, number_none, number_read, used_taken}
 use Rattle.region_runtime.proofs.Words.{last_of_region, live_page}
 use Rattle.region_runtime.proofs.Serves.{serves_live}
-use Rattle.region_runtime.proofs.Ordered.{count_least, page_taken, not_first}
+use Rattle.region_runtime.proofs.Ordered.{count_least, page_taken}
+use Rattle.region_runtime.proofs.InHand.{not_first}
 use Rattle.region_runtime.proofs.Held.{last_within, page_less}
 use Rattle.region_runtime.proofs.Placed.{is_room, not_large, room_small}
 use Rattle.region_runtime.proofs.Blocks.{IsPlaced, cut_placed, none_free, page_placed}

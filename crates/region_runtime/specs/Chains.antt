@@ -1,7 +1,7 @@
 -- Chains of pages through a word of each header. How many pages a chain has is known beside it.
 use Rattle.std.specs.Prelude.{ℕ, zero, suc, List, [], ◌∷◌, nat_eq, if◌then◌else◌}
 
--- so many pages, from one on along the links
+-- the given number of pages, from one on along the links
 unfoldable pub follow : (ℕ → ℕ) → ℕ → ℕ → List ℕ
 follow next zero from = []
 follow next (suc n) from = from ∷ follow next n (next from)

@@ -34,11 +34,11 @@ without_page t =
 abbrev pub with_first : ℕ → Shape → Shape
 with_first p t = with_word p 6 p (with_word p 5 0 (with_word p 4 1 (with_word p 3 p (with_word p 2 0 (with_word p 1 (p + 1) t)))))
 
--- the first page never used is taken, whatever was freed
+-- the first page never used is taken, also where pages were freed
 abbrev pub without_fresh : Shape → Shape
 without_fresh t = record t { ever_used = t.ever_used + 1 }
 
--- a page joins a region, with a block of so many bytes; its current page stays
+-- a page joins a region, with a block of `room` bytes; its current page stays
 abbrev pub with_joined : ℕ → ℕ → ℕ → Shape → Shape
 with_joined h p room t =
     with_word (h - 1) 4 (count_of t.word h + 1) (with_word (h - 1) 3 p (with_word p 0 (newest_of t.word h) (with_word p 1 h (with_word p 2 room t))))
@@ -47,7 +47,7 @@ with_joined h p room t =
 abbrev pub with_newest : ℕ → ℕ → ℕ → Shape → Shape
 with_newest h p room t = with_word (h - 1) 6 p (with_joined h p room t)
 
--- a page joins the heap, with a block of so many bytes; its last page stays
+-- a page joins the heap, with a block of `room` bytes; its last page stays
 abbrev pub with_heap_joined : ℕ → ℕ → Shape → Shape
 with_heap_joined p room t = with_word p 1 heap_mark (with_word p 2 room t)
 

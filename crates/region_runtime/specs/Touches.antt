@@ -32,7 +32,7 @@ reads_page pages page = one_if (nat_lt page pages)
 unfoldable pub reads_number : ℕ → ℕ → ℕ
 reads_number pages h = (if nat_eq h 0 then 0 else reads_page pages (h - 1))
 
--- a call on a live region touches so many words, and one on another number looks whose it is
+-- a call on a live region touches `words` words, and one on another number looks whose it is
 abbrev pub touches_for : Bool → ℕ → ℕ → ℕ → ℕ
 touches_for live words pages h = (if live then words else reads_number pages h)
 
@@ -54,7 +54,7 @@ abbrev pub alloc_least : ℕ → ℕ → Holdings → ℕ
 alloc_least h room held =
     (if is_large room then run_words h (run_of room) else block_least h (block_needs_page h room held.counts) (reads_link held))
 
--- a call that did what was asked touched so many words or at most so many more, and a refused one at most so many
+-- a call that did what was asked touched at least `low` words and at most `more` more, and a refused one at most `high`
 pub record Touched (given : Bool) (low more high n : ℕ) : Type 0 where
   pub least : (if given then low else 0) ≤ n
   pub most : n ≤ (if given then low + more else high)

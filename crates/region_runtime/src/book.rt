@@ -1,16 +1,14 @@
-// A pool's headers and fields, which are read and written word by word, and counted.
+// A pool's pages with their header words: each read and each write of a header word is counted.
 
-ghost use Rattle.std.specs.Prelude.{◌≡◌, ◌+◌, ◌-◌, ◌*◌, ◌/◌, ◌%◌, ◌<◌, ◌≤◌, ℕ, length, nat_eq, slice_set, true, false, ◌||◌, nat_lt, if◌then◌else◌};
+ghost use Rattle.std.specs.Prelude.{◌≡◌, ◌+◌, ◌-◌, ◌*◌, ◌<◌, ◌≤◌, length, nat_eq, slice_set, true, false, nat_lt, if◌then◌else◌};
 ghost use Rattle.raw_pages.specs.Raw.{count};
-ghost use Rattle.arena_laws.specs.Counts.{block_limit, is_full, run_of};
+ghost use Rattle.arena_laws.specs.Counts.{is_full};
 ghost use Rattle.arena_laws.specs.Holdings.{arena_base};
 ghost use Rattle.arena_laws.specs.Lawful.{takes_blocks};
-ghost use Rattle.region_runtime.specs.Headers.{word_in, owner_of, newest_of, count_of, is_live_number, used_of, tag_in};
+ghost use Rattle.region_runtime.specs.Headers.{word_in, owner_of, count_of, is_live_number, used_of, tag_in};
 ghost use Rattle.region_runtime.specs.Pool.{counts_of, last_of, left_of, changed_words, is_taken_by, standing_by};
-ghost use Rattle.region_runtime.specs.Touches.{one_if, run_words, reads_number, reads_page};
-ghost use Rattle.region_runtime.specs.Steps.{next_page, seen, with_first, with_freed, with_heap_joined, with_heap_page, with_joined, with_more, with_newest, with_page, with_taken, with_word, without_fresh, without_page};
-ghost use Rattle.region_runtime.specs.Runs.{IsRun};
-ghost use Rattle.region_runtime.specs.Sound.{IsOrdered, no_page};
+ghost use Rattle.region_runtime.specs.Touches.{one_if, reads_number, reads_page};
+ghost use Rattle.region_runtime.specs.Steps.{next_page, seen, with_freed, with_taken, with_word, without_page};
 
 use arena_laws::{BASE, PAGE};
 use raw_pages::RawPages;
@@ -18,16 +16,16 @@ use raw_pages::RawPages;
 /// The field of the next page on a chain.
 pub(crate) const LINK: u32 = 0;
 
-/// The field of whose a page is: a region's number, a mark, or 0. A freed page may keep a stale one.
+/// The field of a page's owner: a region's number, a mark, or 0. A freed page may keep a stale owner.
 pub(crate) const OWNER: u32 = 1;
 
-/// The field of the bytes used of a page.
+/// The field of the number of bytes that are used of a page.
 pub(crate) const USED: u32 = 2;
 
-/// The field of the page that joined a region last, in its first page: the region's chain goes from it.
+/// The field of the page that joined a region last, in the region's first page. The region's chain begins there.
 pub(crate) const NEWEST: u32 = 3;
 
-/// The field of how many pages a region has, in its first page.
+/// The field of the number of a region's pages, in its first page.
 pub(crate) const COUNT: u32 = 4;
 
 /// The field of a region's tag, in its first page.
@@ -42,22 +40,25 @@ pub(crate) const HEAP: u32 = 4097;
 /// The owner of pages got by `take_page`.
 pub(crate) const TAKEN: u32 = 4098;
 
-/// The pages with their headers, and what is known of them beside: the first page of the chain of
-/// freed pages and how many it has, how many pages were ever used, the heap's last page and one, and
-/// how many header words were touched.
+/// The pages with their headers, and what is known of them without a look at a header.
 #[derive(Drop)]
 pub(crate) struct Book {
     pub(crate) raw: RawPages,
+    /// The first page of the chain of freed pages.
     pub(crate) first_freed: u32,
+    /// The number of freed pages.
     pub(crate) freed: u32,
+    /// The number of pages that were ever used. These are the first ones.
     pub(crate) ever_used: u32,
+    /// The heap's last page plus 1, or 0.
     pub(crate) heap_last: u32,
+    /// The number of header words that the current call has read or written.
     pub(crate) touched: u32,
 }
 
 impl Book {
     /// Reads a header word, and counts it.
-    fn read(&mut self, page: u32, field: u32) -> u32
+    pub(crate) fn read(&mut self, page: u32, field: u32) -> u32
         requires page { page < count self.old.raw }
         requires field { field < 16 }
         requires few { self.old.touched < 8192 }
@@ -71,7 +72,7 @@ impl Book {
     }
 
     /// Writes a header word, and counts it.
-    fn write(&mut self, page: u32, field: u32, value: u32)
+    pub(crate) fn write(&mut self, page: u32, field: u32, value: u32)
         requires page { page < count self.old.raw }
         requires field { field < 16 }
         requires few { self.old.touched < 8192 }
@@ -84,7 +85,7 @@ impl Book {
         self.raw.set_word(page, field, value);
     }
 
-    /// No header word is touched yet.
+    /// Begins a call: no header word is counted yet.
     pub(crate) fn begin(&mut self)
         ensures raw { self.new.raw ≡ self.old.raw }
         ensures shape { seen self.new ≡ seen self.old }
@@ -135,7 +136,7 @@ impl Book {
         self.freed == 0 && self.ever_used == self.raw.pages()
     }
 
-    /// Takes the next free page out of the free ones.
+    /// Takes a free page: the first freed one, or else the first one that was never used.
     #[tactic(auto, unfolding(crate::specs::Steps::without_page))]
     pub(crate) fn take(&mut self) -> u32
         requires page { next_page (seen self.old) < count self.old.raw }
@@ -159,25 +160,7 @@ impl Book {
         }
     }
 
-    /// Makes a page the first of a region with its number.
-    pub(crate) fn start(&mut self, page: u32)
-        requires page { page < count self.old.raw }
-        requires small { page < 4096 }
-        requires few { self.old.touched < 50 }
-        ensures shape { seen self.new ≡ with_first page (seen self.old) }
-        ensures long { length self.new.raw.words ≡ length self.old.raw.words }
-        ensures bytes { self.new.raw.bytes ≡ self.old.raw.bytes }
-        ensures touched { self.new.touched ≡ self.old.touched + 6 }
-    {
-        self.write(page, OWNER, page + 1);
-        self.write(page, USED, 0);
-        self.write(page, NEWEST, page);
-        self.write(page, COUNT, 1);
-        self.write(page, TAG, 0);
-        self.write(page, CURRENT, page);
-    }
-
-    /// The last page, and one, of the heap or a live region.
+    /// The last page of the heap, or the current page of a live region, plus 1; 0 where there is none.
     pub(crate) fn last(&mut self, number: u32) -> u32
         requires live { 0 < number → is_live_number (owner_of (seen self.old).word) number ≡ true }
         requires first { 0 < number → number - 1 < count self.old.raw }
@@ -196,7 +179,7 @@ impl Book {
         }
     }
 
-    /// What is left of a last page, which is named by its number and one.
+    /// The number of bytes that are free in a last page, which is given by its number plus 1.
     pub(crate) fn left(&mut self, last: u32) -> u32
         requires page { last ≤ count self.old.raw }
         requires within { used_of (seen self.old).word (last - 1) ≤ 4096 }
@@ -213,7 +196,7 @@ impl Book {
         }
     }
 
-    /// Cuts a block of so many bytes from a last page: its address.
+    /// Cuts a block of `room` bytes from a last page, and returns its address.
     pub(crate) fn cut(&mut self, page: u32, room: u32) -> u32
         requires page { page < count self.old.raw }
         requires small { count self.old.raw ≤ 4096 }
@@ -230,61 +213,7 @@ impl Book {
         BASE + PAGE * page + used
     }
 
-    /// Makes a page one of the heap's, with a block of so many bytes.
-    fn join_heap(&mut self, page: u32, room: u32)
-        requires page { page < count self.old.raw }
-        requires few { self.old.touched < 8000 }
-        ensures shape { seen self.new ≡ with_heap_joined page room (seen self.old) }
-        ensures long { length self.new.raw.words ≡ length self.old.raw.words }
-        ensures bytes { self.new.raw.bytes ≡ self.old.raw.bytes }
-        ensures touched { self.new.touched ≡ self.old.touched + 2 }
-    {
-        self.write(page, USED, room);
-        self.write(page, OWNER, HEAP);
-    }
-
-    /// Makes a page one of a live region's, with a block of so many bytes.
-    fn join_region(&mut self, number: u32, page: u32, room: u32)
-        requires page { page < count self.old.raw }
-        requires some { 0 < number }
-        requires first { number - 1 < count self.old.raw }
-        requires other { nat_eq page (number - 1) ≡ false }
-        requires small { count_of (seen self.old).word number ≤ 4096 }
-        requires few { self.old.touched < 8000 }
-        ensures shape { seen self.new ≡ with_joined number page room (seen self.old) }
-        ensures long { length self.new.raw.words ≡ length self.old.raw.words }
-        ensures bytes { self.new.raw.bytes ≡ self.old.raw.bytes }
-        ensures touched { self.new.touched ≡ self.old.touched + 7 }
-    {
-        let newest = self.read(number - 1, NEWEST);
-        let pages = self.read(number - 1, COUNT);
-        self.write(page, USED, room);
-        self.write(page, OWNER, number);
-        self.write(page, LINK, newest);
-        self.write(number - 1, NEWEST, page);
-        self.write(number - 1, COUNT, pages + 1);
-    }
-
-    /// Makes a page one of the heap's or a live region's, with a block of so many bytes.
-    fn join(&mut self, number: u32, page: u32, room: u32)
-        requires page { page < count self.old.raw }
-        requires first { 0 < number → number - 1 < count self.old.raw }
-        requires other { 0 < number → nat_eq page (number - 1) ≡ false }
-        requires few { 0 < number → count_of (seen self.old).word number ≤ 4096 }
-        requires touches { self.old.touched < 8000 }
-        ensures shape { seen self.new ≡ with_more number page room (seen self.old) }
-        ensures long { length self.new.raw.words ≡ length self.old.raw.words }
-        ensures bytes { self.new.raw.bytes ≡ self.old.raw.bytes }
-        ensures touched { self.new.touched ≡ self.old.touched + (if nat_eq number 0 then 2 else 7) }
-    {
-        if number == 0 {
-            self.join_heap(page, room);
-        } else {
-            self.join_region(number, page, room);
-        }
-    }
-
-    /// How many pages were never used.
+    /// The number of pages that were never used.
     pub(crate) fn unused(&self) -> u32
         requires { self.now.ever_used ≤ count self.now.raw }
         ensures { result ≡ (counts_of (seen self.now)).fresh }
@@ -292,98 +221,7 @@ impl Book {
         self.raw.pages() - self.ever_used
     }
 
-    /// Takes the first page that was never used, and makes it one of the heap's or a live region's.
-    fn extend(&mut self, number: u32, room: u32)
-        requires page { self.old.ever_used < count self.old.raw }
-        requires small { count self.old.raw ≤ 4096 }
-        requires first { 0 < number → number - 1 < count self.old.raw }
-        requires other { 0 < number → nat_eq self.old.ever_used (number - 1) ≡ false }
-        requires few { 0 < number → count_of (seen self.old).word number ≤ 4096 }
-        requires touches { self.old.touched < 8000 }
-        ensures shape { seen self.new ≡ with_more number self.old.ever_used room (without_fresh (seen self.old)) }
-        ensures long { length self.new.raw.words ≡ length self.old.raw.words }
-        ensures bytes { self.new.raw.bytes ≡ self.old.raw.bytes }
-        ensures touched { self.new.touched ≡ self.old.touched + (if nat_eq number 0 then 2 else 7) }
-    {
-        let page = self.ever_used;
-        self.ever_used += 1;
-        self.join(number, page, room);
-    }
-
-    /// Makes a run of pages never used the heap's or a live region's, with a block of so many bytes.
-    pub(crate) fn run(&mut self, number: u32, room: u32)
-        requires ordered { IsOrdered (seen self.old) no_page }
-        requires live { 0 < number → is_live_number (owner_of (seen self.old).word) number ≡ true }
-        requires eights { room % 8 ≡ 0 }
-        requires some { 0 < room }
-        requires limit { room ≤ block_limit }
-        requires pages { self.old.ever_used + run_of room ≤ count self.old.raw }
-        requires few { self.old.touched < 60 }
-        ensures run { IsRun (seen self.old) (seen self.new) number (arena_base + 4096 * self.old.ever_used) room (run_of room) }
-        ensures long { length self.new.raw.words ≡ length self.old.raw.words }
-        ensures bytes { self.new.raw.bytes ≡ self.old.raw.bytes }
-        ensures touched { self.new.touched ≡ self.old.touched + run_words number (run_of room) }
-    {
-        let mut left = room;
-        'pages: while left > PAGE {
-            self.extend(number, PAGE);
-            left -= PAGE;
-        }
-        self.extend(number, left);
-    }
-
-    /// Makes a page the last of the heap, with a block of so many bytes.
-    fn grow_heap(&mut self, page: u32, room: u32)
-        requires page { page < count self.old.raw }
-        requires small { count self.old.raw ≤ 4096 }
-        requires few { self.old.touched < 50 }
-        ensures shape { seen self.new ≡ with_heap_page page room (seen self.old) }
-        ensures long { length self.new.raw.words ≡ length self.old.raw.words }
-        ensures bytes { self.new.raw.bytes ≡ self.old.raw.bytes }
-        ensures touched { self.new.touched ≡ self.old.touched + 2 }
-    {
-        self.join_heap(page, room);
-        self.heap_last = page + 1;
-    }
-
-    /// Makes a page the newest and the current one of a live region, with a block of so many bytes.
-    fn grow_region(&mut self, number: u32, page: u32, room: u32)
-        requires page { page < count self.old.raw }
-        requires some { 0 < number }
-        requires first { number - 1 < count self.old.raw }
-        requires other { nat_eq page (number - 1) ≡ false }
-        requires small { count_of (seen self.old).word number ≤ 4096 }
-        requires few { self.old.touched < 50 }
-        ensures shape { seen self.new ≡ with_newest number page room (seen self.old) }
-        ensures long { length self.new.raw.words ≡ length self.old.raw.words }
-        ensures bytes { self.new.raw.bytes ≡ self.old.raw.bytes }
-        ensures touched { self.new.touched ≡ self.old.touched + 8 }
-    {
-        self.join_region(number, page, room);
-        self.write(number - 1, CURRENT, page);
-    }
-
-    /// Makes a page the last of the heap or a live region, with a block of so many bytes.
-    pub(crate) fn grow(&mut self, number: u32, page: u32, room: u32)
-        requires page { page < count self.old.raw }
-        requires first { 0 < number → number - 1 < count self.old.raw }
-        requires other { 0 < number → nat_eq page (number - 1) ≡ false }
-        requires small { count self.old.raw ≤ 4096 }
-        requires few { 0 < number → count_of (seen self.old).word number ≤ 4096 }
-        requires touches { self.old.touched < 50 }
-        ensures shape { seen self.new ≡ with_page number page room (seen self.old) }
-        ensures long { length self.new.raw.words ≡ length self.old.raw.words }
-        ensures bytes { self.new.raw.bytes ≡ self.old.raw.bytes }
-        ensures touched { self.new.touched ≡ self.old.touched + (if nat_eq number 0 then 2 else 8) }
-    {
-        if number == 0 {
-            self.grow_heap(page, room);
-        } else {
-            self.grow_region(number, page, room);
-        }
-    }
-
-    /// Puts a live region's chain before that of the freed pages, and its number is live no more.
+    /// Frees a live region: its chain goes in front of the chain of freed pages, and its number is live no more.
     pub(crate) fn splice(&mut self, number: u32)
         requires some { 0 < number }
         requires first { number - 1 < count self.old.raw }
@@ -403,7 +241,7 @@ impl Book {
         self.freed = pages + self.freed;
     }
 
-    /// Makes a page its taker's.
+    /// Marks a page as got by `take_page`.
     pub(crate) fn mark_taken(&mut self, page: u32)
         requires page { page < count self.old.raw }
         requires few { self.old.touched < 60 }
@@ -457,7 +295,7 @@ impl Book {
         self.read(page, OWNER) == TAKEN
     }
 
-    /// Sets a word of a taken page.
+    /// Sets a header word of a taken page.
     pub(crate) fn set_own_word(&mut self, page: u32, field: u32, value: u32)
         requires page { page < count self.old.raw }
         requires field { field < 16 }

@@ -42,7 +42,7 @@ impl Model for Pool {
 }
 
 impl Pool {
-    /// A pool of so many pages, all free, whose bytes are 0. Pages where `pages` isn't 1 to 4,096,
+    /// A pool of `pages` pages, all free, whose bytes are 0. Pages where `pages` isn't 1 to 4,096,
     /// looked for first; Memory where the allocator refuses.
     pub fn new(alloc: Global, pages: u32) -> Result<Pool, PagesFault>
         ensures made { IfOk result (λ p. held p ≡ fresh pages) }
@@ -88,7 +88,7 @@ impl Pool {
         Some(Handle(page + 1))
     }
 
-    /// A block of so many bytes in a live region, or in the heap (0): its address, a multiple of 8.
+    /// A block of `bytes` bytes in a live region, or in the heap (0): its address, a multiple of 8.
     /// The room is the bytes rounded up to 8 (0 to 8), and meets no live room. BadHandle where the
     /// handle is of no live region, looked for first; Full above 1,048,576 bytes. A room above 4,096
     /// takes a run of neighbouring pages that were never used, and is Full where fewer are left; the

@@ -22,7 +22,7 @@ pub(crate) fn is_region(raw: &RawPages, number: u32) -> bool
     raw.word(number - 1, OWNER) == number
 }
 
-/// Whether a page is among so many on a chain.
+/// Whether a page is among the first `many` pages of the chain from `from` on.
 fn leads_to(raw: &RawPages, many: u32, from: u32, page: u32) -> bool
     requires { (q : ℕ) → 0 < times q (follow (link_of (word_in raw.now.words)) many from) → q < count raw.now }
     ensures { result ≡ nat_lt 0 (times page (follow (link_of (word_in raw.now.words)) many from)) }

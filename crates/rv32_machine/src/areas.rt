@@ -29,7 +29,7 @@ pub enum Place {
     Arena,
 }
 
-/// The offset in the area of this base and length, where so many bytes from an address on lie in it.
+/// The offset of an address in the area of this base and length, if `width` bytes from there on lie in it.
 pub fn offset_in(base: u32, length: usize, at: u32, width: usize) -> Option<usize>
     requires length { length ≤ 2 ^ 24 }
     requires width { width ≤ 4 }
@@ -46,7 +46,7 @@ pub fn offset_in(base: u32, length: usize, at: u32, width: usize) -> Option<usiz
     }
 }
 
-/// The place of so many bytes from an address on, where they lie in one area.
+/// The area and the offset of `width` bytes from an address on, if they lie in one area.
 pub fn locate(
     code: usize,
     statics: usize,

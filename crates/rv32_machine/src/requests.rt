@@ -26,7 +26,7 @@ impl<S: BlockStore> Machine<S> {
         self.numbered(made)
     }
 
-    /// A block of so many bytes in a region: x10 gets its address.
+    /// A block of `bytes` bytes in a region: x10 gets its address.
     pub(crate) fn region_alloc(&mut self, handle: u32, bytes: u32) -> Event
         ensures step { let seen = arrays S.holdings S.byte_at in Steps (seen self.old) (seen self.new) result (asks (areas_of (seen self.old)) (answer_seen result (seen self.new)) (RegionAlloc handle bytes) (state_of (seen self.old))) }
         ensures served { let seen = arrays S.holdings S.byte_at in
@@ -47,7 +47,7 @@ impl<S: BlockStore> Machine<S> {
         self.finished(done)
     }
 
-    /// A unique block of so many bytes: x10 gets its address.
+    /// A unique block of `bytes` bytes: x10 gets its address.
     pub(crate) fn unique_alloc(&mut self, bytes: u32) -> Event
         ensures step { let seen = arrays S.holdings S.byte_at in Steps (seen self.old) (seen self.new) result (asks (areas_of (seen self.old)) (answer_seen result (seen self.new)) (UniqueAlloc bytes) (state_of (seen self.old))) }
         ensures served { let seen = arrays S.holdings S.byte_at in

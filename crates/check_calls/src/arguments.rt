@@ -25,7 +25,7 @@ use check_scopes::Scope;
 use cyc_types::{CType, RegionId};
 use std::alloc::{AllocError, Global};
 
-/// A fault, where it is of types.
+/// The fault, if it is one of types.
 fn type_alone(fault: Option<Fault>) -> Option<Fault>
     ensures { faults_of result ≡ type_alone (faults_of fault) }
 {
@@ -43,15 +43,15 @@ fn type_alone(fault: Option<Fault>) -> Option<Fault>
     }
 }
 
-/// A conversion's fault; where it isn't looked at with its regions, one of types alone.
+/// The fault of a conversion that counts: any, if the conversion is checked with its regions, else one of types alone.
 fn counted(is_whole: bool, fault: Option<Fault>) -> Option<Fault>
     ensures { faults_of result ≡ counted is_whole (faults_of fault) }
 {
     if is_whole { fault } else { type_alone(fault) }
 }
 
-/// Whether a conversion to a parameter's type is looked at with its regions: where a variable is at fault or isn't known, all of
-/// the type have to be known.
+/// Whether a conversion to a parameter's type is checked with its regions. If some variables are invalid or unknown (`partly`), all regions
+/// of the type have to be known for that.
 fn is_whole(partly: bool, fixings: &[Option<Fixing>], parameter: &CType) -> bool
     ensures { result ≡ is_whole partly (which_are_known (fixings_of fixings.now)) (static_type parameter.now) }
 {
@@ -62,15 +62,14 @@ fn is_whole(partly: bool, fixings: &[Option<Fixing>], parameter: &CType) -> bool
     }
 }
 
-/// Whether conversions are looked at with those regions alone that are known: a variable is at fault, or isn't known.
+/// Whether some variables are invalid or unknown. `fixing` is the fault of the variables, if they have one.
 fn is_partly(fixing: Option<Fault>, are_settled: bool) -> bool
     ensures { result ≡ (is_some fixing || not are_settled) }
 {
     fixing.is_some() || !are_settled
 }
 
-/// The fault of an argument that is converted to a parameter's type, if any; to one of no known type there is none. Fails only where
-/// no host memory is left.
+/// The fault of an argument, which is converted to a parameter's type. There is none if the type isn't known.
 fn argument_fault(
     scope: &Scope,
     fixings: &[Option<Fixing>],
@@ -92,7 +91,7 @@ fn argument_fault(
     }
 }
 
-/// The fault of the arguments that is answered, if any. Fails only where no host memory is left.
+/// The earliest fault of the arguments' conversions.
 fn conversions_fault(
     scope: &Scope,
     fixings: &[Option<Fixing>],
@@ -121,7 +120,8 @@ fn are_known(parameters: &[Option<CType>]) -> bool
     parameters.iter().all(|of| of.is_some())
 }
 
-/// What the variables stand for, unless there is a fault, and where all of them and all parameters are known.
+/// The verdict on the arguments: the fault if there is one, or else what the variables stand for, if all of them and the types of all
+/// parameters are known.
 fn unless_found(
     fault: Option<Fault>,
     are_settled: bool,
@@ -142,7 +142,7 @@ fn unless_found(
     }
 }
 
-/// What the variables stand for where the arguments fit parameters of these types. Fails only where no host memory is left.
+/// The verdict on the arguments for parameters of these types: what the variables stand for, if the arguments fit.
 pub(crate) fn arguments_fit(
     scope: &Scope,
     alloc: Global,

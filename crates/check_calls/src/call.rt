@@ -32,7 +32,7 @@ use check_scopes::{Scope, Signature};
 use cyc_types::{BaseType, CType, RegionId};
 use std::alloc::{AllocError, Global};
 
-/// The value of a call that is in order.
+/// The value of a call that has no fault.
 pub(crate) fn given<'p>(at: u32, of: CType<'p>) -> Verdict<Value<'p>>
     ensures { short_of value_of result ≡ shortened (value at (static_type of.entry)) }
 {
@@ -43,7 +43,7 @@ pub(crate) fn given<'p>(at: u32, of: CType<'p>) -> Verdict<Value<'p>>
     })
 }
 
-/// Whether all regions of a function's effect are live, where its variables stand for these.
+/// Whether all regions of a function's effect are live. `regions` are what its variables stand for.
 fn are_live(scope: &Scope, regions: &[RegionId], effect: &[RegionId]) -> bool
     ensures { (g : Env) → Sees scope.now g → result ≡ all_live g (regions_of regions.now) (regions_of effect.now) }
 {
@@ -62,7 +62,7 @@ fn are_same(one: (RegionId, RegionId), other: (RegionId, RegionId)) -> bool
     one.0.is_same(other.0) && one.1.is_same(other.1)
 }
 
-/// Whether a region outlives another, where of one pair it is known that it does. Fails only where no host memory is left.
+/// Whether the first of the `asked` regions outlives the second. That the first of the `known` ones does is known.
 fn is_ordered(
     scope: &Scope,
     known: (RegionId, RegionId),
@@ -77,7 +77,7 @@ fn is_ordered(
     scope.outlives(asked.0, asked.1)
 }
 
-/// Whether a function's bounds are in order, where its variables stand for these. Fails only where no host memory is left.
+/// Whether a function's bounds hold. `regions` are what its variables stand for.
 fn are_ordered(
     scope: &Scope,
     regions: &[RegionId],
@@ -96,8 +96,7 @@ fn are_ordered(
     Ok(true)
 }
 
-/// Whether the bounds that a function declares are in order, where its variables stand for these: each of them is asked once. Fails only
-/// where no host memory is left.
+/// Whether the bounds that a function declares hold. Each of them is tested once. `regions` are what its variables stand for.
 fn are_kept(
     scope: &Scope,
     regions: &[RegionId],
@@ -108,7 +107,7 @@ fn are_kept(
     are_ordered(scope, regions, bounds.once())
 }
 
-/// The value that a call has, where its type is known.
+/// The value of a call, if its type is known.
 fn given_if<'p>(at: u32, of: Option<CType<'p>>) -> Verdict<Value<'p>>
     ensures { short_of value_of result ≡ shortened (given_of at (option_map static_type of.entry)) }
 {
@@ -118,7 +117,7 @@ fn given_if<'p>(at: u32, of: Option<CType<'p>>) -> Verdict<Value<'p>>
     }
 }
 
-/// A call by whether the callee's effect is live and its bounds are in order.
+/// The verdict on a call, by whether the callee's effect is live and its bounds hold.
 #[tactic(auto, using(crate::proofs::Entering::tests_entered))]
 fn entered<'p>(
     at: u32,
@@ -144,7 +143,7 @@ fn entered<'p>(
     }
 }
 
-/// The type of a result, where it is known, with what its region variables stand for. Fails only where no host memory is left.
+/// The type of a result, if it is known. `regions` are what its region variables stand for.
 fn renamed_result<'p>(
     regions: &[RegionId],
     of: &Option<CType<'p>>,
@@ -157,7 +156,7 @@ fn renamed_result<'p>(
     }
 }
 
-/// A call of a function whose variables stand for these. Fails only where no host memory is left.
+/// The verdict on a call of a function. `regions` are what its variables stand for.
 fn call_entered<'p>(
     scope: &Scope<'_, 'p>,
     at: u32,
@@ -173,7 +172,7 @@ fn call_entered<'p>(
     Ok(entered(at, are_live, are_ordered, of))
 }
 
-/// A call of a function of the program, by whether its arguments fit. Fails only where no host memory is left.
+/// The verdict on a call of a function of the program, by the verdict on its arguments.
 fn function_entered<'p>(
     scope: &Scope<'_, 'p>,
     at: u32,
@@ -190,7 +189,7 @@ fn function_entered<'p>(
     }
 }
 
-/// A call of a function of the program. Fails only where no host memory is left.
+/// The verdict on a call of a function of the program.
 fn function_called<'p>(
     scope: &Scope<'_, 'p>,
     alloc: Global,
@@ -210,7 +209,7 @@ fn function_called<'p>(
     function_entered(scope, at, signature, fit)
 }
 
-/// A call of a function that every program has, by whether its arguments fit.
+/// The verdict on a call of a function that every program has, by the verdict on its arguments.
 fn builtin_entered<'p>(alloc: Global, at: u32, fit: Verdict<Vec<RegionId>>) -> Verdict<Value<'p>>
     ensures { (v : verdict.Verdict (List Region)) → short_of regions_in fit ≡ shortened v
         → short_of value_of result ≡ shortened (after v (λ rs. value at Int)) }
@@ -222,7 +221,7 @@ fn builtin_entered<'p>(alloc: Global, at: u32, fit: Verdict<Vec<RegionId>>) -> V
     }
 }
 
-/// The parameters of a function that every program has. Fails only where no host memory is left.
+/// The parameters of a function that every program has: `count` of them.
 fn builtin_parameters<'p>(alloc: Global, count: u32) -> Result<Vec<Option<CType<'p>>>, AllocError>
     ensures { IfOk result (λ types. parameter_types types.items ≡ builtin_parameters count) }
 {
@@ -233,7 +232,7 @@ fn builtin_parameters<'p>(alloc: Global, count: u32) -> Result<Vec<Option<CType<
     Ok(types)
 }
 
-/// A call of a function that every program has, with so many parameters. Fails only where no host memory is left.
+/// The verdict on a call of a function that every program has, which has `count` parameters.
 fn builtin_called<'p>(
     scope: &Scope<'_, 'p>,
     alloc: Global,
@@ -251,7 +250,7 @@ fn builtin_called<'p>(
     Ok(builtin_entered(alloc, at, fit))
 }
 
-/// A call, with this `rnew` around. Fails only where no host memory is left.
+/// The verdict on a call. `enclosing` is the region of the innermost `rnew` around it.
 pub fn called<'p>(
     scope: &Scope<'_, 'p>,
     alloc: Global,

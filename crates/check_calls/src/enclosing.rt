@@ -2,13 +2,13 @@
 
 use cyc_types::RegionId;
 
-/// What a call takes for its region variables that nothing fixes: the region of the innermost `rnew` around.
+/// The region that a call's region variables become if no argument instantiates them: that of the innermost enclosing `rnew`.
 #[derive(Clone, Copy)]
 pub enum Enclosing {
-    /// That of a handle, or the heap where there is no `rnew`.
+    /// The region of a handle, or the heap if there is no `rnew`.
     In(RegionId),
     /// The unique region, which no variable may be.
     Unique,
-    /// That of a handle which isn't known, or is none.
+    /// The region of a handle that has a fault or isn't known.
     NotKnown,
 }

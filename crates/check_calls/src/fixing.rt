@@ -1,4 +1,4 @@
-// What the region variables of a call are fixed to by its arguments.
+// What the region variables of a call are instantiated to by its arguments.
 
 ghost use Rattle.std.specs.List.{list_all};
 ghost use Rattle.std.specs.Prelude.{◌≡◌, [], ◌∷◌, IfOk, None, Some, is_some, option_map, replicate};
@@ -18,23 +18,23 @@ use check_operators::Value;
 use cyc_types::{BaseType, CType, Layer, RegionId};
 use std::alloc::{AllocError, Global};
 
-/// What a region variable is fixed to.
+/// What a region variable is instantiated to.
 #[derive(Clone, Copy)]
 pub(crate) enum Fixed {
     /// A region.
     Is(RegionId),
-    /// That of a unique pointer, which no variable may be.
+    /// The region of a unique pointer, which no variable may be.
     Unique,
 }
 
-/// What a region variable is fixed to, and where the argument stands that fixes it.
+/// What a region variable is instantiated to, and the position of the argument that does it.
 #[derive(Clone, Copy)]
 pub(crate) struct Fixing {
     pub is: Fixed,
     pub at: u32,
 }
 
-/// What a variable is fixed to by a pointer.
+/// What a pointer instantiates a variable to.
 fn fixed_by(pointer: Layer) -> Fixed
     ensures { found_of result ≡ found_in pointer }
 {
@@ -44,7 +44,7 @@ fn fixed_by(pointer: Layer) -> Fixed
     }
 }
 
-/// Fixes a variable, where nothing fixed it yet.
+/// Instantiates a variable, unless it is instantiated already.
 fn note_at(fixings: &mut Vec<Option<Fixing>>, variable: usize, fixing: Fixing)
     ensures { fixings_of fixings.new.items ≡ noted (fixings_of fixings.old.items) variable (fixing_of fixing) }
 {
@@ -55,7 +55,7 @@ fn note_at(fixings: &mut Vec<Option<Fixing>>, variable: usize, fixing: Fixing)
     }
 }
 
-/// Fixes the variable that a region of a parameter's type is.
+/// Instantiates the variable that a region of a parameter's type is. The heap is none.
 fn note(fixings: &mut Vec<Option<Fixing>>, region: RegionId, fixing: Fixing)
     ensures { fixings_of fixings.new.items ≡ fixed_with (fit fixing.at (region_of region) (found_of fixing.is) ∷ []) 0 (fixings_of fixings.old.items) }
 {
@@ -65,7 +65,7 @@ fn note(fixings: &mut Vec<Option<Fixing>>, region: RegionId, fixing: Fixing)
     }
 }
 
-/// Fixes what a pointer of a parameter's type fixes, by the one at its place.
+/// Instantiates the variable of a pointer in a parameter's type, by the argument's pointer at the same place in its type.
 #[tactic(auto, using(crate::proofs::Fixes::with_nothing))]
 fn note_pointer(fixings: &mut Vec<Option<Fixing>>, mine: Layer, theirs: Layer, at: u32)
     ensures { fixings_of fixings.new.items ≡ fixed_with (layer_fits at mine theirs) 0 (fixings_of fixings.old.items) }
@@ -79,7 +79,7 @@ fn note_pointer(fixings: &mut Vec<Option<Fixing>>, mine: Layer, theirs: Layer, a
     }
 }
 
-/// The same of pointers, from the innermost one on.
+/// Instantiates the variables of the pointers in a parameter's type, from the innermost one on.
 fn note_pointers(fixings: &mut Vec<Option<Fixing>>, mine: &[Layer], theirs: &[Layer], at: u32)
     ensures { fixings_of fixings.new.items ≡ fixed_with (pointer_fits at mine.now theirs.now) 0 (fixings_of fixings.old.items) }
 {
@@ -89,7 +89,7 @@ fn note_pointers(fixings: &mut Vec<Option<Fixing>>, mine: &[Layer], theirs: &[La
     }
 }
 
-/// The same of region arguments.
+/// Instantiates the variables among the region arguments of a parameter's struct or union.
 fn note_arguments(
     fixings: &mut Vec<Option<Fixing>>,
     mine: &[RegionId],
@@ -105,7 +105,7 @@ fn note_arguments(
     }
 }
 
-/// The same of types that are no pointers.
+/// Instantiates the variables in a parameter's type that is no pointer.
 #[tactic(auto, using(crate::proofs::Fixes::with_nothing, crate::proofs::Places::fit_none))]
 fn note_base(fixings: &mut Vec<Option<Fixing>>, mine: &BaseType, theirs: &BaseType, at: u32)
     ensures { fixings_of fixings.new.items ≡ fixed_with (fits_of at (base_type mine.now) (Some (base_type theirs.now))) 0 (fixings_of fixings.old.items) }
@@ -133,7 +133,7 @@ fn note_base(fixings: &mut Vec<Option<Fixing>>, mine: &BaseType, theirs: &BaseTy
     }
 }
 
-/// The same of what is under the pointers of two types, where there are as many.
+/// Instantiates the variables in what is below the pointers of a parameter's type, if the argument's type has as many.
 #[tactic(auto, using(crate::proofs::Fixes::with_nothing))]
 fn note_bases(fixings: &mut Vec<Option<Fixing>>, mine: &CType, theirs: &CType, at: u32)
     ensures { fixings_of fixings.new.items ≡ fixed_with (base_fits at mine.now theirs.now) 0 (fixings_of fixings.old.items) }
@@ -143,7 +143,7 @@ fn note_bases(fixings: &mut Vec<Option<Fixing>>, mine: &CType, theirs: &CType, a
     }
 }
 
-/// Fixes what a parameter's type fixes, by an argument's.
+/// Instantiates the variables of a parameter's type, by an argument's type.
 fn note_type(fixings: &mut Vec<Option<Fixing>>, mine: &CType, theirs: &CType, at: u32)
     ensures { fixings_of fixings.new.items ≡ fixed_with (fits_of at (static_type mine.now) (Some (static_type theirs.now))) 0 (fixings_of fixings.old.items) }
 {
@@ -159,7 +159,7 @@ fn note_type(fixings: &mut Vec<Option<Fixing>>, mine: &CType, theirs: &CType, at
     );
 }
 
-/// Fixes what a parameter's type fixes, where it is known, by an argument's.
+/// Instantiates the variables of a parameter's type, if it is known, by an argument.
 #[tactic(auto, using(crate::proofs::Fixes::with_nothing))]
 fn note_parameter(fixings: &mut Vec<Option<Fixing>>, parameter: &Option<CType>, argument: &Value)
     ensures { fixings_of fixings.new.items ≡ fixed_with (parameter_fits parameter.now argument.now) 0 (fixings_of fixings.old.items) }
@@ -170,7 +170,7 @@ fn note_parameter(fixings: &mut Vec<Option<Fixing>>, parameter: &Option<CType>, 
     }
 }
 
-/// Fixes what the parameters' types fix, by the arguments'.
+/// Instantiates the variables of all parameters' types, by the arguments.
 fn note_types(fixings: &mut Vec<Option<Fixing>>, parameters: &[Option<CType>], arguments: &[Value])
     ensures { fixings_of fixings.new.items ≡ fixed_with (fits_all parameters.now arguments.now) 0 (fixings_of fixings.old.items) }
 {
@@ -180,7 +180,7 @@ fn note_types(fixings: &mut Vec<Option<Fixing>>, parameters: &[Option<CType>], a
     }
 }
 
-/// So many region variables that nothing fixes yet.
+/// A table of `variables` region variables that aren't instantiated.
 fn not_fixed(alloc: Global, variables: u32) -> Result<Vec<Option<Fixing>>, AllocError>
     ensures { IfOk result (λ fixings. fixings_of fixings.items ≡ replicate variables None) }
 {
@@ -191,7 +191,7 @@ fn not_fixed(alloc: Global, variables: u32) -> Result<Vec<Option<Fixing>>, Alloc
     Ok(fixings)
 }
 
-/// What a variable of a call at a place is fixed to that no argument fixes.
+/// What instantiates the variables that no argument does, in a call at this position.
 fn last_fixing(enclosing: Enclosing, at: u32) -> Option<Fixing>
     ensures { option_map fixing_of result ≡ last_fixing (enclosing_of enclosing) at }
 {
@@ -208,7 +208,7 @@ fn last_fixing(enclosing: Enclosing, at: u32) -> Option<Fixing>
     }
 }
 
-/// Fixes each variable that nothing fixed yet.
+/// Instantiates all remaining variables.
 fn note_all(fixings: &mut Vec<Option<Fixing>>, last: Fixing)
     ensures { fixings_of fixings.new.items ≡ settled (Some (fixing_of last)) (fixings_of fixings.old.items) }
 {
@@ -217,7 +217,7 @@ fn note_all(fixings: &mut Vec<Option<Fixing>>, last: Fixing)
     }
 }
 
-/// The same, where there is what fixes them.
+/// Instantiates all remaining variables, if it is known to what.
 #[tactic(auto, using(crate::proofs::Settling::settled_by_none))]
 fn settle(fixings: &mut Vec<Option<Fixing>>, last: Option<Fixing>)
     ensures { fixings_of fixings.new.items ≡ settled (option_map fixing_of last) (fixings_of fixings.old.items) }
@@ -228,7 +228,7 @@ fn settle(fixings: &mut Vec<Option<Fixing>>, last: Option<Fixing>)
     }
 }
 
-/// What so many region variables of a call at a place are fixed to. Fails only where no host memory is left.
+/// What the region variables of a call are instantiated to.
 pub(crate) fn fixings_for(
     alloc: Global,
     enclosing: Enclosing,
@@ -246,7 +246,7 @@ pub(crate) fn fixings_for(
     Ok(fixings)
 }
 
-/// Whether something fixes each variable.
+/// Whether all variables are instantiated.
 pub(crate) fn are_settled(fixings: &[Option<Fixing>]) -> bool
     ensures { result ≡ list_all (λ fixing. is_some fixing) fixings.now }
 {
@@ -271,7 +271,7 @@ fn fixing_fault(fixing: Option<Fixing>) -> Option<Fault>
     }
 }
 
-/// The fault of the variables that is answered.
+/// The earliest fault of the variables.
 pub(crate) fn fixings_fault(fixings: &[Option<Fixing>]) -> Option<Fault>
     ensures { faults_of result ≡ earliest (fixing_faults (fixings_of fixings.now)) }
 {
@@ -282,7 +282,7 @@ pub(crate) fn fixings_fault(fixings: &[Option<Fixing>]) -> Option<Fault>
     found
 }
 
-/// What a variable stands for; the heap stands in for one at fault, and for one that nothing fixes.
+/// The region that a variable stands for. It is the heap if the variable is invalid or isn't instantiated.
 fn region_by(fixing: Option<Fixing>) -> RegionId
     ensures { regions_of (result ∷ []) ≡ regions_by (fixings_of (fixing ∷ [])) }
 {
@@ -297,7 +297,7 @@ fn region_by(fixing: Option<Fixing>) -> RegionId
     }
 }
 
-/// What the variables stand for.
+/// The regions that the variables stand for.
 pub(crate) fn regions_by(
     alloc: Global,
     fixings: &[Option<Fixing>],

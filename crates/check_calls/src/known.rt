@@ -24,7 +24,7 @@ fn is_known_variable(fixings: &[Option<Fixing>], variable: usize) -> bool
     }
 }
 
-/// Whether a variable that is fixed so stands for a region.
+/// Whether a variable that is instantiated so stands for a region.
 fn stands_for_one(fixing: Option<Fixing>) -> bool
     ensures { result ≡ is_known (which_are_known (fixings_of (fixing ∷ []))) (Level 0) }
 {
@@ -39,7 +39,7 @@ fn stands_for_one(fixing: Option<Fixing>) -> bool
     }
 }
 
-/// Whether it is known what a region stands for.
+/// Whether it is known what a region of a parameter's type stands for.
 fn is_known(fixings: &[Option<Fixing>], region: RegionId) -> bool
     ensures { result ≡ is_known (which_are_known (fixings_of fixings.now)) (region_of region) }
 {
@@ -49,7 +49,7 @@ fn is_known(fixings: &[Option<Fixing>], region: RegionId) -> bool
     }
 }
 
-/// The same of a pointer's region.
+/// Whether it is known what a pointer's region stands for.
 fn is_known_pointer(fixings: &[Option<Fixing>], pointer: Layer) -> bool
     ensures { result ≡ layer_holds (is_known (which_are_known (fixings_of fixings.now))) pointer }
 {
@@ -59,7 +59,7 @@ fn is_known_pointer(fixings: &[Option<Fixing>], pointer: Layer) -> bool
     }
 }
 
-/// The same of the regions of pointers.
+/// Whether it is known what the pointers' regions stand for.
 fn are_known_pointers(fixings: &[Option<Fixing>], pointers: &[Layer]) -> bool
     ensures { result ≡ list_all (layer_holds (is_known (which_are_known (fixings_of fixings.now)))) pointers.now }
 {
@@ -68,14 +68,14 @@ fn are_known_pointers(fixings: &[Option<Fixing>], pointers: &[Layer]) -> bool
         .all(|pointer| is_known_pointer(fixings, *pointer))
 }
 
-/// The same of region arguments.
+/// Whether it is known what the region arguments stand for.
 fn are_known(fixings: &[Option<Fixing>], regions: &[RegionId]) -> bool
     ensures { result ≡ list_all (λ r. is_known (which_are_known (fixings_of fixings.now)) (region_of r)) regions.now }
 {
     regions.iter().all(|region| is_known(fixings, *region))
 }
 
-/// The same of a type that is no pointer.
+/// Whether it is known what the regions of a type that is no pointer stand for.
 #[tactic(auto, using(crate::proofs::Holding::each_is))]
 fn is_known_base(fixings: &[Option<Fixing>], of: &BaseType) -> bool
     ensures { result ≡ all_regions (is_known (which_are_known (fixings_of fixings.now))) (base_type of.now) }

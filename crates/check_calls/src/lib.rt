@@ -1,6 +1,8 @@
 //! Calls: what is called, what its region variables stand for, the conversions of its arguments, and what the callee asks for.
 //!
-//! What is said of a call is what the rules of `source_typing` say of it.
+//! The verdict on a call is that of the rules of `source_typing`.
+//!
+//! Each function that answers a `Result` fails only where no host memory is left.
 #![tactic(auto)]
 
 mod arguments;

@@ -27,7 +27,7 @@ use cyc_types::{BaseType, CType, Member, RegionId, Tag};
 use smallvec::SmallVec;
 use std::alloc::{AllocError, Global};
 
-/// The type of a member, where it is known. Fails only where no host memory is left.
+/// The type of a member, if it is known.
 pub(crate) fn member_type<'p>(member: &Member<'p>) -> Result<Option<CType<'p>>, AllocError>
     ensures { IfOk result (λ of. option_map static_type of ≡ option_map static_type member.now.of) }
 {
@@ -37,7 +37,7 @@ pub(crate) fn member_type<'p>(member: &Member<'p>) -> Result<Option<CType<'p>>, 
     }
 }
 
-/// The types of members, which are a making's parameters. Fails only where no host memory is left.
+/// The types of members. They are the parameters of the struct's making.
 fn member_types<'p>(
     alloc: Global,
     members: &[Member<'p>],
@@ -51,7 +51,7 @@ fn member_types<'p>(
     Ok(types)
 }
 
-/// A struct by what its region parameters stand for. Fails only where no host memory is left.
+/// The value of a struct. `regions` are what its region parameters stand for.
 fn struct_of<'p>(
     alloc: Global,
     at: u32,
@@ -65,7 +65,7 @@ fn struct_of<'p>(
     Ok(given(at, CType::plain(alloc, base)))
 }
 
-/// A struct by whether the arguments fit its members. Fails only where no host memory is left.
+/// The verdict on a struct that is made, by the verdict on its arguments.
 fn made<'p>(
     alloc: Global,
     at: u32,
@@ -82,7 +82,7 @@ fn made<'p>(
     }
 }
 
-/// A struct that is made of arguments, which fix its region parameters. Fails only where no host memory is left.
+/// The verdict on a struct that is made of these arguments, which instantiate its region parameters.
 pub(crate) fn struct_called<'p>(
     scope: &Scope<'_, 'p>,
     alloc: Global,

@@ -18,7 +18,7 @@ use cyc_types::{Tables, Tag};
 /// What is called.
 #[derive(Clone, Copy)]
 pub enum Target<'a, 'p> {
-    /// A function that every program has, with so many parameters.
+    /// A function that every program has, with its number of parameters.
     Builtin(u32),
     /// A struct by its name, which is made of its members.
     Struct(&'p [u8], &'a Tag<'p>),
@@ -26,7 +26,7 @@ pub enum Target<'a, 'p> {
     Function(&'a Signature<'p>),
 }
 
-/// A struct that is made, where there is one of its name.
+/// The struct of this name, as what is called.
 fn struct_named<'a, 'p>(tables: &'a Tables<'p>, name: &[u8]) -> Verdict<Target<'a, 'p>>
     ensures { short_of target_of result ≡ shortened (struct_in (tag_in (tables_of tables.now) name.now)) }
 {
@@ -36,7 +36,7 @@ fn struct_named<'a, 'p>(tables: &'a Tables<'p>, name: &[u8]) -> Verdict<Target<'
     }
 }
 
-/// What a name calls by what it means; a struct's name makes that struct.
+/// What is called by a name of this meaning. `made` is the struct of the name.
 fn target_by<'a, 'p>(
     at: u32,
     named: Option<Named<'a, 'p>>,
@@ -73,8 +73,8 @@ fn target_by<'a, 'p>(
     }
 }
 
-/// What a name at a place calls, by what it means. An unknown name is at fault, and one that can't be called; one whose declaration is
-/// at fault isn't judged.
+/// What a name at this position calls, by its meaning. It is a fault if the name is unknown or can't be called. If its declaration has an
+/// error, the call isn't checked.
 pub fn called_target<'a, 'p>(
     tables: &'a Tables<'p>,
     at: u32,

@@ -35,16 +35,16 @@ use cyc_types::{BaseType, CType, Member, RegionId, Tables, Tag};
 use smallvec::SmallVec;
 use std::alloc::{AllocError, Global};
 
-/// A member of a union that a value is made of.
+/// The member of a union that a value is made of.
 #[derive(Clone, Copy)]
 pub struct UnionMember<'a, 'p> {
-    /// The union's name, as it was declared.
+    /// The union's name in its declaration.
     pub text: &'p [u8],
     pub tag: &'a Tag<'p>,
     pub member: &'a Member<'p>,
 }
 
-/// The member of a name.
+/// The member of this name.
 fn member_named<'a, 'p>(members: &'a [Member<'p>], name: &[u8]) -> Option<&'a Member<'p>>
     ensures { option_map (λ m. member_of m.now) result ≡ part_in (members_of members.now) name.now }
 {
@@ -56,7 +56,7 @@ fn member_named<'a, 'p>(members: &'a [Member<'p>], name: &[u8]) -> Option<&'a Me
     None
 }
 
-/// A union's member by its name.
+/// The member of this name in a union.
 fn member_in<'a, 'p>(text: &'p [u8], tag: &'a Tag<'p>, field: &Name) -> Verdict<UnionMember<'a, 'p>>
     ensures { short_of made_of result ≡ shortened (union_member (name_tree field.now) (tag_of text.entry.now tag.now)
         (part_in (members_of tag.now.members.items) field.now.text.items)) }
@@ -70,7 +70,7 @@ fn member_in<'a, 'p>(text: &'p [u8], tag: &'a Tag<'p>, field: &Name) -> Verdict<
     }
 }
 
-/// A member of the union of a name, where there is one.
+/// The member `field` of the union of this name.
 fn union_named<'a, 'p>(
     tables: &'a Tables<'p>,
     name: &[u8],
@@ -84,7 +84,7 @@ fn union_named<'a, 'p>(
     }
 }
 
-/// What a name and a member's name make by what the name means; a union's name makes that union.
+/// The member that a value is made of, by the meaning of the union's name. `made` is the member in the union of that name.
 fn union_by<'a, 'p>(
     at: u32,
     named: Option<Named<'_, 'p>>,
@@ -118,8 +118,8 @@ fn union_by<'a, 'p>(
     }
 }
 
-/// The union and the member that a value is made of, by what the union's name means. An unknown name is at fault, and one of no union;
-/// one whose declaration is at fault isn't judged.
+/// The union and its member that a value is made of, by the meaning of the union's name. It is a fault if the name is unknown or is no
+/// union's. If its declaration has an error, the value isn't checked.
 pub fn union_tag<'a, 'p>(
     tables: &'a Tables<'p>,
     name: &Name,
@@ -133,7 +133,7 @@ pub fn union_tag<'a, 'p>(
     union_by(name.at, named, made)
 }
 
-/// A value of a union by what its region parameters stand for. Fails only where no host memory is left.
+/// The value of a union. `regions` are what its region parameters stand for.
 fn union_of<'p>(
     alloc: Global,
     at: u32,
@@ -147,7 +147,7 @@ fn union_of<'p>(
     Ok(given(at, CType::plain(alloc, base)))
 }
 
-/// A value of a union by whether what it is made of fits. Fails only where no host memory is left.
+/// The verdict on a union's value, by the verdict on what it is made of.
 fn made<'p>(
     alloc: Global,
     at: u32,
@@ -164,8 +164,8 @@ fn made<'p>(
     }
 }
 
-/// A value of a union that is made of a member's value, which fixes its region parameters, with this `rnew` around. Fails only where no
-/// host memory is left.
+/// The verdict on a union's value that is made of a member's value, which instantiates the union's region parameters. `enclosing` is the
+/// region of the innermost `rnew` around it.
 pub fn union_made<'p>(
     scope: &Scope<'_, 'p>,
     alloc: Global,

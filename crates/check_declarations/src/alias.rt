@@ -41,8 +41,7 @@ pub(crate) struct Alias<'p> {
     pub(crate) source: &'p Name,
 }
 
-/// A unique pointer's type with this region for its outermost one; any other type stays as it is. Fails only where no host memory is
-/// left.
+/// A unique pointer's type with this region for its outermost one; any other type stays as it is.
 fn aliased<'p>(region: RegionId, of: CType<'p>) -> Result<CType<'p>, AllocError>
     ensures { IfOk result (λ t. static_type t ≡ aliased (region_of region) (static_type of.entry)) }
 {
@@ -57,7 +56,7 @@ fn aliased<'p>(region: RegionId, of: CType<'p>) -> Result<CType<'p>, AllocError>
     }
 }
 
-/// The type of an alias, which has to be that of its pointer with the alias's region. Fails only where no host memory is left.
+/// The type of an alias, which has to be that of its pointer with the alias's region.
 fn fitting<'p>(
     of: Verdict<CType<'p>>,
     at: u32,
@@ -84,7 +83,7 @@ fn fitting<'p>(
     }
 }
 
-/// The type of an alias as it is written, by what was judged of its pointer. Fails only where no host memory is left.
+/// The type of an alias as it is written, by what was judged of its pointer.
 fn settled_by<'p>(
     written: WrittenType<'p>,
     at: u32,
@@ -105,7 +104,7 @@ fn settled_by<'p>(
     }
 }
 
-/// The type of an alias. Fails only where no host memory is left.
+/// The type of an alias.
 fn alias_type<'p>(
     written: Verdict<WrittenType<'p>>,
     at: u32,
@@ -124,8 +123,7 @@ fn alias_type<'p>(
     }
 }
 
-/// The declaration of an alias, apart from its name: its earliest fault, and what it is. Its region begins. Fails only where no host
-/// memory is left.
+/// The declaration of an alias, apart from its name: its earliest fault, and what it is. Its region begins.
 pub(crate) fn own_alias<'p>(
     scope: &mut Scope<'_, 'p>,
     names: &mut RegionNames<'p>,

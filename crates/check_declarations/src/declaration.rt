@@ -29,7 +29,6 @@ use cyc_tree::{Declaration, Name};
 use std::alloc::{AllocError, Global};
 
 /// A declaration, apart from its local: its earliest fault, and what the local is. The region begins that it declares, or is opened.
-/// Fails only where no host memory is left.
 fn declared_own<'p>(
     scope: &mut Scope<'_, 'p>,
     names: &mut RegionNames<'p>,
@@ -65,7 +64,7 @@ fn declared_own<'p>(
 }
 
 /// Declares a local of this name in the innermost block, whose own locals come after the first `outer` ones, and answers the earliest
-/// fault: a second one of a name leaves the first. Fails only where no host memory is left.
+/// fault: a second one of a name leaves the first.
 fn add_local<'p>(
     scope: &mut Scope<'_, 'p>,
     outer: usize,
@@ -93,7 +92,7 @@ fn add_local<'p>(
 
 /// Declares a local in the innermost block, whose own locals come after the first `outer` ones, and answers the earliest fault of its
 /// declaration. One whose declaration is at fault is declared as one of no known type, apart from a handle, and a second one of a name
-/// leaves the first. Fails only where no host memory is left.
+/// leaves the first.
 pub fn declare<'p>(
     scope: &mut Scope<'_, 'p>,
     names: &mut RegionNames<'p>,

@@ -21,7 +21,7 @@ use check_types::{TagName, type_tag};
 use cyc_tree::TypeName;
 use cyc_types::{BaseType, CType, MOST_BYTES, Tables};
 
-/// What a name means where a tag is wanted, by what it means in scope. One whose declaration is at fault isn't judged, whatever it is.
+/// What a name means where a tag is wanted, by what it means in scope. A name whose declaration has a fault isn't judged.
 fn tag_name(named: Option<Named<'_, '_>>) -> TagName
     ensures { result ≡ tag_of_meaning (option_map meaning_of named.entry) }
 {
@@ -50,7 +50,7 @@ pub(crate) fn local_tag(scope: &Scope<'_, '_>, of: &TypeName) -> TagName
     }
 }
 
-/// Whether a struct or union of a name, where there is one, stands earlier than so many items.
+/// Whether the struct or union of a name, if there is one, stands before the item number `item`.
 fn is_earlier(tables: &Tables, item: u32, name: &[u8]) -> bool
     ensures { result ≡ tag_earlier item (tag_in (tables_of tables.now) name.now) }
 {
@@ -60,7 +60,7 @@ fn is_earlier(tables: &Tables, item: u32, name: &[u8]) -> bool
     }
 }
 
-/// Whether the struct or union that a type is that is no pointer stands earlier than so many items.
+/// Whether the struct or union that this base type is, if it is one, stands before the item number `item`.
 fn base_before(tables: &Tables, item: u32, base: &BaseType) -> bool
     ensures { result ≡ stands_before (tables_of tables.now) item (base_type base.now) }
 {
@@ -70,7 +70,7 @@ fn base_before(tables: &Tables, item: u32, base: &BaseType) -> bool
     }
 }
 
-/// Whether the struct or union that a type is stands earlier than so many items.
+/// Whether the struct or union that a type is, if it is one, stands before the item number `item`.
 #[tactic(auto, using(crate::proofs::LocalTypes::plain_stands, crate::proofs::LocalTypes::pointer_stands))]
 fn stands_before(tables: &Tables, item: u32, of: &CType) -> bool
     ensures { result ≡ stands_before (tables_of tables.now) item (static_type of.now) }
@@ -81,7 +81,7 @@ fn stands_before(tables: &Tables, item: u32, of: &CType) -> bool
     }
 }
 
-/// Whether a variable of a type, or an array of so many elements of it, has at most 4,096 bytes.
+/// Whether a variable of a type, or an array of `count` elements of it, has at most 4,096 bytes.
 fn is_sized(tables: &Tables, of: &CType, count: Option<u32>) -> bool
     ensures { result ≡ fits_bytes (variable_size (tables_of tables.now) count (static_type of.now)) }
 {
@@ -104,7 +104,7 @@ fn elements_fit(count: Option<u32>, of: &CType) -> bool
     }
 }
 
-/// Whether a local, or an array of so many elements, may be of a type, by whether it has an initializer.
+/// Whether a local, or an array of `count` elements, may have a type, by whether it has an initializer.
 fn could_be(tables: &Tables, item: u32, of: &CType, count: Option<u32>, set: bool) -> bool
     ensures { result ≡ could_be (tables_of tables.now) item count set (static_type of.now) }
 {

@@ -2,6 +2,8 @@
 //!
 //! What is said of them are the rules of `source_typing`: `declare` answers the earliest of the faults that these find in a declaration, and
 //! the scope in code stays known as the rules' one is; so it does where a parameter is declared, or the name of a clause of a `switch`.
+//!
+//! Each function that answers a `Result` fails only where no host memory is left.
 #![tactic(auto)]
 
 mod alias;

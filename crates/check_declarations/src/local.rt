@@ -41,7 +41,7 @@ pub(crate) struct Judged<'p> {
     pub(crate) what: What<'p>,
 }
 
-/// The fault of an initializer that is converted to its local's type. Fails only where no host memory is left.
+/// The fault of an initializer that is converted to its local's type.
 fn conversion(
     scope: &Scope,
     value: &Verdict<Value<'_>>,
@@ -57,7 +57,7 @@ fn conversion(
     }
 }
 
-/// The earliest fault of a local's type and its initializer. Fails only where no host memory is left.
+/// The earliest fault of a local's type and its initializer.
 pub fn set_fault(
     scope: &Scope,
     value: &Verdict<Value<'_>>,
@@ -71,7 +71,7 @@ pub fn set_fault(
     Ok(sooner(sooner(of.fault(), value.fault()), conversion))
 }
 
-/// A variable of a type, or an array of so many elements of it.
+/// A variable of a type, or an array of `count` elements of it.
 fn what_of_type<'p>(frame: RegionId, count: Option<u32>, of: CType<'p>) -> What<'p>
     ensures { WhatIs (what_of (region_of frame) count (verdict.Of (static_type of.entry))) result }
 {
@@ -114,7 +114,7 @@ fn judged_as<'p>(
     }
 }
 
-/// A local without an initializer, or an array of so many elements. Fails only where no host memory is left.
+/// A local without an initializer, or an array of `count` elements.
 fn unset<'p>(
     scope: &Scope<'_, 'p>,
     names: &RegionNames<'_>,
@@ -131,7 +131,7 @@ fn unset<'p>(
     Ok(judged_as(found.fault(), context.frame, count, found))
 }
 
-/// A local with an initializer. Fails only where no host memory is left.
+/// A local with an initializer.
 fn set<'p>(
     scope: &Scope<'_, 'p>,
     names: &RegionNames<'_>,
@@ -177,7 +177,7 @@ pub(crate) fn unknown_local<'p>(fault: Option<Fault>) -> Judged<'p>
     }
 }
 
-/// A local by its type and its initializer. Fails only where no host memory is left.
+/// A local by its type and its initializer.
 pub(crate) fn local<'p>(
     scope: &Scope<'_, 'p>,
     names: &RegionNames<'_>,

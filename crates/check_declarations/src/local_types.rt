@@ -25,7 +25,7 @@ use cyc_tree::TypeName;
 use cyc_types::CType;
 use std::alloc::{AllocError, Global};
 
-/// The type of a local, or of the elements of an array of so many, by its settled type.
+/// The type of a local, or of the elements of an array of `count`, by its settled type.
 fn fitting<'p>(
     scope: &Scope<'_, 'p>,
     item: u32,
@@ -45,7 +45,7 @@ fn fitting<'p>(
     }
 }
 
-/// The same, with its missing regions from that of its initializer. Fails only where no host memory is left.
+/// The same, with its missing regions from that of its initializer.
 fn local_type<'p>(
     scope: &Scope<'_, 'p>,
     item: u32,
@@ -70,7 +70,7 @@ fn local_type<'p>(
     }
 }
 
-/// The type of a local without an initializer, or of the elements of an array of so many. Fails only where no host memory is left.
+/// The type of a local without an initializer, or of the elements of an array of `count`.
 pub(crate) fn unset_type<'p>(
     scope: &Scope<'_, 'p>,
     names: &RegionNames<'_>,
@@ -96,7 +96,7 @@ fn unsettled<'p>(of: &Verdict<WrittenType<'p>>) -> Verdict<CType<'p>>
     Verdict::wrong_if(of.fault())
 }
 
-/// The type of a local that takes missing regions from its initializer. Fails only where no host memory is left.
+/// The type of a local that takes missing regions from its initializer.
 fn taken_from<'p>(
     scope: &Scope<'_, 'p>,
     item: u32,
@@ -115,7 +115,7 @@ fn taken_from<'p>(
     }
 }
 
-/// The type of a local with an initializer. Fails only where no host memory is left.
+/// The type of a local with an initializer.
 pub(crate) fn set_type<'p>(
     scope: &Scope<'_, 'p>,
     names: &RegionNames<'_>,

@@ -31,7 +31,7 @@ impl<'a, 'p> MemberNames<'a, 'p> {
         }
     }
 
-    /// Adds a member, unless there is one of its name. Fails only where no host memory is left.
+    /// Adds a member, unless there is one of its name.
     fn add(&mut self, member: &'a Member<'p>) -> Result<(), AllocError>
         ensures { OnOk result ((x : List ℕ)
             → member_named self.new x ≡ or_part (member_named self.old x) (part_in (member_of member.entry.now ∷ []) x)) }
@@ -54,7 +54,7 @@ impl<'a, 'p> MemberNames<'a, 'p> {
     }
 }
 
-/// These members by their names. Fails only where no host memory is left.
+/// These members by their names.
 pub(crate) fn by_name<'a, 'p>(
     alloc: Global,
     members: &'a [Member<'p>],

@@ -75,7 +75,7 @@ fn chosen_of<'a>(place: &'a Verdict<Value<'_>>) -> Option<Chosen<'a>>
     }
 }
 
-/// The members of a union by their names. Fails only where no host memory is left.
+/// The members of a union by their names.
 fn names_in<'a, 'p>(
     tables: &'a Tables<'p>,
     alloc: Global,
@@ -90,8 +90,7 @@ fn names_in<'a, 'p>(
     }
 }
 
-/// The union of a `switch` on what was judged, with its members by their names, where it is one's place. Fails only where no host memory
-/// is left.
+/// The union of a `switch` on what was judged, with its members by their names, where it is one's place.
 pub fn union_of<'a, 'p>(
     tables: &'a Tables<'p>,
     alloc: Global,
@@ -146,7 +145,7 @@ fn base_union<'a>(of: &'a BaseType<'_>) -> Option<Chosen<'a>>
     }
 }
 
-/// What the name of a clause stands for: a copy of the member, in the clause's stack region. Fails only where no host memory is left.
+/// What the name of a clause stands for: a copy of the member, in the clause's stack region.
 fn bound_what<'p>(
     union: &Option<SwitchedUnion<'_, 'p>>,
     frame: RegionId,
@@ -176,7 +175,7 @@ fn bound_member<'p>(
     }
 }
 
-/// A copy of a member of a union with these region arguments; one of no known type isn't known. Fails only where no host memory is left.
+/// A copy of a member of a union with these region arguments; one of no known type isn't known.
 fn member_what<'p>(
     member: &Member<'p>,
     regions: &[RegionId],
@@ -193,7 +192,7 @@ fn member_what<'p>(
     }
 }
 
-/// Declares the name of a clause in its block, which has no locals yet. Fails only where no host memory is left.
+/// Declares the name of a clause in its block, which has no locals yet.
 pub fn bind<'p>(
     scope: &mut Scope<'_, 'p>,
     union: &Option<SwitchedUnion<'_, 'p>>,

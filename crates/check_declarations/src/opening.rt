@@ -83,7 +83,7 @@ fn unknown_fault(names: &RegionNames<'_>, region: &RegionName) -> Option<Fault>
     }
 }
 
-/// The region of a name at a place, which has to be that of the key.
+/// The region of a name at this position, which has to be that of the key.
 fn opens(at: u32, named: Option<RegionId>, key: &CType) -> Verdict<RegionId>
     ensures { (v : judged.Value) → v.type ≡ static_type key.now → short_of region_of result ≡ shortened (opens at (option_map region_of named) v) }
 {
@@ -114,7 +114,7 @@ fn opened_by(
     }
 }
 
-/// The region that is opened by a key. Fails only where no host memory is left.
+/// The region that is opened by a key.
 fn opened_region(
     scope: &Scope<'_, '_>,
     names: &RegionNames<'_>,
@@ -132,7 +132,7 @@ fn opened_region(
 }
 
 /// The declaration of a region that is opened, apart from its handle: its earliest fault, and what the handle is. The region is live from
-/// here on. Fails only where no host memory is left.
+/// here on.
 pub(crate) fn own_open<'p>(
     scope: &mut Scope<'_, 'p>,
     names: &RegionNames<'_>,

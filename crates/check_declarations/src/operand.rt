@@ -49,7 +49,7 @@ fn is_kind(kind: Kind, of: &CType) -> bool
     }
 }
 
-/// A name at a place whose type has to be of a kind.
+/// A name at this position, whose type has to be of a kind.
 fn of_kind<'p>(at: u32, kind: Kind, value: Verdict<Value<'p>>) -> Verdict<Value<'p>>
     ensures { (v : verdict.Verdict judged.Value) → short_of value_of value.entry ≡ shortened v
         → short_of value_of result ≡ shortened (verdict.after v (if_type at (is_kind kind))) }
@@ -70,7 +70,7 @@ fn of_kind<'p>(at: u32, kind: Kind, value: Verdict<Value<'p>>) -> Verdict<Value<
     }
 }
 
-/// A name whose type has to be of a kind. Fails only where no host memory is left.
+/// A name whose type has to be of a kind.
 pub(crate) fn operand<'p>(
     scope: &Scope<'_, 'p>,
     alloc: Global,
@@ -83,7 +83,7 @@ pub(crate) fn operand<'p>(
     Ok(of_kind(name.at, kind, value))
 }
 
-/// The earliest fault of such a name. Fails only where no host memory is left.
+/// The earliest fault of such a name.
 #[tactic(auto, using(check_heads::proofs::Answered::fault_is))]
 pub fn operand_fault(
     scope: &Scope<'_, '_>,

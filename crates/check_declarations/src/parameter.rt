@@ -18,7 +18,7 @@ use check_scopes::{Scope, What};
 use cyc_types::{CType, RegionId};
 use std::alloc::AllocError;
 
-/// What a parameter of a type is as a local of the block with this stack region. Fails only where no host memory is left.
+/// What a parameter of a type is as a local of the block with this stack region.
 fn local_of<'p>(frame: RegionId, of: &Verdict<CType<'p>>) -> Result<What<'p>, AllocError>
     ensures { IfOk result (λ w. WhatIs (what_of_known (region_of frame) (known_static of.now)) w) }
 {
@@ -28,7 +28,7 @@ fn local_of<'p>(frame: RegionId, of: &Verdict<CType<'p>>) -> Result<What<'p>, Al
     }
 }
 
-/// Declares a parameter in the body's block; a second one of a name leaves the first. Fails only where no host memory is left.
+/// Declares a parameter in the body's block; a second one of a name leaves the first.
 pub fn declare_parameter<'p>(
     scope: &mut Scope<'_, 'p>,
     context: Context<'_, 'p>,

@@ -31,7 +31,7 @@ pub(crate) struct NextRegion {
     pub(crate) fault: Option<Fault>,
 }
 
-/// The region that begins where so many region names are in scope. A number over a u32 is want of memory.
+/// The region that begins if `names` region names are in scope. If their number is over a u32, memory has run out.
 pub fn next_region(names: usize) -> Result<RegionId, AllocError>
     ensures { IfOk result (λ r. region_of r ≡ Level names) }
 {
@@ -65,7 +65,7 @@ fn visible_fault(names: &RegionNames<'_>, region: &RegionName) -> Option<Fault>
     }
 }
 
-/// Adds the name of a region, where none of its spelling is visible. Fails only where no host memory is left.
+/// Adds the name of a region, where none of its spelling is visible.
 fn add_region<'p>(
     names: &mut RegionNames<'p>,
     region: &'p RegionName,
@@ -84,8 +84,7 @@ fn add_region<'p>(
     }
 }
 
-/// The region of a name that is declared: its number, and the fault of the name, which is in scope from here on. Fails only where no
-/// host memory is left.
+/// The region of a name that is declared: its number, and the fault of the name, which is in scope from here on.
 pub(crate) fn next_named<'p>(
     scope: &Scope<'_, 'p>,
     names: &mut RegionNames<'p>,
@@ -103,8 +102,7 @@ pub(crate) fn next_named<'p>(
     Ok(NextRegion { id, fault })
 }
 
-/// The declaration of a lexical region, apart from its local: its earliest fault, and what the local is. The region begins. Fails only
-/// where no host memory is left.
+/// The declaration of a lexical region, apart from its local: its earliest fault, and what the local is. The region begins.
 pub(crate) fn own_region<'p>(
     scope: &mut Scope<'_, 'p>,
     names: &mut RegionNames<'p>,
@@ -129,8 +127,7 @@ pub(crate) fn own_region<'p>(
     Ok(plain_local(alloc, context, next.fault, handle))
 }
 
-/// The declaration of a dynamic region, apart from its key. The region begins, and isn't live yet. Fails only where no host memory is
-/// left.
+/// The declaration of a dynamic region, apart from its key. The region begins, and isn't live yet.
 pub(crate) fn own_key<'p>(
     scope: &mut Scope<'_, 'p>,
     names: &mut RegionNames<'p>,

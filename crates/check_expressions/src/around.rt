@@ -33,7 +33,7 @@ pub fn is_counter(counters: &[&[u8]], name: &[u8]) -> bool
     counters.iter().any(|counter| *counter == name)
 }
 
-/// The indexes of arrays that are made around, and of one more. Fails only where no host memory is left.
+/// The indexes of arrays that are made around, and of one more.
 pub fn with_counter<'a>(
     alloc: Global,
     counters: &[&'a [u8]],

@@ -30,7 +30,7 @@ use cyc_types::RegionId;
 use std::alloc::{AllocError, Global};
 
 /// What an expression is in a scope: the earliest fault of it and its parts; that it isn't judged, since a name in it is declared by a
-/// phrase at fault; or its type, and where it is a place. Fails only where no host memory is left.
+/// phrase at fault; or its type, and where it is a place.
 #[tactic(auto, using(crate::proofs::Within::nothing_around))]
 pub fn judge<'p>(
     scope: &Scope<'_, 'p>,
@@ -208,7 +208,7 @@ fn judge_suffixes<'p>(
     Ok(judged)
 }
 
-/// What is made at a place, by where it is made. In the element of an array its index is in scope.
+/// An allocation at this position, by its region. In the element of an array comprehension its index is in scope.
 #[cycle(expression)]
 fn judge_made<'p>(
     scope: &Scope<'_, 'p>,

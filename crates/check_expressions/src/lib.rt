@@ -1,4 +1,6 @@
 //! What the expressions of a program are.
+//!
+//! Each function that answers a `Result` fails only where no host memory is left.
 #![tactic(auto)]
 
 mod around;

@@ -24,7 +24,7 @@ use check_scopes::Scope;
 use cyc_tree::{Name, Operator, Prefix};
 use std::alloc::{AllocError, Global};
 
-/// A form that is at fault wherever it stands.
+/// A construct that is a fault everywhere.
 pub(crate) fn refused<'p>(at: u32) -> Verdict<Value<'p>>
     ensures { short_of value_of result ≡ Wrong (fault type_rule at) }
 {

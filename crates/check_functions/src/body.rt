@@ -26,7 +26,7 @@ use cyc_tree::{BlockItem, Function};
 use cyc_types::{CType, RegionId};
 use std::alloc::{AllocError, Global};
 
-/// Declares the parameters in the body's block. Fails only where no host memory is left.
+/// Declares the parameters in the body's block.
 fn declare_parameters<'p>(
     scope: &mut Scope<'_, 'p>,
     context: Context<'_, 'p>,
@@ -41,7 +41,7 @@ fn declare_parameters<'p>(
     Ok(())
 }
 
-/// The earliest fault of a body's items, whose block's locals are the parameters. Fails only where no host memory is left.
+/// The earliest fault of a body's items, whose block's locals are the parameters.
 fn inside_fault<'p>(
     scope: &mut Scope<'_, 'p>,
     known: &mut RegionNames<'p>,
@@ -58,7 +58,7 @@ fn inside_fault<'p>(
     items_fault(scope, known, alloc, context, 0, true, items)
 }
 
-/// The earliest fault of a function's body. Fails only where no host memory is left.
+/// The earliest fault of a function's body.
 fn body_fault<'p>(
     alloc: Global,
     names: Names<'_, 'p>,
@@ -130,8 +130,8 @@ fn first_or(parts: Option<Fault>, own: Option<Fault>) -> Option<Fault>
     }
 }
 
-/// The earliest fault of a function after so many items, where the program's names mean this; with or without the rules on live regions
-/// and effects. Fails only where no host memory is left.
+/// The earliest fault of the function that is the program's item number `item`, where the program's names mean this; with or without
+/// the rules on live regions and effects.
 pub fn function_fault<'p>(
     alloc: Global,
     names: Names<'_, 'p>,

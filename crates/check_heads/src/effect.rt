@@ -26,7 +26,7 @@ pub(crate) struct Used<T> {
 }
 
 impl<T: Drop> Used<T> {
-    /// With one phrase more. Fails only where no host memory is left.
+    /// With one phrase more.
     fn add(&mut self, of: Verdict<T>) -> Result<(), AllocError>
         ensures known { OnOk result (self.new.known.items ≡ self.old.known.items ++ in_order of) }
         ensures fault { OnOk result (self.new.fault ≡ sooner_found self.old.fault (fault_found of)) }
@@ -118,7 +118,7 @@ fn effect_region(
 }
 
 /// The regions of an effect that is written, where the region variables have these names, and keys among the parameters are of these
-/// regions. Fails only where no host memory is left.
+/// regions.
 fn effect_regions(
     alloc: Global,
     lenient: bool,
@@ -138,7 +138,7 @@ fn effect_regions(
     Ok(used)
 }
 
-/// Adds a region variable, unless it is one of these. Fails only where no host memory is left.
+/// Adds a region variable, unless it is one of these.
 fn add_level(regions: &mut Vec<RegionId>, keys: &[RegionId], level: u32) -> Result<(), AllocError>
     ensures { OnOk result (regions_of regions.new.items ≡ regions_of regions.old.items ++ level_unless (regions_of keys.now) level) }
 {
@@ -150,7 +150,7 @@ fn add_level(regions: &mut Vec<RegionId>, keys: &[RegionId], level: u32) -> Resu
     Ok(())
 }
 
-/// So many region variables but those of keys, the latest first. Fails only where no host memory is left.
+/// So many region variables but those of keys, the latest first.
 fn levels_but(alloc: Global, keys: &[RegionId], count: u32) -> Result<Vec<RegionId>, AllocError>
     ensures { IfOk result (λ rs. regions_of rs.items ≡ levels_but (regions_of keys.now) count) }
 {
@@ -163,8 +163,8 @@ fn levels_but(alloc: Global, keys: &[RegionId], count: u32) -> Result<Vec<Region
     Ok(regions)
 }
 
-/// The regions that have to be live where a function with these region variables and keys of these regions is called: those that its
-/// effect names, or else all its region variables but those of the keys. Fails only where no host memory is left.
+/// The regions that have to be live where a function with these region variables and keys of these regions is called: those that its effect
+/// names, or else all its region variables but those of the keys.
 pub(crate) fn effect_of(
     alloc: Global,
     lenient: bool,
@@ -194,7 +194,7 @@ fn used_bound(names: &RegionNames<'_>, bound: &Bound) -> Verdict<(RegionId, Regi
     longer.paired(used_region(names, &bound.shorter))
 }
 
-/// The bounds of a function whose region variables have these names. Fails only where no host memory is left.
+/// The bounds of a function whose region variables have these names.
 pub(crate) fn bounds_of(
     alloc: Global,
     names: &RegionNames<'_>,

@@ -25,7 +25,7 @@ pub struct Names<'g, 'p> {
     pub tables: &'g Tables<'p>,
 }
 
-/// What is in scope where a function's body begins, without its parameters. Fails only where no host memory is left.
+/// What is in scope where a function's body begins, without its parameters.
 pub fn entered<'g, 'p>(
     alloc: Global,
     names: Names<'g, 'p>,

@@ -38,7 +38,7 @@ fn unless(fits: bool, kind: FaultKind, at: u32) -> Option<Fault>
     if fits { None } else { Some(Fault { kind, at }) }
 }
 
-/// The earliest second name of the parameters. Fails only where no host memory is left.
+/// The earliest second name of the parameters.
 fn repeated_fault(alloc: Global, parameters: &[Parameter<'_>]) -> Result<Option<Fault>, AllocError>
     ensures { IfOk result (λ f. faults_of f ≡ earliest (repeated_after never parameters.now)) }
 {
@@ -86,8 +86,8 @@ fn main_fault(name: &Name, parameters: &[Parameter<'_>], of: &Verdict<CType<'_>>
     )
 }
 
-/// The earliest fault of a head of this name, result and parameters, with the fault of its effect and bounds. The form of `main` is
-/// looked at only where nothing else is at fault. Fails only where no host memory is left.
+/// The earliest fault of a head of this name, result and parameters, with the fault of its effect and bounds. The form of `main` is looked
+/// at only where nothing else is at fault.
 pub(crate) fn head_fault(
     alloc: Global,
     name: &Name,

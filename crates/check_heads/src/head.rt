@@ -51,7 +51,7 @@ pub fn is_main(name: &[u8]) -> bool
     name == b"main".as_slice()
 }
 
-/// The effect of a head with these parameters. Fails only where no host memory is left.
+/// The effect of a head with these parameters.
 fn effect_in(
     alloc: Global,
     lenient: bool,
@@ -70,8 +70,8 @@ fn effect_in(
     )
 }
 
-/// What a function's head says, with its earliest fault, where names mean this in place of tags; with or without the rules on live
-/// regions and effects. Fails only where no host memory is left.
+/// What a function's head says, with its earliest fault, where names mean this in place of tags; with or without the rules on live regions
+/// and effects.
 pub fn read_head<'p>(
     alloc: Global,
     tags: &TagNames<'_>,

@@ -43,7 +43,7 @@ fn known_key(of: &Verdict<CType<'_>>) -> Option<RegionId>
     }
 }
 
-/// Adds the region of a key, where the type is one. Fails only where no host memory is left.
+/// Adds the region of a key, where the type is one.
 fn add_key(regions: &mut Vec<RegionId>, of: &Verdict<CType<'_>>) -> Result<(), AllocError>
     ensures { OnOk result (regions_of regions.new.items ≡ regions_of regions.old.items ++ listed (known_key (known_static of.now))) }
 {
@@ -56,7 +56,7 @@ fn add_key(regions: &mut Vec<RegionId>, of: &Verdict<CType<'_>>) -> Result<(), A
     }
 }
 
-/// The regions of the keys among parameters. Fails only where no host memory is left.
+/// The regions of the keys among parameters.
 pub(crate) fn key_regions(
     alloc: Global,
     parameters: &[Parameter<'_>],

@@ -2,6 +2,8 @@
 //!
 //! What is said of them are the rules of `source_typing`: `read_head` answers what a function's head says, `head_meaning` what its name means
 //! where its head has no fault, and `entered` what is in scope where its body begins.
+//!
+//! Each function that answers a `Result` fails only where no host memory is left.
 #![tactic(auto)]
 
 mod effect;

@@ -26,7 +26,7 @@ pub fn known_type<'a, 'p>(of: &'a Verdict<CType<'p>>) -> Option<&'a CType<'p>>
     }
 }
 
-/// A type of its own, where it is known. Fails only where no host memory is left.
+/// A type of its own, where it is known.
 fn known_clone<'p>(of: &Verdict<CType<'p>>) -> Result<Option<CType<'p>>, AllocError>
     ensures { IfOk result (λ o. option_map static_type o ≡ known_static of.now) }
 {
@@ -36,7 +36,7 @@ fn known_clone<'p>(of: &Verdict<CType<'p>>) -> Result<Option<CType<'p>>, AllocEr
     }
 }
 
-/// The types of parameters, where they are known. Fails only where no host memory is left.
+/// The types of parameters, where they are known.
 fn known_types<'p>(
     alloc: Global,
     parameters: &[Parameter<'p>],
@@ -50,7 +50,7 @@ fn known_types<'p>(
     Ok(types)
 }
 
-/// What the name of a function with this head means: a function, where the head has no fault. Fails only where no host memory is left.
+/// What the name of a function with this head means: a function, where the head has no fault.
 pub fn head_meaning<'p>(alloc: Global, head: Head<'p>) -> Result<Meaning<'p>, AllocError>
     ensures { (f : Function) (h : rules.Head) → IsHead head.entry f h
         → IfOk result (λ m. Means (Some (OfFunction h.signature)) (Some m)) }

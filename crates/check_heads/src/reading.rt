@@ -30,7 +30,7 @@ impl<'p> Parameters<'p> {
         }
     }
 
-    /// Reads one more. Fails only where no host memory is left.
+    /// Reads one more.
     fn add(
         &mut self,
         alloc: Global,
@@ -50,7 +50,7 @@ impl<'p> Parameters<'p> {
         Ok(())
     }
 
-    /// Reads these. Fails only where no host memory is left.
+    /// Reads these.
     fn add_all(
         &mut self,
         alloc: Global,
@@ -66,7 +66,7 @@ impl<'p> Parameters<'p> {
         Ok(())
     }
 
-    /// The parameters of a function. Fails only where no host memory is left.
+    /// The parameters of a function.
     pub(crate) fn of(
         alloc: Global,
         tags: &TagNames<'_>,

@@ -41,7 +41,7 @@ pub fn counted<'p>(alloc: Global, at: u32, operand: &Value) -> Verdict<Value<'p>
     )
 }
 
-/// A string of these bytes: a fat pointer to them and a final 0. Fails only where no host memory is left.
+/// A string of these bytes: a fat pointer to them and a final 0.
 pub fn string<'p>(alloc: Global, at: u32, bytes: &[u8]) -> Result<Verdict<Value<'p>>, AllocError>
     ensures { IfOk result (λ v. short_of value_of v ≡ shortened (string at bytes.now)) }
 {

@@ -52,7 +52,7 @@ fn unless_faulty<'p>(fault: Option<Fault>, value: Verdict<Value<'p>>) -> Verdict
     }
 }
 
-/// An assignment. Fails only where no host memory is left.
+/// An assignment.
 pub fn assigned<'p>(
     scope: &Scope,
     alloc: Global,

@@ -17,7 +17,7 @@ use check_scopes::Scope;
 use cyc_types::{BaseType, CType, Layer, RegionId};
 use std::alloc::{AllocError, Global};
 
-/// Whether one of two regions outlives the other. Fails only where no host memory is left.
+/// Whether one of two regions outlives the other.
 fn are_ordered(scope: &Scope, one: RegionId, other: RegionId) -> Result<bool, AllocError>
     ensures { (g : Env) → Sees scope.now g
         → IfOk result (λ b. b ≡ (outlives g (region_of one) (region_of other) || outlives g (region_of other) (region_of one))) }
@@ -42,7 +42,7 @@ fn compared_by<'p>(alloc: Global, at: u32, are_ordered: bool, are_live: bool) ->
     }
 }
 
-/// Two thin pointers into these regions, by whether they lead to one type. Fails only where no host memory is left.
+/// Two thin pointers into these regions, by whether they lead to one type.
 #[tactic(auto, using(crate::proofs::Applying::tests_compared))]
 fn compared_thin<'p>(
     scope: &Scope,
@@ -73,7 +73,7 @@ fn thin_regions(one: Option<Layer>, two: Option<Layer>) -> Option<(RegionId, Reg
     }
 }
 
-/// `==` and `!=` on what isn't two integers. Fails only where no host memory is left.
+/// `==` and `!=` on what isn't two integers.
 #[tactic(auto, using(crate::proofs::Applying::others_compared))]
 pub(crate) fn compared<'p>(
     scope: &Scope,

@@ -40,7 +40,7 @@ fn region_outside(pointer: Option<Layer>) -> Option<RegionId>
     }
 }
 
-/// Whether a region outlives another one, where there are both. Fails only where no host memory is left.
+/// Whether a region outlives another one, where there are both.
 fn are_ordered(
     scope: &Scope,
     from: Option<RegionId>,
@@ -54,7 +54,7 @@ fn are_ordered(
     }
 }
 
-/// The fault of a value that is converted to a type, if any. Fails only where no host memory is left.
+/// The fault of a value that is converted to a type, if any.
 pub fn converted(scope: &Scope, value: &Value, to: &CType) -> Result<Option<Fault>, AllocError>
     ensures { (g : Env) → Sees scope.now g → IfOk result (λ f. faults_of f ≡ earliest (converts g (value_of value.now) (static_type to.now))) }
 {

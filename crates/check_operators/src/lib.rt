@@ -1,6 +1,8 @@
 //! What expressions are, by what their operands are: operators, places, conversions and assignments.
 //!
 //! What is said of them are the rules of `source_typing`, each as it stands there.
+//!
+//! Each function that answers a `Result` fails only where no host memory is left.
 #![tactic(auto)]
 
 mod array;

@@ -49,7 +49,7 @@ fn region_handled(of: &CType) -> Option<RegionId>
     }
 }
 
-/// The region of a handle at a place, where it is live.
+/// The region of a handle at this position, if it is live.
 fn live_goal(is_live: bool, at: u32, region: RegionId) -> Verdict<Goal>
     ensures { short_of goal_in result ≡ shortened (live_goal is_live at (region_of region)) }
 {
@@ -85,7 +85,7 @@ fn made_to<'p>(at: u32, goal: Goal, of: CType<'p>) -> Result<Verdict<Value<'p>>,
     }
 }
 
-/// What is made of a value. Fails only where no host memory is left.
+/// What is made of a value.
 pub fn made<'p>(at: u32, goal: Goal, value: Value<'p>) -> Result<Verdict<Value<'p>>, AllocError>
     ensures { IfOk result (λ v. short_of value_of v ≡ shortened (made at (goal_in goal) (value_of value.entry))) }
 {
@@ -105,7 +105,7 @@ fn array_to<'p>(at: u32, goal: Goal, of: CType<'p>) -> Result<Verdict<Value<'p>>
     }
 }
 
-/// What is made of so many elements. Fails only where no host memory is left.
+/// An allocation of an array comprehension.
 pub fn array_made<'p>(
     at: u32,
     goal: Goal,

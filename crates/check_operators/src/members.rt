@@ -104,7 +104,7 @@ fn member_on<'p>(
     }
 }
 
-/// `e.f`: a member of a place. Fails only where no host memory is left.
+/// `e.f`: a member of a place.
 pub fn member<'p>(
     tables: &Tables<'p>,
     field: &Name,
@@ -151,7 +151,7 @@ fn arrow_on<'p>(
     }
 }
 
-/// `e->f`: a member of what a pointer leads to, whose region has to be live. Fails only where no host memory is left.
+/// `e->f`: a member of what a pointer leads to, whose region has to be live.
 pub fn arrow<'p>(
     scope: &Scope,
     tables: &Tables<'p>,

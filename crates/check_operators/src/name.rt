@@ -17,7 +17,7 @@ use check_scopes::Named;
 use cyc_types::{BaseType, CType, Layer, RegionId};
 use std::alloc::{AllocError, Global};
 
-/// An array's name, which is a fat pointer to its first element. Fails only where no host memory is left.
+/// An array's name, which is a fat pointer to its first element.
 fn array<'p>(
     at: u32,
     element: &CType<'p>,
@@ -28,7 +28,7 @@ fn array<'p>(
     Ok(plain(at, element.try_clone()?.under(Layer::Fat(region))?))
 }
 
-/// A name as a value, by what it means. Fails only where no host memory is left.
+/// A name as a value, by what it means.
 pub fn variable<'p>(
     alloc: Global,
     at: u32,

@@ -89,7 +89,7 @@ fn are_integers(one: &CType, two: &CType) -> bool
     one.is_integer() && two.is_integer()
 }
 
-/// An operator between two operands. Fails only where no host memory is left.
+/// An operator between two operands.
 #[tactic(auto, using(crate::proofs::Applying::applied_is))]
 pub fn applied<'p>(
     scope: &Scope,

@@ -63,7 +63,7 @@ pub(crate) fn contents<'p>(scope: &Scope, at: u32, operand: Value<'p>) -> Verdic
     }
 }
 
-/// `&`: a pointer that is never NULL, in the place's region. Fails only where no host memory is left.
+/// `&`: a pointer that is never NULL, in the place's region.
 fn address<'p>(at: u32, operand: Value<'p>) -> Result<Verdict<Value<'p>>, AllocError>
     ensures { IfOk result (λ v. short_of value_of v ≡ shortened (address at (value_of operand.entry))) }
 {
@@ -96,7 +96,7 @@ fn signed<'p>(alloc: Global, at: u32, operand: Value<'p>) -> Verdict<Value<'p>>
     fitting(fits, at, promoted(alloc, operand.of))
 }
 
-/// An operator before its operand. Fails only where no host memory is left.
+/// An operator before its operand.
 pub fn prefixed<'p>(
     scope: &Scope,
     alloc: Global,

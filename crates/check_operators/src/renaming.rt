@@ -83,7 +83,7 @@ fn renamed_pointers(regions: &[RegionId], of: &Layers) -> Result<Layers, AllocEr
     Ok(all)
 }
 
-/// A type of a signature, where its variables stand for these regions, or of a struct, whose arguments these are. Fails only where no host memory is left.
+/// A type of a signature, where its variables stand for these regions, or of a struct, whose arguments these are.
 pub fn renamed_type<'p>(regions: &[RegionId], of: &CType<'p>) -> Result<CType<'p>, AllocError>
     ensures { IfOk result (λ t. static_type t ≡ renamed (argument (regions_of regions.now)) (static_type of.now)) }
 {

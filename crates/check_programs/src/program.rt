@@ -41,7 +41,7 @@ fn named(at: u32) -> Fault
     }
 }
 
-/// The earliest fault of a global or a function after so many items. Fails only where no host memory is left.
+/// The earliest fault of the global or function that is the program's item number `index`.
 fn item_fault<'p>(
     alloc: Global,
     names: Names<'_, 'p>,
@@ -66,7 +66,7 @@ fn item_fault<'p>(
     }
 }
 
-/// The earliest fault of globals and functions. Fails only where no host memory is left.
+/// The earliest fault of globals and functions.
 fn items_fault<'p>(
     alloc: Global,
     names: Names<'_, 'p>,
@@ -85,7 +85,7 @@ fn items_fault<'p>(
     Ok(found)
 }
 
-/// The earliest fault of a program's globals and functions, by its structs and unions. Fails only where no host memory is left.
+/// The earliest fault of a program's globals and functions, by its structs and unions.
 fn bodies_fault<'p>(
     alloc: Global,
     structs: Structs<'_, 'p>,
@@ -105,7 +105,7 @@ fn bodies_fault<'p>(
     items_fault(alloc, names, lenient, items)
 }
 
-/// The names that are seen before the first item. Fails only where no host memory is left.
+/// The names that are seen before the first item.
 fn seen_first<'p>(alloc: Global) -> Result<Globals<'p>, AllocError>
     ensures { IfOk result (λ s. AreSeen (codes "getchar" ∷ codes "putchar" ∷ []) s) }
 {
@@ -122,7 +122,7 @@ fn second_fault(is_new: bool, name: &Name) -> Option<Fault>
     if is_new { None } else { Some(named(name.at)) }
 }
 
-/// The earliest fault of second items of a name. Fails only where no host memory is left.
+/// The earliest fault of second items of a name.
 fn seconds_fault(alloc: Global, items: &[Item]) -> Result<Option<Fault>, AllocError>
     ensures { IfOk result (λ f. faults_of f
         ≡ earliest (second_names (codes "getchar" ∷ codes "putchar" ∷ []) (program_tree items.now))) }
@@ -160,8 +160,8 @@ fn main_found(items: &[Item]) -> Option<Fault>
     Some(named(END_OF_TEXT))
 }
 
-/// The earliest fault of a program by the rules on names, types, regions, effects and sizes, with or without the rules on live regions
-/// and effects. Fails only where no host memory is left.
+/// The earliest fault of a program by the rules on names, types, regions, effects and sizes, with or without the rules on live regions and
+/// effects.
 pub fn program_fault(
     alloc: Global,
     program: &Program,

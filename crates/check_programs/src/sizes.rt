@@ -44,7 +44,7 @@ fn with_initial(total: Total, initial: &Initial) -> Total
     }
 }
 
-/// With an item and its strings. Fails only where no host memory is left.
+/// With an item and its strings.
 fn with_item<'p>(
     total: Total,
     alloc: Global,
@@ -66,7 +66,7 @@ fn with_item<'p>(
     }
 }
 
-/// With an item and its strings, a second one of a name left out. Fails only where no host memory is left.
+/// With an item and its strings, a second one of a name left out.
 fn with_first<'p>(
     total: Total,
     alloc: Global,
@@ -85,7 +85,7 @@ fn with_first<'p>(
     }
 }
 
-/// The fault of the sizes of globals and strings. Fails only where no host memory is left.
+/// The fault of the sizes of globals and strings.
 pub(crate) fn sizes_fault<'p>(
     alloc: Global,
     structs: Structs<'_, 'p>,

@@ -43,7 +43,7 @@ fn within(bytes: u64, at: u32) -> Total
     }
 }
 
-/// So many bytes, and an object more at a place.
+/// The total after an object of `bytes` bytes at this position, where it was `before`.
 fn added(before: u64, at: u32, bytes: u64) -> Total
     ensures { (more : List Static) → counted result more ≡ counted (variant.Bytes before) ((at, bytes) ∷ more) }
 {
@@ -54,7 +54,7 @@ fn added(before: u64, at: u32, bytes: u64) -> Total
 }
 
 impl Total {
-    /// With an object more, of so many bytes at a place.
+    /// The total with an object of `bytes` bytes more, at this position.
     pub(crate) fn with(self, at: u32, bytes: u64) -> Total
         ensures { (more : List Static) → counted result more ≡ counted self ((at, bytes) ∷ more) }
     {

@@ -9,7 +9,7 @@ use Rattle.check_regions.specs.declared.begun.Begun.TheVariants.{Variable}
 abbrev pub variable_at : List Bool → List Bool → List Bool → ℕ → Begun
 variable_at live over_heap over_later k = Variable (has live (Level k)) (has over_heap (Level k)) (has over_later (Level k))
 
--- so many
+-- the first ones of the given number
 abbrev pub variables_at : List Bool → List Bool → List Bool → ℕ → List Begun
 variables_at live over_heap over_later zero = []
 variables_at live over_heap over_later (suc n) = variables_at live over_heap over_later n ++ variable_at live over_heap over_later n ∷ []

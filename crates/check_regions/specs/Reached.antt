@@ -16,7 +16,7 @@ abbrev pub with_marks : List Region → List Bool → List Bool
 with_marks [] marks = marks
 with_marks (r ∷ rs) marks = with_marks rs (with_mark r marks)
 
--- so many marks, of these regions
+-- the set of these regions, with `size` marks
 abbrev pub marks_of : ℕ → List Region → List Bool
 marks_of size targets = with_marks targets (replicate size false)
 
@@ -36,7 +36,7 @@ most ((x, y) ∷ bs) n = most bs (max n (max (past x) (past y)))
 abbrev pub is_near : List Region → Region → Bool
 is_near targets a = is_heap a || is_among targets a
 
--- what reaches, in so many steps, what is near
+-- what reaches, in at most the given number of steps, what is near
 abbrev pub reaches_near : (Region → Bool) → List (Region × Region) → ℕ → Region → Bool
 reaches_near near bounds zero a = near a
 reaches_near near bounds (suc n) a = near a || by_bounds bounds a (λ c. reaches_near near bounds n c)

@@ -21,7 +21,7 @@ with_begun b s = record s { begun = s.begun ++ b ∷ [] }
 abbrev pub with_opened : Region → Scoped → Scoped
 with_opened r s = record s { opened = s.opened ++ r ∷ [] }
 
--- the first so many names, and the first so many that were opened
+-- the first `names` names, and the first `opened` ones that were opened
 abbrev pub first_of : ℕ → ℕ → Scoped → Scoped
 first_of names opened s = record s { begun = take names s.begun; opened = take opened s.opened }
 

@@ -29,7 +29,7 @@ with_region row x = (if ends_in row x then row else row ++ x ∷ [])
 abbrev pub with_bound : Region → Region → List (List Region) → List (List Region)
 with_bound x y rows = slice_set rows (past y) (with_region (row_of rows y) x)
 
--- a row for the heap and for so many regions, with nothing in them
+-- empty rows for the heap and for the given number of regions
 abbrev pub no_rows : ℕ → List (List Region)
 no_rows zero = [] ∷ []
 no_rows (suc n) = no_rows n ++ [] ∷ []
@@ -78,11 +78,11 @@ begun_level w = record { marks = w.marks; latest = [] }
 abbrev pub next_level : List (List Region) → Walked → Walked
 next_level rows w = found_from rows w.latest (begun_level w)
 
--- so many levels
+-- the given number of levels
 abbrev pub levels : List (List Region) → Walked → ℕ → Walked
 levels rows w zero = w
 levels rows w (suc n) = next_level rows (levels rows w n)
 
--- these regions and the heap are come to, with so many marks
+-- these regions and the heap are found, in a set with `size` marks
 abbrev pub walk_from : ℕ → List Region → Walked
 walk_from size targets = record { marks = marks_of size targets; latest = targets ++ TheHeap ∷ [] }

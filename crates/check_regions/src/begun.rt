@@ -3,21 +3,21 @@
 ghost use Rattle.std.specs.Prelude.{◌≡◌};
 ghost use Rattle.check_regions.specs.Begun.{begins_live, is_over_heap, is_over_later};
 
-/// How a region name began, the heap apart.
+/// How a region name began.
 #[derive(Clone, Copy)]
 pub enum Begun {
     /// A region variable of the function.
     Variable {
-        /// Whether the effect has it.
+        /// Whether the function's effect has it.
         live: bool,
-        /// Whether it outlives the heap, by the bounds.
+        /// Whether it outlives the heap, by the function's bounds.
         over_heap: bool,
         /// Whether it outlives the stack regions and the lexical regions of the function.
         over_later: bool,
     },
     /// The stack region of a block, or a lexical region.
     Block,
-    /// The region of an alias or of a key, and whether it is live at once.
+    /// The region of an alias or of a key, and whether it is live from its beginning.
     Name(bool),
 }
 

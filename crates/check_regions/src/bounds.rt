@@ -1,4 +1,4 @@
-// The bounds of a function, and the regions that reach others by them.
+// The bounds of a function, and which regions outlive others by them.
 
 ghost use Rattle.std.specs.Prelude.{◌≡◌, ◌≤◌, ◌<◌, IfOk, OnOk, [], false, length, map, true};
 ghost use Rattle.cyc_types.specs.Regions.{region_of, regions_of};
@@ -21,11 +21,11 @@ pub(crate) type Bound = (RegionId, RegionId);
 /// The bounds of a function. A contract sees them as they were given.
 pub(crate) struct Bounds {
     given: Vec<Bound>,
-    /// By how many marks there are up to a region: those that outlive it by one bound.
+    /// For each region, at its index, the regions that outlive it by one bound.
     rows: Vec<Vec<RegionId>>,
-    /// The way of each region, by how many marks there are up to it.
+    /// For each region, at its index, a path to a region that it outlives.
     ways: Vec<Option<Way>>,
-    /// Whether each bound is between a deeper region and one that is less deep.
+    /// Whether each bound leads from a region to one of less depth.
     falls: bool,
 }
 
@@ -55,7 +55,7 @@ impl Model for Bounds {
     ghost invariant = { λ s. AreKept (map pair_of s.given.items) (rows_of s.rows.items) s.ways.items s.falls };
 }
 
-/// How many marks serve all regions of the bounds.
+/// The size of a table of all regions of the bounds.
 fn room_for(bounds: &[Bound]) -> usize
     ensures { result ≡ most (map pair_of bounds.now) 0 }
 {
@@ -66,7 +66,7 @@ fn room_for(bounds: &[Bound]) -> usize
     room
 }
 
-/// Rows for so many marks and the heap, with nothing in them. Fails only where no host memory is left.
+/// A table for the heap and `size` more regions, with empty rows.
 fn no_rows(alloc: Global, size: usize) -> Result<Vec<Vec<RegionId>>, AllocError>
     ensures { IfOk result (λ v. rows_of v.items ≡ no_rows size) }
 {
@@ -77,7 +77,7 @@ fn no_rows(alloc: Global, size: usize) -> Result<Vec<Vec<RegionId>>, AllocError>
     Ok(rows)
 }
 
-/// Whether a region is the last of these.
+/// Whether a region is the last one of a row.
 #[tactic(auto, using(crate::proofs::Rows::last_region))]
 fn ends_in(row: &[RegionId], region: RegionId) -> bool
     ensures { result ≡ ends_in (regions_of row.now) (region_of region) }
@@ -88,7 +88,7 @@ fn ends_in(row: &[RegionId], region: RegionId) -> bool
     }
 }
 
-/// One more region in a row. Equal bounds that follow each other are kept once.
+/// Adds a region to a row, unless it is the row's last one.
 #[tactic(auto, using(crate::proofs::Ruled::regions_and))]
 fn add_region(row: &mut Vec<RegionId>, region: RegionId) -> Result<(), AllocError>
     ensures { OnOk result (regions_of row.new.items ≡ with_region (regions_of row.old.items) (region_of region)) }
@@ -99,7 +99,7 @@ fn add_region(row: &mut Vec<RegionId>, region: RegionId) -> Result<(), AllocErro
     Ok(())
 }
 
-/// One more bound.
+/// Adds a bound to the table.
 fn add(rows: &mut [Vec<RegionId>], bound: Bound) -> Result<(), AllocError>
     ensures { OnOk result (rows_of rows.new ≡ with_bound (region_of bound.0) (region_of bound.1) (rows_of rows.old)) }
 {
@@ -110,7 +110,7 @@ fn add(rows: &mut [Vec<RegionId>], bound: Bound) -> Result<(), AllocError>
     Ok(())
 }
 
-/// The rows of these bounds. Fails only where no host memory is left.
+/// The table of these bounds.
 fn rows_of(alloc: Global, bounds: &[Bound]) -> Result<Vec<Vec<RegionId>>, AllocError>
     ensures { IfOk result (λ v. rows_of v.items ≡ with_bounds (map pair_of bounds.now) (no_rows (most (map pair_of bounds.now) 0))) }
 {
@@ -134,7 +134,7 @@ impl Bounds {
         }
     }
 
-    /// These bounds. Fails only where no host memory is left.
+    /// The tables of these bounds.
     pub(crate) fn of(alloc: Global, bounds: &[Bound]) -> Result<Bounds, AllocError>
         ensures { IfOk result (λ b. b ≡ map pair_of bounds.now) }
     {
@@ -150,7 +150,7 @@ impl Bounds {
         })
     }
 
-    /// How many marks serve all regions of the bounds, at least so many.
+    /// The size of a set of all regions of the bounds, at least `least`.
     pub(crate) fn size(&self, least: usize) -> usize
         ensures all { BoundsBelow result self.now }
         ensures enough { least ≤ result }
@@ -158,7 +158,7 @@ impl Bounds {
         usize::max(self.rows.len(), least)
     }
 
-    /// So many marks, of the regions that reach the heap or one of these by bounds. Fails only where no host memory is left.
+    /// The set of the regions that outlive the heap or one of the targets. It has `size` marks.
     pub(crate) fn reaching(
         &self,
         alloc: Global,
@@ -173,7 +173,7 @@ impl Bounds {
         Ok(walk.marks())
     }
 
-    /// Whether the way of a region leads to another one, or to the heap.
+    /// Whether the path of a region leads to another one or to the heap.
     fn leads(&self, one: RegionId, other: RegionId) -> bool
         ensures { result ≡ true → outlives_by self.now (region_of one) (region_of other) ≡ true }
     {
@@ -181,7 +181,7 @@ impl Bounds {
         leads(ways, most, one, other) || leads(ways, most, one, RegionId::Heap)
     }
 
-    /// Whether it is known of a region that it isn't deeper than another one, so that no bounds lead there.
+    /// Whether each bound leads to less depth, and a region is no deeper than another one. Then it doesn't outlive that one.
     fn is_no_deeper(&self, one: RegionId, other: RegionId) -> bool
         ensures { result ≡ true → is_heap (region_of one) ≡ false → same_id (region_of one) (region_of other) ≡ false
             → outlives_by self.now (region_of one) (region_of other) ≡ false }
@@ -190,7 +190,7 @@ impl Bounds {
         self.falls && depth(ways, one) <= depth(ways, other)
     }
 
-    /// Whether a region outlives another by bounds. Fails only where no host memory is left.
+    /// Whether a region outlives another one by the bounds.
     pub(crate) fn outlives(
         &self,
         alloc: Global,

@@ -15,7 +15,7 @@ use std::marker::Model;
 /// The bounds that a function declares: the first region of each outlives the second. A contract sees them as they were given.
 pub struct DeclaredBounds {
     given: Vec<Bound>,
-    /// Each of them once.
+    /// The same bounds without repetitions.
     once: Vec<Bound>,
 }
 
@@ -42,7 +42,7 @@ impl Model for DeclaredBounds {
     ghost invariant = { λ s. HaveSame (map pair_of s.once.items) (map pair_of s.given.items) };
 }
 
-/// Takes a bound, where one of its places wasn't seen yet. Fails only where no host memory is left.
+/// Adds a bound to a list, unless it was seen before.
 fn take_once(
     seen: &mut IndexSet<(usize, usize)>,
     once: &mut Vec<Bound>,
@@ -58,7 +58,7 @@ fn take_once(
     Ok(())
 }
 
-/// Each of these bounds once. Fails only where no host memory is left.
+/// These bounds without repetitions.
 fn each_once(alloc: Global, given: &[Bound]) -> Result<Vec<Bound>, AllocError>
     ensures { IfOk result (λ v. HaveSame (map pair_of v.items) (map pair_of given.now)) }
 {
@@ -71,7 +71,7 @@ fn each_once(alloc: Global, given: &[Bound]) -> Result<Vec<Bound>, AllocError>
 }
 
 impl DeclaredBounds {
-    /// These bounds. Fails only where no host memory is left.
+    /// These bounds.
     pub fn of(alloc: Global, given: Vec<(RegionId, RegionId)>) -> Result<DeclaredBounds, AllocError>
         ensures { IfOk result (λ b. b ≡ map pair_of given.items) }
     {
@@ -79,7 +79,7 @@ impl DeclaredBounds {
         Ok(DeclaredBounds { given, once })
     }
 
-    /// Each of them once.
+    /// The bounds without repetitions.
     pub fn once(&self) -> &[(RegionId, RegionId)]
         ensures { HaveSame (map pair_of result.now) self.now }
     {

@@ -8,7 +8,7 @@ use crate::marks::is_marked;
 use cyc_types::RegionId;
 use std::alloc::{AllocError, Global};
 
-/// What is known of a function's region variables, by marks.
+/// What is known of a function's region variables, as sets.
 #[derive(Clone, Copy)]
 pub(crate) struct VariableMarks<'m> {
     /// Those that are live.
@@ -19,7 +19,7 @@ pub(crate) struct VariableMarks<'m> {
     pub(crate) over_later: &'m [bool],
 }
 
-/// How a region variable begins.
+/// How the region variable of this level begins.
 fn variable(marks: VariableMarks<'_>, level: u32) -> Begun
     ensures { result ≡ variable_at marks.entry.live.now marks.entry.over_heap.now marks.entry.over_later.now level }
 {
@@ -31,7 +31,7 @@ fn variable(marks: VariableMarks<'_>, level: u32) -> Begun
     }
 }
 
-/// How so many region variables begin. Fails only where no host memory is left.
+/// How the first `count` region variables begin.
 pub(crate) fn variables(
     alloc: Global,
     count: u32,

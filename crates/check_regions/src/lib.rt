@@ -1,7 +1,8 @@
-//! The region names that are in scope at a point, which are live, and which outlives which.
+//! The region names that are in scope at a point, which of them are live, and which outlives which.
 //!
-//! What is said of them are the definitions of `source_typing`, on which it stands: a scope here answers what the rules' one
-//! answers, name by name.
+//! What they mean is defined in `source_typing`: a scope here gives the same answers as the scope of the rules, name by name.
+//!
+//! Each function that answers a `Result` fails only where no host memory is left.
 #![tactic(auto)]
 
 mod begun;

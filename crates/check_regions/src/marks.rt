@@ -1,4 +1,4 @@
-// Sets of regions, by a mark for each.
+// Sets of regions, as a mark for each level. The heap is in every set.
 
 ghost use Rattle.std.specs.Prelude.{◌≡◌, IfOk};
 ghost use Rattle.cyc_types.specs.Regions.{region_of, regions_of};
@@ -7,7 +7,7 @@ ghost use Rattle.check_regions.specs.Reached.{has, marks_of, past, with_mark, wi
 use cyc_types::RegionId;
 use std::alloc::{AllocError, Global};
 
-/// How many marks there are up to that of a region.
+/// The index of a region in a table: 0 for the heap, and 1 more than its level for another one.
 pub(crate) fn past(region: RegionId) -> usize
     ensures { result ≡ past (region_of region) }
 {
@@ -17,7 +17,7 @@ pub(crate) fn past(region: RegionId) -> usize
     }
 }
 
-/// Whether a region is marked; the heap always is.
+/// Whether a region is in the set.
 pub(crate) fn is_marked(marks: &[bool], region: RegionId) -> bool
     ensures { result ≡ has marks.now (region_of region) }
 {
@@ -30,7 +30,7 @@ pub(crate) fn is_marked(marks: &[bool], region: RegionId) -> bool
     }
 }
 
-/// Marks a region.
+/// Adds a region to the set, if the set has a mark for it.
 pub(crate) fn mark(marks: &mut [bool], region: RegionId)
     ensures { marks.new ≡ with_mark (region_of region) marks.old }
 {
@@ -42,7 +42,7 @@ pub(crate) fn mark(marks: &mut [bool], region: RegionId)
     }
 }
 
-/// Marks these regions.
+/// Adds these regions to the set.
 fn mark_each(marks: &mut [bool], regions: &[RegionId])
     ensures { marks.new ≡ with_marks (regions_of regions.now) marks.old }
 {
@@ -51,7 +51,7 @@ fn mark_each(marks: &mut [bool], regions: &[RegionId])
     }
 }
 
-/// So many marks, of these regions. Fails only where no host memory is left.
+/// The set of these regions, with `size` marks.
 pub(crate) fn marks_of(
     alloc: Global,
     size: usize,

@@ -11,8 +11,8 @@ use indexmap::IndexMap;
 use std::alloc::{AllocError, Global};
 use std::marker::Model;
 
-/// The region names in scope, with the regions that they name. No two have one spelling. A contract sees them as the rules list
-/// them, the latest first.
+/// The region names in scope, with the regions that they name. No two have the same spelling. A contract sees them as the rules list them,
+/// the latest first.
 pub struct RegionNames<'p> {
     names: IndexMap<&'p [u8], RegionId>,
 }
@@ -46,22 +46,21 @@ impl<'p> RegionNames<'p> {
         }
     }
 
-    /// How many names there are.
+    /// The number of names.
     pub fn len(&self) -> usize
         ensures { result ≡ length self.now }
     {
         self.names.len()
     }
 
-    /// The region of a name, where one of that spelling is in scope.
+    /// The region of a name, if one of that spelling is in scope.
     pub fn find(&self, name: &[u8]) -> Option<RegionId>
         ensures { option_map region_of result ≡ find_region self.now name.now }
     {
         self.names.get(name).copied()
     }
 
-    /// Adds a name where none of that spelling is in scope, and says whether it did. Fails only where no host memory is left, and
-    /// then no name is added.
+    /// Adds a name, unless one of that spelling is in scope, and tells whether it did. If it fails, no name is added.
     pub fn add(&mut self, name: &'p [u8], region: RegionId) -> Result<bool, AllocError>
         ensures added { OnOk result ((n : Name) → n.text ≡ name.entry.now
             → self.new ≡ name_added (is_some (find_region self.old n.text)) n (region_of region) self.old) }
@@ -75,7 +74,7 @@ impl<'p> RegionNames<'p> {
         Ok(true)
     }
 
-    /// Leaves a block: only so many names stay, the first ones.
+    /// Leaves a block: the first `count` names stay.
     pub fn leave(&mut self, count: usize)
         ensures { self.new ≡ drop (length self.old - count) self.old }
     {

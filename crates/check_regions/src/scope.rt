@@ -31,7 +31,7 @@ use cyc_types::RegionId;
 use std::alloc::{AllocError, Global};
 use std::marker::Model;
 
-/// A point up to which region names were in scope.
+/// A point of a scope: how many names had begun, and how many regions had been opened.
 #[derive(Clone, Copy)]
 pub struct RegionMark {
     names: usize,
@@ -65,7 +65,7 @@ impl Model for RegionScope {
     ghost view = { λ s. scoped s.begun.items s.opened.items s.bounds };
 }
 
-/// Whether a region is one of these.
+/// Whether a region is among these.
 #[tactic(auto, using(crate::proofs::Ruled::any_among))]
 fn is_among(regions: &[RegionId], region: RegionId) -> bool
     ensures { result ≡ is_among (regions_of regions.now) (region_of region) }
@@ -73,7 +73,7 @@ fn is_among(regions: &[RegionId], region: RegionId) -> bool
     is_one_of(regions, region)
 }
 
-/// Whether a region is one of these.
+/// Whether a region is among these, by a search.
 fn is_one_of(regions: &[RegionId], region: RegionId) -> bool
     ensures { result ≡ list_any (λ r. same_id (region_of r) (region_of region)) regions.now }
 {
@@ -81,7 +81,7 @@ fn is_one_of(regions: &[RegionId], region: RegionId) -> bool
 }
 
 impl RegionScope {
-    /// Outside of functions no name is in scope.
+    /// The scope outside of functions, which has no name.
     #[tactic(auto, using(crate::proofs::Entering::none_in_scope))]
     pub fn of_item(alloc: Global) -> RegionScope
         ensures { AreThose result no_regions }
@@ -93,8 +93,8 @@ impl RegionScope {
         }
     }
 
-    /// What is in scope where a function's body begins: so many region variables, with the effect's regions live, and the bounds.
-    /// The rules say the same where effect and bounds name none but these and the heap. Fails only where no host memory is left.
+    /// The scope at the beginning of a function's body: it has `variables` region variables, and those of the effect are live. The rules
+    /// say the same if effect and bounds name no other regions but the heap.
     pub fn of_function(
         alloc: Global,
         variables: u32,
@@ -122,14 +122,14 @@ impl RegionScope {
         })
     }
 
-    /// How many names are in scope.
+    /// The number of names in scope.
     pub fn names(&self) -> usize
         ensures { result ≡ length self.now.begun }
     {
         self.begun.len()
     }
 
-    /// The point up to which names are in scope now.
+    /// The point at which the scope is now.
     pub fn mark(&self) -> RegionMark
         ensures { result ≡ mark_of self.now }
     {
@@ -139,7 +139,7 @@ impl RegionScope {
         }
     }
 
-    /// One more name.
+    /// Adds a name.
     fn begin(&mut self, begun: Begun) -> Result<(), AllocError>
         ensures begun { OnOk result (self.new ≡ with_begun begun self.old) }
         ensures kept { OnErr result (self.new ≡ self.old) }
@@ -148,7 +148,7 @@ impl RegionScope {
         Ok(())
     }
 
-    /// One more region that is opened.
+    /// Adds an opened region.
     #[tactic(auto, using(crate::proofs::Ruled::regions_and))]
     fn add_opened(&mut self, region: RegionId) -> Result<(), AllocError>
         ensures opened { OnOk result (self.new ≡ with_opened (region_of region) self.old) }
@@ -158,7 +158,7 @@ impl RegionScope {
         Ok(())
     }
 
-    /// The stack region of a block begins, or a lexical region. Fails only where no host memory is left, and then none begins.
+    /// Begins the stack region of a block, or a lexical region. If it fails, none begins.
     #[tactic(auto, using(crate::proofs::Ruled::block_by_rules))]
     pub fn begin_block(&mut self) -> Result<(), AllocError>
         ensures begun { OnOk result (self.new ≡ with_begun Block self.old) }
@@ -168,8 +168,7 @@ impl RegionScope {
         self.begin(Begun::Block)
     }
 
-    /// The region of an alias begins, which is live, or of a key, which isn't yet. Fails only where no host memory is left, and
-    /// then none begins.
+    /// Begins the region of an alias, which is live, or of a key, which isn't yet. If it fails, none begins.
     #[tactic(auto, using(crate::proofs::Ruled::name_by_rules))]
     pub fn begin_name(&mut self, live: bool) -> Result<(), AllocError>
         ensures begun { OnOk result (self.new ≡ with_begun (Name live) self.old) }
@@ -179,7 +178,7 @@ impl RegionScope {
         self.begin(Begun::Name(live))
     }
 
-    /// A key's region is open from here on. Fails only where no host memory is left, and then it isn't opened.
+    /// Opens a key's region. If it fails, it isn't opened.
     #[tactic(auto, using(crate::proofs::Ruled::open_by_rules))]
     pub fn open(&mut self, region: RegionId) -> Result<(), AllocError>
         ensures opened { OnOk result (self.new ≡ with_opened (region_of region) self.old) }
@@ -190,7 +189,7 @@ impl RegionScope {
         self.add_opened(region)
     }
 
-    /// Leaves a block: what was in scope at the mark is in scope, and live as it was there.
+    /// Leaves a block: the scope is again what it was at the mark.
     #[tactic(auto, using(crate::proofs::Ruled::regions_taken))]
     pub fn leave(&mut self, mark: RegionMark)
         ensures { self.new ≡ first_of mark.names mark.opened self.old }
@@ -210,7 +209,7 @@ impl RegionScope {
         }
     }
 
-    /// Whether a name is live from its beginning.
+    /// Whether the name of this level is live from its beginning.
     fn begins_live(&self, level: u32) -> bool
         ensures { result ≡ of_name begins_live (slice_get self.now.begun level) }
     {
@@ -227,7 +226,7 @@ impl RegionScope {
         is_among(self.opened.as_slice(), region)
     }
 
-    /// Whether a region outlives another. Fails only where no host memory is left.
+    /// Whether a region outlives another one.
     #[tactic(auto, using(crate::proofs::Ruled::ordered_by_rules))]
     pub fn outlives(&self, one: RegionId, other: RegionId) -> Result<bool, AllocError>
         ensures is { IfOk result (λ b. b ≡ outlives_in self.now (region_of one) (region_of other)) }
@@ -240,7 +239,7 @@ impl RegionScope {
         }
     }
 
-    /// Whether a name outlives the heap.
+    /// Whether the name of this level outlives the heap.
     fn is_over_heap(&self, level: u32) -> bool
         ensures { result ≡ of_name is_over_heap (slice_get self.now.begun level) }
     {
@@ -250,7 +249,7 @@ impl RegionScope {
         }
     }
 
-    /// Whether a name outlives the stack regions and lexical regions that begin later.
+    /// Whether the name of this level outlives the stack regions and lexical regions that begin later.
     fn is_over_later(&self, level: u32) -> bool
         ensures { result ≡ of_name is_over_later (slice_get self.now.begun level) }
     {
@@ -260,7 +259,7 @@ impl RegionScope {
         }
     }
 
-    /// Whether a name outlives another by the bounds of the function.
+    /// Whether a name outlives another one by the bounds of the function.
     fn is_bound(&self, one: u32, other: u32) -> Result<bool, AllocError>
         ensures { IfOk result (λ b. b ≡ outlives_by self.now.bounds (Level one) (Level other)) }
     {
@@ -291,7 +290,7 @@ impl RegionScope {
         }
     }
 
-    /// Whether a name outlives another.
+    /// Whether a name outlives another one.
     fn are_ordered(&self, one: u32, other: u32) -> Result<bool, AllocError>
         ensures { IfOk result (λ b. b ≡ names_ordered self.now.begun one other (outlives_by self.now.bounds (Level one) (Level other))) }
     {

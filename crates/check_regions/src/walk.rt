@@ -1,4 +1,4 @@
-// Walks over bounds against their direction, level by level.
+// Breadth-first search over bounds, from the regions that are outlived to those that outlive them.
 
 ghost use Rattle.std.specs.Prelude.{◌≡◌, IfOk, OnOk};
 ghost use Rattle.cyc_types.specs.Regions.{region_of, regions_of};
@@ -9,11 +9,11 @@ use cyc_types::RegionId;
 use std::alloc::{AllocError, Global};
 use std::marker::Model;
 
-/// The regions that a walk has come to.
+/// A search, with the regions that it has found.
 pub(crate) struct Walk {
-    /// A mark for each of them.
+    /// The set of the regions found.
     marks: Vec<bool>,
-    /// Those that were marked last.
+    /// The regions that the last level has found.
     latest: Vec<RegionId>,
 }
 
@@ -36,7 +36,7 @@ impl Model for Walk {
     ghost view = { λ s. record { marks = s.marks.items; latest = regions_of s.latest.items } };
 }
 
-/// Those that outlive a region by one bound.
+/// The regions that outlive a region by one bound.
 pub(crate) fn row_of(rows: &[Vec<RegionId>], region: RegionId) -> &[RegionId]
     ensures { regions_of result.now ≡ row_of (rows_of rows.now) (region_of region) }
 {
@@ -47,7 +47,7 @@ pub(crate) fn row_of(rows: &[Vec<RegionId>], region: RegionId) -> &[RegionId]
 }
 
 impl Walk {
-    /// These regions and the heap, with so many marks. Fails only where no host memory is left.
+    /// The search that begins at the heap and these regions. Its set has `size` marks.
     #[tactic(auto, using(crate::proofs::Ruled::regions_and))]
     pub(crate) fn from(alloc: Global, size: usize, targets: &[RegionId]) -> Result<Walk, AllocError>
         ensures { IfOk result (λ w. w ≡ walk_from size (regions_of targets.now)) }
@@ -58,7 +58,7 @@ impl Walk {
         Ok(Walk { marks, latest })
     }
 
-    /// The marks of the regions that it has come to.
+    /// The set of the regions found.
     pub(crate) fn marks(self) -> Vec<bool>
         ensures { result.items ≡ self.marks }
     {
@@ -69,7 +69,7 @@ impl Walk {
         marks
     }
 
-    /// Comes to a region.
+    /// Adds a region, unless it was found before.
     #[tactic(auto, using(crate::proofs::Ruled::regions_and))]
     fn find(&mut self, region: RegionId) -> Result<(), AllocError>
         ensures { OnOk result (self.new ≡ found (region_of region) self.old) }
@@ -81,7 +81,7 @@ impl Walk {
         Ok(())
     }
 
-    /// Comes to these regions.
+    /// Adds these regions.
     fn find_all(&mut self, regions: &[RegionId]) -> Result<(), AllocError>
         ensures { OnOk result (self.new ≡ all_found (regions_of regions.now) self.old) }
     {
@@ -91,7 +91,7 @@ impl Walk {
         Ok(())
     }
 
-    /// Comes to what outlives by one bound one of those that were marked last.
+    /// The next level: adds the regions that outlive one of the latest by one bound.
     fn next(self, alloc: Global, rows: &[Vec<RegionId>]) -> Result<Walk, AllocError>
         ensures { IfOk result (λ w. w ≡ next_level (rows_of rows.now) self) }
     {
@@ -106,7 +106,7 @@ impl Walk {
         Ok(next)
     }
 
-    /// So many levels, or fewer, where one has nothing new. Fails only where no host memory is left.
+    /// Up to `count` more levels. A level that finds nothing is the last.
     pub(crate) fn levels(
         self,
         alloc: Global,

@@ -1,4 +1,4 @@
-// Ways along bounds: for each region a bound to follow, and a longer way, so that a chain of bounds is passed in few steps.
+// Paths along bounds: for each region one bound to follow and one jump over several, so that a long chain takes few steps.
 
 ghost use Rattle.std.specs.Prelude.{◌≡◌, ◌+◌, IfOk, List, OnOk, Some, map, true};
 ghost use Rattle.cyc_types.specs.Regions.{region_of, regions_of};
@@ -14,25 +14,25 @@ use cyc_types::RegionId;
 use std::alloc::{AllocError, Global};
 use std::marker::Model;
 
-/// More steps than are taken along a way of 2 ^ 30 bounds.
+/// The limit on the steps along one path. A path of 2 ^ 30 bounds takes fewer.
 const STEPS: u32 = 64;
 
-/// A longer way isn't joined to another one.
+/// The limit on the length of jumps that are joined.
 const LONGEST: usize = 1073741824;
 
-/// Where a region leads by bounds.
+/// The path of a region along bounds.
 #[derive(Clone, Copy)]
 pub(crate) struct Way {
-    /// What it outlives by one bound; itself where its way ends.
+    /// The region that it outlives by the path's first bound, or itself at the path's end.
     next: RegionId,
-    /// What it outlives further that way, by so many bounds.
+    /// The region to which the jump leads, over `length` bounds of the path.
     far: RegionId,
     length: usize,
-    /// How many bounds there are up to the end of its way.
+    /// The number of bounds up to the path's end.
     depth: usize,
 }
 
-/// A way that ends where it begins.
+/// The path of a region that ends there.
 fn ended(region: RegionId) -> Way
     ensures { (bs : List (Region × Region)) → Leads bs (region_of region) result }
 {
@@ -44,7 +44,7 @@ fn ended(region: RegionId) -> Way
     }
 }
 
-/// The way of a region, which ends there where it has none.
+/// The path of a region. It ends there if the table has none.
 fn way_of(ways: &[Option<Way>], region: RegionId) -> Way
     ensures { (bs : List (Region × Region)) → AreWays bs ways.now → Leads bs (region_of region) result }
 {
@@ -54,7 +54,7 @@ fn way_of(ways: &[Option<Way>], region: RegionId) -> Way
     }
 }
 
-/// How many bounds there are up to the end of a region's way.
+/// The number of bounds up to the end of a region's path.
 pub(crate) fn depth(ways: &[Option<Way>], region: RegionId) -> usize
     ensures { result ≡ depth_at ways.now (region_of region) }
 {
@@ -64,7 +64,7 @@ pub(crate) fn depth(ways: &[Option<Way>], region: RegionId) -> usize
     }
 }
 
-/// The next step on the way of a region, where it has to come to a depth: what it leads to, and by how many bounds.
+/// One step along a region's path to a region of at least this depth: where it leads, and over how many bounds.
 fn step(ways: &[Option<Way>], region: RegionId, least: usize) -> (RegionId, usize)
     ensures { (bs : List (Region × Region)) → AreWays bs ways.now → reaches result.1 bs (region_of region) (region_of result.0) ≡ true }
 {
@@ -76,7 +76,7 @@ fn step(ways: &[Option<Way>], region: RegionId, least: usize) -> (RegionId, usiz
     }
 }
 
-/// Whether a region's way leads to another one over at most so many bounds.
+/// Whether a region's path leads to another one over at most `most` bounds.
 pub(crate) fn leads(ways: &[Option<Way>], most: usize, one: RegionId, other: RegionId) -> bool
     ensures { (bs : List (Region × Region)) → AreWays bs ways.now → result ≡ true → reaches most bs (region_of one) (region_of other) ≡ true }
 {
@@ -97,14 +97,14 @@ pub(crate) fn leads(ways: &[Option<Way>], most: usize, one: RegionId, other: Reg
     false
 }
 
-/// Whether the first region of a bound is deeper than the second, which isn't the heap.
+/// Whether a bound leads to a region of less depth, which isn't the heap.
 fn falls(ways: &[Option<Way>], bound: Bound) -> bool
     ensures { result ≡ falls ways.now (pair_of bound) }
 {
     !bound.1.is_heap() && depth(ways, bound.1) < depth(ways, bound.0)
 }
 
-/// Whether each bound is between a deeper region and one that is less deep, which isn't the heap.
+/// Whether each bound leads to a region of less depth, which isn't the heap.
 pub(crate) fn all_fall(ways: &[Option<Way>], bounds: &[Bound]) -> bool
     ensures { result ≡ all_fall ways.now (map pair_of bounds.now) }
 {
@@ -116,7 +116,8 @@ pub(crate) fn all_fall(ways: &[Option<Way>], bounds: &[Bound]) -> bool
     true
 }
 
-/// The way of a region that outlives another by one bound.
+/// The path of a region that outlives `other` by one bound, and follows the path of `other` from there. Its jump joins two jumps of the
+/// same length, as in a skew binary list.
 fn way_behind(ways: &[Option<Way>], other: RegionId) -> Way
     ensures { (bs : List (Region × Region)) → (r : Region) → AreWays bs ways.now → reaches 1 bs r (region_of other) ≡ true → Leads bs r result }
 {
@@ -140,7 +141,7 @@ fn way_behind(ways: &[Option<Way>], other: RegionId) -> Way
     }
 }
 
-/// Gives a region its way, where it has none yet, and says whether it had none.
+/// Sets the path of a region that has none, and tells whether it did.
 fn set_way(ways: &mut [Option<Way>], region: RegionId, way: Way) -> bool
     ensures { (bs : List (Region × Region)) → AreWays bs ways.old → Leads bs (region_of region) way → AreWays bs ways.new }
 {
@@ -154,7 +155,7 @@ fn set_way(ways: &mut [Option<Way>], region: RegionId, way: Way) -> bool
     false
 }
 
-/// Marks of the regions that outlive another by a bound. Fails only where no host memory is left.
+/// The set of the regions that outlive another one by a bound.
 fn longer_marks(alloc: Global, size: usize, bounds: &[Bound]) -> Result<Vec<bool>, AllocError> {
     let mut marks = vec![in alloc; false; size]?;
     'each: for bound in bounds {
@@ -163,7 +164,7 @@ fn longer_marks(alloc: Global, size: usize, bounds: &[Bound]) -> Result<Vec<bool
     Ok(marks)
 }
 
-/// Ways, and the regions that have one in the order in which they got it.
+/// The paths that were found, and their regions in the order in which they were found.
 struct Ways {
     ways: Vec<Option<Way>>,
     order: Vec<RegionId>,
@@ -189,7 +190,7 @@ impl Model for Ways {
 }
 
 impl Ways {
-    /// No ways, with room for so many. Fails only where no host memory is left.
+    /// No paths, in a table of this size.
     fn none(alloc: Global, size: usize) -> Result<Ways, AllocError>
         ensures { IfOk result (λ w. (bs : List (Region × Region)) → AreWays bs w) }
     {
@@ -198,7 +199,7 @@ impl Ways {
         Ok(Ways { ways, order })
     }
 
-    /// The ways.
+    /// The paths.
     fn found(self) -> Vec<Option<Way>>
         ensures { result.items ≡ self }
     {
@@ -209,7 +210,7 @@ impl Ways {
         ways
     }
 
-    /// Gives a region its way, where it has none yet. Fails only where no host memory is left.
+    /// Sets the path of a region that has none.
     fn set(&mut self, region: RegionId, way: Way) -> Result<(), AllocError>
         ensures { OnOk result ((bs : List (Region × Region)) → AreWays bs self.old → Leads bs (region_of region) way → AreWays bs self.new) }
     {
@@ -219,14 +220,14 @@ impl Ways {
         Ok(())
     }
 
-    /// Gives a region a way that ends there. Fails only where no host memory is left.
+    /// Lets a path end at a region that has none.
     fn end_at(&mut self, region: RegionId) -> Result<(), AllocError>
         ensures { OnOk result ((bs : List (Region × Region)) → AreWays bs self.old → AreWays bs self.new) }
     {
         self.set(region, ended(region))
     }
 
-    /// Gives a region a way to one that it outlives by one bound. Fails only where no host memory is left.
+    /// Sets the path of a region that outlives `other` by one bound, if it has none.
     fn lead(&mut self, region: RegionId, other: RegionId) -> Result<(), AllocError>
         ensures { OnOk result ((bs : List (Region × Region)) → AreWays bs self.old → reaches 1 bs (region_of region) (region_of other) ≡ true
             → AreWays bs self.new) }
@@ -235,7 +236,7 @@ impl Ways {
         self.set(region, way)
     }
 
-    /// Gives those that outlive a region by one bound their ways. Fails only where no host memory is left.
+    /// Sets the paths of the regions that outlive `other` by one bound.
     fn lead_each(&mut self, row: &[RegionId], other: RegionId) -> Result<(), AllocError>
         ensures { OnOk result ((bs : List (Region × Region))
             → ((r : Region) → is_among (regions_of row.now) r ≡ true → reaches 1 bs r (region_of other) ≡ true)
@@ -247,7 +248,7 @@ impl Ways {
         Ok(())
     }
 
-    /// Gives all their ways that outlive those from this place of the order on. Fails only where no host memory is left.
+    /// Sets the paths of all regions that outlive those found from number `first` on.
     fn spread(&mut self, rows: &[Vec<RegionId>], first: usize) -> Result<(), AllocError>
         ensures { OnOk result ((bs : List (Region × Region)) → AreRows (rows_of rows.now) bs → AreWays bs self.old → AreWays bs self.new) }
     {
@@ -260,7 +261,7 @@ impl Ways {
         Ok(())
     }
 
-    /// Ways end at the regions that bounds lead to, but for those that are marked. Fails only where no host memory is left.
+    /// Lets paths end at the regions that are outlived by a bound, but outlive none themselves: `longer` has those that do.
     fn end_each(&mut self, bounds: &[Bound], longer: &[bool]) -> Result<(), AllocError>
         ensures { OnOk result ((bs : List (Region × Region)) → AreWays bs self.old → AreWays bs self.new) }
     {
@@ -272,7 +273,7 @@ impl Ways {
         Ok(())
     }
 
-    /// Gives all regions that have no way yet one, where bounds go round. Fails only where no host memory is left.
+    /// Sets the paths of the regions that have none yet, since their bounds form a circle.
     fn spread_round(&mut self, bounds: &[Bound], rows: &[Vec<RegionId>]) -> Result<(), AllocError>
         ensures { OnOk result ((bs : List (Region × Region)) → AreRows (rows_of rows.now) bs → AreWays bs self.old → AreWays bs self.new) }
     {
@@ -285,7 +286,7 @@ impl Ways {
     }
 }
 
-/// The ways of the regions of these bounds, which have these rows. Fails only where no host memory is left.
+/// The paths of the regions of these bounds. `rows` is the table of the bounds.
 pub(crate) fn ways_of(
     alloc: Global,
     bounds: &[Bound],

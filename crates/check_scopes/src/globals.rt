@@ -20,7 +20,7 @@ impl Drop for Globals<'_> {
 }
 
 impl<'p> Globals<'p> {
-    /// None.
+    /// No functions and globals.
     pub fn new(alloc: Global) -> Self
         ensures { (x : List ℕ) → global_meaning result x ≡ None }
     {
@@ -29,8 +29,8 @@ impl<'p> Globals<'p> {
         }
     }
 
-    /// Adds a name that isn't there, and tells whether it was added: one that is there stays what it is. Fails only where no
-    /// host memory is left, and then each name is what it was.
+    /// Adds a name that isn't there, and tells whether it did. A name that is there keeps its meaning. If it fails, each name has the
+    /// meaning that it had.
     pub fn add(&mut self, name: &'p [u8], meaning: Meaning<'p>) -> Result<bool, AllocError>
         ensures is_new { IfOk result (λ is_new. is_new ≡ not (is_some (global_meaning self.old name.entry.now))) }
         ensures names { IfOk result (λ is_new. (x : List ℕ)
@@ -44,7 +44,7 @@ impl<'p> Globals<'p> {
         Ok(true)
     }
 
-    /// What a name means.
+    /// The meaning of a name.
     pub fn meaning(&self, name: &[u8]) -> Option<&Meaning<'p>>
         ensures { option_copied result ≡ global_meaning self.now name.now }
     {

@@ -6,9 +6,9 @@ ghost use Rattle.check_scopes.specs.Linked.{last_in};
 use indexmap::IndexMap;
 use std::alloc::{AllocError, Global};
 
-/// The last local of each name, by how many locals were declared before it.
+/// The last local of each name, as its position among the locals.
 pub(crate) struct LastLocals<'p> {
-    /// A name whose locals were all left has no position.
+    /// None: the scopes of all locals of the name were left.
     by_name: IndexMap<&'p [u8], Option<usize>>,
 }
 
@@ -29,7 +29,7 @@ impl<'p> LastLocals<'p> {
         }
     }
 
-    /// The last local of the name.
+    /// The position of the name's last local.
     pub(crate) fn of(&self, name: &[u8]) -> Option<usize>
         ensures { result ≡ last_in self.now name.now }
     {
@@ -39,7 +39,7 @@ impl<'p> LastLocals<'p> {
         }
     }
 
-    /// Makes a new local the last one of its name. Fails only where no host memory is left, and then none is.
+    /// Makes a new local the last one of its name. If it fails, nothing changes.
     pub(crate) fn add(&mut self, name: &'p [u8], position: usize) -> Result<(), AllocError>
         ensures added { OnOk result ((other : List ℕ) → last_in self.new other ≡ (if bytes_eq name.now other then Some position else last_in self.old other)) }
         ensures kept { OnErr result ((other : List ℕ) → last_in self.new other ≡ last_in self.old other) }

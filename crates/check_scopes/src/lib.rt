@@ -1,6 +1,8 @@
-//! What the names mean that are visible at a point of a program.
+//! The meanings of the names that are visible at a point of a program.
 //!
-//! A scope here says of each name what the one of the rules in `source_typing` says.
+//! A scope here gives each name the meaning that the scope of the rules in `source_typing` gives it.
+//!
+//! Each function that answers a `Result` fails only where no host memory is left.
 #![tactic(auto)]
 
 mod globals;

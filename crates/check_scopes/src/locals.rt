@@ -15,9 +15,9 @@ pub enum What<'p> {
     Variable(CType<'p>, RegionId),
     /// An array of elements of a type, in a region.
     Array(CType<'p>, RegionId),
-    /// The index of an array that is made.
+    /// The index of an array comprehension.
     Counter,
-    /// One whose declaration is at fault.
+    /// A local whose declaration has an error.
     NotKnown,
 }
 
@@ -31,7 +31,7 @@ impl Drop for What<'_> {
     }
 }
 
-/// A local by its name, and the one of that name that it hides.
+/// A local by its name, and the position of the one of that name that it hides.
 #[derive(Drop)]
 struct Local<'p> {
     name: &'p [u8],
@@ -39,8 +39,8 @@ struct Local<'p> {
     hidden: Option<usize>,
 }
 
-/// The locals that are visible at a point, in the order of their declarations. A contract sees them as a list of what each
-/// name is, the latest first.
+/// The locals that are visible at a point, in the order of their declarations. A contract sees them as a list of what each name is, the
+/// latest first.
 pub struct Locals<'p> {
     all: Vec<Local<'p>>,
     last: LastLocals<'p>,
@@ -80,14 +80,14 @@ impl<'p> Locals<'p> {
         }
     }
 
-    /// How many locals there are.
+    /// The number of locals.
     pub fn len(&self) -> usize
         ensures { result ≡ length self.now }
     {
         self.all.len()
     }
 
-    /// Declares a local. Fails only where no host memory is left, and then none is added.
+    /// Declares a local. If it fails, none is added.
     pub fn declare(&mut self, name: &'p [u8], what: What<'p>) -> Result<(), AllocError>
         ensures declared { OnOk result (self.new ≡ known name.entry.now what.entry ∷ self.old) }
         ensures kept { OnErr result (self.new ≡ self.old) }
@@ -104,7 +104,7 @@ impl<'p> Locals<'p> {
         }
     }
 
-    /// Leaves a block: only so many locals stay, the earliest.
+    /// Leaves a block: the first `count` locals stay.
     pub fn leave(&mut self, count: usize)
         ensures { self.new ≡ dropped_to count self.old }
     {
@@ -115,7 +115,7 @@ impl<'p> Locals<'p> {
         }
     }
 
-    /// What a name is, where there is a local of that name.
+    /// What the latest local of a name is, if there is one.
     pub fn find(&self, name: &[u8]) -> Option<&What<'p>>
         ensures { option_copied result ≡ find_what self.now name.now }
     {
@@ -128,14 +128,14 @@ impl<'p> Locals<'p> {
         }
     }
 
-    /// How many locals were declared before the latest one of a name, where there is one.
+    /// The position of the latest local of a name, if there is one.
     pub fn position(&self, name: &[u8]) -> Option<usize>
         ensures { result ≡ position_of self.now name.now }
     {
         self.last.of(name)
     }
 
-    /// Whether there is one of a name after the first so many locals.
+    /// Whether there is a local of a name after the first `outer` ones.
     pub fn is_second(&self, outer: usize, name: &[u8]) -> bool
         ensures { result ≡ is_after self.now outer name.now }
     {

@@ -1,19 +1,19 @@
-// What a name means.
+// The meanings of names.
 
 use check_regions::DeclaredBounds;
 use cyc_types::{CType, RegionId};
 
-/// A function whose head has no fault: what it takes and gives, by its region variables, which are the first levels.
+/// A function whose head has no error: its parameters and result. Its region variables are the first levels.
 pub struct Signature<'p> {
-    /// How many region variables it has.
+    /// The number of region variables.
     pub regions: u32,
-    /// The types of its parameters. None: of a struct whose declaration is at fault, so that it isn't known.
+    /// The types of the parameters. None: it has a struct whose declaration has an error, so it isn't known.
     pub parameters: Vec<Option<CType<'p>>>,
-    /// The type of its result. None: as of a parameter.
+    /// The type of the result. None: as of a parameter.
     pub result: Option<CType<'p>>,
     /// The regions that have to be live where it is called.
     pub effect: Vec<RegionId>,
-    /// Which region outlives which.
+    /// Which region has to outlive which.
     pub bounds: DeclaredBounds,
 }
 
@@ -30,27 +30,27 @@ impl Drop for Signature<'_> {
     }
 }
 
-/// What a name means that no local hides.
+/// The meaning of a name that no local hides.
 pub enum Meaning<'p> {
     /// A variable of a type, in a region.
     Variable(CType<'p>, RegionId),
     /// An array of elements of a type, in a region.
     Array(CType<'p>, RegionId),
-    /// The index of an array that is made.
+    /// The index of an array comprehension.
     Counter,
     /// A function of the program.
     Function(Signature<'p>),
-    /// A function that every program has, with so many parameters.
+    /// A function that every program has, with its number of parameters.
     Builtin(u32),
-    /// A struct or union whose declaration has no fault.
+    /// A struct or union whose declaration has no error.
     Tag {
         is_union: bool,
-        /// How many region parameters it has.
+        /// The number of region parameters.
         regions: u32,
     },
-    /// A struct or union whose declaration is at fault; how many region parameters it has.
+    /// A struct or union whose declaration has an error, with the number of its region parameters.
     FaultyTag(u32),
-    /// A global or a function whose declaration is at fault.
+    /// A global or a function whose declaration has an error.
     NotKnown,
 }
 

@@ -1,4 +1,4 @@
-// What is in scope where an expression is judged.
+// The scope in which an expression is judged.
 
 ghost use Rattle.std.specs.Prelude.{◌≡◌, IfOk, option_map};
 ghost use Rattle.cyc_types.specs.Regions.{region_of};
@@ -14,33 +14,33 @@ use check_regions::RegionScope;
 use cyc_types::{CType, RegionId, Tables};
 use std::alloc::AllocError;
 
-/// What a name means where it is used.
+/// The meaning of a name where it is used.
 #[derive(Clone, Copy)]
 pub enum Named<'a, 'p> {
     /// A variable of a type, in a region.
     Variable(&'a CType<'p>, RegionId),
     /// An array of elements of a type, in a region.
     Array(&'a CType<'p>, RegionId),
-    /// The index of an array that is made.
+    /// The index of an array comprehension.
     Counter,
     /// A function of the program.
     Function(&'a Signature<'p>),
-    /// A function that every program has, with so many parameters.
+    /// A function that every program has, with its number of parameters.
     Builtin(u32),
-    /// A struct or union whose declaration has no fault.
+    /// A struct or union whose declaration has no error.
     Tag {
         is_union: bool,
-        /// How many region parameters it has.
+        /// The number of region parameters.
         regions: u32,
     },
-    /// A struct or union whose declaration is at fault; how many region parameters it has.
+    /// A struct or union whose declaration has an error, with the number of its region parameters.
     FaultyTag(u32),
-    /// A local, a global or a function whose declaration is at fault.
+    /// A local, a global or a function whose declaration has an error.
     NotKnown,
 }
 
-/// What is in scope where an expression is judged: names, structs and unions, regions, and whether the rules on live regions and effects
-/// are left out.
+/// The scope in which an expression is judged: names, structs and unions, regions, and whether the rules on live regions and effects are
+/// left out.
 pub struct Scope<'g, 'p> {
     pub globals: &'g Globals<'p>,
     /// The structs and unions of the program.
@@ -63,7 +63,7 @@ impl Drop for Scope<'_, '_> {
     }
 }
 
-/// What a local is, as what its name means.
+/// The meaning of a name that is this local.
 fn named_local<'a, 'p>(what: &'a What<'p>) -> Named<'a, 'p>
     ensures { meaning_of result ≡ of_local what.now }
 {
@@ -75,7 +75,7 @@ fn named_local<'a, 'p>(what: &'a What<'p>) -> Named<'a, 'p>
     }
 }
 
-/// What a global or a function is, as what its name means.
+/// The meaning of a name that is this global or function.
 fn named_global<'a, 'p>(meaning: &'a Meaning<'p>) -> Named<'a, 'p>
     ensures { meaning_of result ≡ meaning.now }
 {
@@ -95,7 +95,7 @@ fn named_global<'a, 'p>(meaning: &'a Meaning<'p>) -> Named<'a, 'p>
 }
 
 impl<'g, 'p> Scope<'g, 'p> {
-    /// What a name means, where it means something.
+    /// The meaning of a name, if it has one.
     #[tactic(auto, using(crate::proofs::Ruled::named_by_rules))]
     pub fn meaning(&self, name: &[u8]) -> Option<Named<'_, 'p>>
         ensures is { option_map meaning_of result ≡ means_in self.now name.now }
@@ -107,7 +107,7 @@ impl<'g, 'p> Scope<'g, 'p> {
         }
     }
 
-    /// What a name means that no local hides.
+    /// The meaning of a name that no local hides.
     fn global_meaning(&self, name: &[u8]) -> Option<Named<'_, 'p>>
         ensures { option_map meaning_of result ≡ global_meaning self.now.globals.now name.now }
     {
@@ -117,7 +117,7 @@ impl<'g, 'p> Scope<'g, 'p> {
         }
     }
 
-    /// Whether a region is live, or counts as live.
+    /// Whether a region is live, or is taken as live.
     #[tactic(auto, using(crate::proofs::Ruled::seen_regions, crate::proofs::Ruled::seen_lenient))]
     pub fn is_live(&self, region: RegionId) -> bool
         ensures { (g : Env) → Sees self.now g → result ≡ is_live g (region_of region) }
@@ -125,7 +125,7 @@ impl<'g, 'p> Scope<'g, 'p> {
         self.lenient || self.regions.is_live(region)
     }
 
-    /// Whether a region outlives another one. Fails only where no host memory is left.
+    /// Whether a region outlives another one.
     #[tactic(auto, using(crate::proofs::Ruled::seen_regions))]
     pub fn outlives(&self, one: RegionId, other: RegionId) -> Result<bool, AllocError>
         ensures { (g : Env) → Sees self.now g → IfOk result (λ b. b ≡ outlives g (region_of one) (region_of other)) }

@@ -50,7 +50,7 @@ fn exchanged_fault(inside: Option<Fault>, left: &Value, right: &Value) -> Option
     }
 }
 
-/// The earliest fault of an exchange of two places. Fails only where no host memory is left.
+/// The earliest fault of an exchange of two places.
 pub(crate) fn exchange_fault(
     scope: &Scope<'_, '_>,
     alloc: Global,

@@ -15,7 +15,7 @@ use cyc_tree::{Clause, Pattern};
 use cyc_types::{Member, Tables};
 use std::alloc::{AllocError, Global};
 
-/// Counts the member that a clause names, if it names one. Fails only where no host memory is left.
+/// Counts the member that a clause names, if it names one.
 fn count_named<'c>(times: &mut NameTimes<'c>, clause: &'c Clause) -> Result<(), AllocError>
     ensures { OnOk result ((x : List ℕ)
         → times_of times.new x ≡ one_if (names_part (pattern_tree clause.entry.now.pattern) x) + times_of times.old x) }
@@ -36,7 +36,7 @@ fn is_default(clause: &Clause) -> bool
     }
 }
 
-/// How often each member stands in the clauses. Fails only where no host memory is left.
+/// How often each member stands in the clauses.
 #[tactic(auto, using(crate::proofs::Clauses::times_more))]
 fn clause_times<'c>(alloc: Global, clauses: &'c [Clause]) -> Result<NameTimes<'c>, AllocError>
     ensures { IfOk result (λ times. (x : List ℕ) → times_of times x ≡ named_times x (clauses_of (map clause_tree clauses.entry.now))) }
@@ -81,7 +81,7 @@ fn all_counted(members: &[Member], times: &NameTimes<'_>, has_default: bool) -> 
     true
 }
 
-/// Whether each member stands in the clauses once, or where there is a `default`, at most once. Fails only where no host memory is left.
+/// Whether each member stands in the clauses once, or where there is a `default`, at most once.
 #[tactic(auto, using(crate::proofs::Clauses::counted_named))]
 fn all_named(
     alloc: Global,
@@ -95,8 +95,7 @@ fn all_named(
     Ok(all_counted(members, &times, has_default))
 }
 
-/// Whether the clauses name the members of a union, each once, or where there is a `default`, at most once. Fails only where no host memory
-/// is left.
+/// Whether the clauses name the members of a union, each once, or where there is a `default`, at most once.
 fn union_named(
     tables: &Tables<'_>,
     alloc: Global,
@@ -113,7 +112,7 @@ fn union_named(
     }
 }
 
-/// Whether the clauses fit a union. Fails only where no host memory is left.
+/// Whether the clauses fit a union.
 pub(crate) fn clauses_fit(
     tables: &Tables<'_>,
     alloc: Global,

@@ -48,7 +48,7 @@ fn tested<'p>(judged: Verdict<Value<'p>>, at: u32) -> Verdict<Value<'p>>
     }
 }
 
-/// The earliest fault of the condition of an `if` or a loop. Fails only where no host memory is left.
+/// The earliest fault of the condition of an `if` or a loop.
 #[tactic(auto, using(check_heads::proofs::Answered::fault_is))]
 pub(crate) fn condition_fault(
     scope: &Scope<'_, '_>,
@@ -62,7 +62,7 @@ pub(crate) fn condition_fault(
     Ok(tested(judged, of.place()).fault())
 }
 
-/// The earliest fault of an expression that stands as a statement. Fails only where no host memory is left.
+/// The earliest fault of an expression that stands as a statement.
 #[tactic(auto, using(check_heads::proofs::Answered::fault_is))]
 pub(crate) fn expression_fault(
     scope: &Scope<'_, '_>,
@@ -86,7 +86,7 @@ fn none_returned(at: u32, result_type: Option<&CType<'_>>) -> Option<Fault>
     }
 }
 
-/// The earliest fault of a value that is returned where a type is given. Fails only where no host memory is left.
+/// The earliest fault of a value that is returned where a type is given.
 fn value_returned<'p>(
     scope: &Scope<'_, 'p>,
     at: u32,
@@ -103,7 +103,7 @@ fn value_returned<'p>(
     }
 }
 
-/// The earliest fault of a `return` with what its result was judged to be. Fails only where no host memory is left.
+/// The earliest fault of a `return` with what its result was judged to be.
 fn some_returned<'p>(
     scope: &Scope<'_, 'p>,
     at: u32,
@@ -121,7 +121,7 @@ fn some_returned<'p>(
     }
 }
 
-/// The earliest fault of a `return`. Fails only where no host memory is left.
+/// The earliest fault of a `return`.
 pub(crate) fn return_fault<'p>(
     scope: &Scope<'_, 'p>,
     alloc: Global,

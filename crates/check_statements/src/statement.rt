@@ -29,7 +29,7 @@ use check_scopes::Scope;
 use cyc_tree::{BlockItem, Clause, Statement};
 use std::alloc::{AllocError, Global};
 
-/// The earliest fault of a statement without others in it. Fails only where no host memory is left.
+/// The earliest fault of a statement without others in it.
 fn plain_fault<'p>(
     scope: &Scope<'_, 'p>,
     alloc: Global,
@@ -57,8 +57,7 @@ fn plain_fault<'p>(
     }
 }
 
-/// The earliest fault of a statement, by whether its start is reached. What is in scope is the same before and after it. Fails only
-/// where no host memory is left.
+/// The earliest fault of a statement, by whether its start is reached. What is in scope is the same before and after it.
 #[cycle(statement)]
 fn statement_fault<'p>(
     scope: &mut Scope<'_, 'p>,
@@ -110,7 +109,7 @@ fn statement_fault<'p>(
     }
 }
 
-/// The earliest fault of a block. What is in scope is the same before and after it. Fails only where no host memory is left.
+/// The earliest fault of a block. What is in scope is the same before and after it.
 #[cycle(statement)]
 fn block_fault<'p>(
     scope: &mut Scope<'_, 'p>,
@@ -139,8 +138,8 @@ fn block_fault<'p>(
     Ok(found)
 }
 
-/// The earliest fault of a block's items, where the block's own locals come after the first `outer` ones, by whether the start is
-/// reached. What was in scope before is so again where the block is left. Fails only where no host memory is left.
+/// The earliest fault of a block's items, where the block's own locals come after the first `outer` ones, by whether the start is reached.
+/// What was in scope before is so again where the block is left.
 #[cycle(statement)]
 pub fn items_fault<'p>(
     scope: &mut Scope<'_, 'p>,
@@ -175,8 +174,7 @@ pub fn items_fault<'p>(
     Ok(found)
 }
 
-/// The earliest fault of the clauses of a `switch`. What is in scope is the same before and after them. Fails only where no host memory
-/// is left.
+/// The earliest fault of the clauses of a `switch`. What is in scope is the same before and after them.
 #[cycle(statement)]
 fn clauses_fault<'p>(
     scope: &mut Scope<'_, 'p>,
@@ -201,8 +199,7 @@ fn clauses_fault<'p>(
     Ok(found)
 }
 
-/// The earliest fault of a clause of a `switch`, which is a block with its name. What is in scope is the same before and after it. Fails
-/// only where no host memory is left.
+/// The earliest fault of a clause of a `switch`, which is a block with its name. What is in scope is the same before and after it.
 #[cycle(statement)]
 fn clause_fault<'p>(
     scope: &mut Scope<'_, 'p>,

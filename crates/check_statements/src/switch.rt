@@ -89,7 +89,7 @@ pub(crate) fn clause_found(
     first_or(sooner(pattern, inside), end)
 }
 
-/// The fault of a `switch` on what is in order: that is no union's place, or the clauses don't fit. Fails only where no host memory is left.
+/// The fault of a `switch` on what is in order: that is no union's place, or the clauses don't fit.
 fn value_fault(
     tables: &Tables<'_>,
     alloc: Global,
@@ -109,7 +109,7 @@ fn value_fault(
     }
 }
 
-/// The fault of a `switch` whose parts have none. Fails only where no host memory is left.
+/// The fault of a `switch` whose parts have none.
 fn own_fault(
     tables: &Tables<'_>,
     alloc: Global,
@@ -127,7 +127,7 @@ fn own_fault(
     }
 }
 
-/// The fault of a `switch`, by what was judged of its place and the earliest fault of its clauses. Fails only where no host memory is left.
+/// The fault of a `switch`, by what was judged of its place and the earliest fault of its clauses.
 pub(crate) fn switch_fault(
     tables: &Tables<'_>,
     alloc: Global,

@@ -21,7 +21,7 @@ use check_types::{TagName, TagNames, type_tag};
 use cyc_tree::{Base, Item, Member, Name, RegionName, Structure, TypeName};
 use std::alloc::{AllocError, Global};
 
-/// The names of the functions that every program has. Fails only where no host memory is left.
+/// The names of the functions that every program has.
 pub(crate) fn builtin_names<'p>(alloc: Global) -> Result<TagNames<'p>, AllocError>
     ensures { (others : Tables) → IfOk result (λ names. AreSince names others (builtins others)) }
 {
@@ -42,7 +42,7 @@ pub(crate) fn item_name(item: &Item) -> &Name
     }
 }
 
-/// How many these are. A number over a u32 is want of memory.
+/// How many these are. If it is over a u32, memory has run out.
 fn count_of(regions: &[RegionName]) -> Result<u32, AllocError>
     ensures { IfOk result (λ n. n ≡ length (map region_tree regions.now)) }
 {
@@ -156,7 +156,6 @@ fn head_tag(tags: HeadTags<'_, '_>, of: &TypeName) -> TagName
 }
 
 /// Whether a member of a union, or else of a struct, has none of the faults that hang on no tag, where these region names are in scope.
-/// Fails only where no host memory is left.
 fn is_head_clean(
     alloc: Global,
     is_union: bool,
@@ -184,7 +183,6 @@ fn are_both(one: bool, other: bool) -> bool
 }
 
 /// Whether members of a union, or else of a struct, have none of the faults that hang on no tag, where these region names are in scope.
-/// Fails only where no host memory is left.
 fn are_heads_clean(
     alloc: Global,
     is_union: bool,
@@ -204,7 +202,7 @@ fn are_heads_clean(
 }
 
 /// Whether members of a union, or else of a struct, have none of the faults that hang on no tag, and each name once, where these region
-/// names are in scope. Fails only where no host memory is left.
+/// names are in scope.
 fn are_members_clean(
     alloc: Global,
     is_union: bool,
@@ -221,7 +219,7 @@ fn are_members_clean(
     Ok(are_both(clean, second.is_none()))
 }
 
-/// What the tag of a union, or else a struct, means that has so many region parameters, by whether its declaration has no fault.
+/// The meaning of the tag of a union, or else a struct, with `regions` region parameters, by whether its declaration has no fault.
 fn tag_name(is_union: bool, clean: bool, regions: u32) -> TagName
     ensures { result ≡ (if clean then Tag is_union regions else NotJudged regions) }
 {

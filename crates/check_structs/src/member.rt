@@ -20,7 +20,7 @@ use cyc_tree::{Member, TypeName};
 use cyc_types::{CType, Layer};
 use std::alloc::{AllocError, Global};
 
-/// The type of a member, by what its tag means, where these region names are in scope. Fails only where no host memory is left.
+/// The type of a member, by what its tag means, where these region names are in scope.
 pub(crate) fn type_alone<'p>(
     alloc: Global,
     tag: TagName,
@@ -55,7 +55,7 @@ pub(crate) fn fits_member(is_union: bool, of: &CType<'_>) -> bool
     }
 }
 
-/// The earliest fault of second members of a name. Fails only where no host memory is left.
+/// The earliest fault of second members of a name.
 pub(crate) fn repeated_fault(alloc: Global, members: &[Member]) -> Result<Option<Fault>, AllocError>
     ensures { IfOk result (λ f. faults_of f ≡ earliest (repeated [] (map member_tree members.now))) }
 {

@@ -13,7 +13,7 @@ use cyc_tree::RegionName;
 use cyc_types::RegionId;
 use std::alloc::{AllocError, Global};
 
-/// A number more. A number over a u32 is want of memory.
+/// A number more. If it is over a u32, memory has run out.
 pub(crate) fn next_number(number: u32) -> Result<u32, AllocError>
     ensures { IfOk result (λ next. next ≡ number + 1) }
 {
@@ -45,8 +45,7 @@ pub(crate) struct RegionParameters<'p> {
     pub(crate) fault: Option<Fault>,
 }
 
-/// Adds a region parameter of this number where it has a name and none of its spelling is there, and tells whether it did. Fails only
-/// where no host memory is left.
+/// Adds a region parameter of this number where it has a name and none of its spelling is there, and tells whether it did.
 fn add_name<'p>(
     names: &mut RegionNames<'p>,
     number: u32,

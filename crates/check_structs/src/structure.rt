@@ -66,8 +66,7 @@ fn fitting_member<'p>(
     }
 }
 
-/// A member's type, by what its tag means and by the structs and unions that are declared, where these region names are in scope. Fails
-/// only where no host memory is left.
+/// A member's type, by what its tag means and by the structs and unions that are declared, where these region names are in scope.
 fn type_by_tag<'p>(
     alloc: Global,
     is_union: bool,
@@ -87,7 +86,7 @@ fn type_by_tag<'p>(
     }
 }
 
-/// The type of a member of a union, or else of a struct, where these region names are in scope. Fails only where no host memory is left.
+/// The type of a member of a union, or else of a struct, where these region names are in scope.
 fn member_type<'p>(
     alloc: Global,
     is_union: bool,
@@ -132,7 +131,7 @@ struct JudgedMembers<'p> {
 }
 
 impl<'p> JudgedMembers<'p> {
-    /// Adds a member. Fails only where no host memory is left.
+    /// Adds a member.
     fn add(&mut self, name: &'p [u8], of: Verdict<CType<'p>>) -> Result<(), AllocError>
         ensures parts { OnOk result (members_of self.new.members.items
             ≡ members_of self.old.members.items ++ record { name = name.entry.now; type = known_short (short_of static_type of.entry) } ∷ []) }
@@ -147,7 +146,7 @@ impl<'p> JudgedMembers<'p> {
     }
 }
 
-/// The members of a union, or else of a struct, where these region names are in scope. Fails only where no host memory is left.
+/// The members of a union, or else of a struct, where these region names are in scope.
 fn judged_members<'p>(
     alloc: Global,
     is_union: bool,

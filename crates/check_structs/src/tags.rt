@@ -35,7 +35,7 @@ pub struct JudgedTags<'p> {
     pub fault: Option<Fault>,
 }
 
-/// Declares a struct or union with a new name and declared members. Fails only where no host memory is left.
+/// Declares a struct or union with a new name and declared members.
 fn declare<'p>(tables: &mut Tables<'p>, name: &'p [u8], tag: Tag<'p>) -> Result<(), AllocError>
     // its name is new
     requires new { tag_in (tables_of tables.old) name.now ≡ None }
@@ -70,7 +70,7 @@ fn found_name(found: &Option<JudgedTag<'_>>) -> TagName
     }
 }
 
-/// Declares a struct or union with declared members, where its name is new. Fails only where no host memory is left.
+/// Declares a struct or union with declared members, where its name is new.
 fn declare_new<'p>(
     tables: &mut Tables<'p>,
     is_new: bool,
@@ -91,7 +91,7 @@ fn declare_new<'p>(
     Ok(())
 }
 
-/// Declares what was found of an item, where its name is new, and tells its fault. Fails only where no host memory is left.
+/// Declares what was found of an item, where its name is new, and tells its fault.
 fn declare_found<'p>(
     tables: &mut Tables<'p>,
     is_new: bool,
@@ -117,7 +117,7 @@ fn declare_found<'p>(
 }
 
 impl<'p> JudgedTags<'p> {
-    /// Adds an item. Fails only where no host memory is left.
+    /// Adds an item.
     fn add(&mut self, name: &'p [u8], found: Option<JudgedTag<'p>>) -> Result<(), AllocError>
         // a name that isn't known is no struct's or union's
         requires new { has_tag_name self.old.names name.now ≡ false → tag_in (tables_of self.old.tables) name.now ≡ None }
@@ -133,7 +133,7 @@ impl<'p> JudgedTags<'p> {
     }
 }
 
-/// What is found of an item, where it is a struct or union. Fails only where no host memory is left.
+/// What is found of an item, where it is a struct or union.
 fn judged_item<'p>(
     alloc: Global,
     known: Known<'_, 'p>,
@@ -156,7 +156,7 @@ fn judged_item<'p>(
     }
 }
 
-/// No item, with the functions that every program has. Fails only where no host memory is left.
+/// No item, with the functions that every program has.
 fn no_tags<'p>(alloc: Global) -> Result<JudgedTags<'p>, AllocError>
     ensures { IfOk result (AreJudged []) }
 {
@@ -168,7 +168,7 @@ fn no_tags<'p>(alloc: Global) -> Result<JudgedTags<'p>, AllocError>
     })
 }
 
-/// The structs and unions of items, by what is first known of their names. Fails only where no host memory is left.
+/// The structs and unions of items, by what is first known of their names.
 fn judged_items<'p>(
     alloc: Global,
     first: &TagNames<'p>,

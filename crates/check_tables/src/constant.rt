@@ -50,7 +50,7 @@ fn plain_value<'p>(alloc: Global, at: u32, base: BaseType<'p>) -> Verdict<Value<
     })
 }
 
-/// The value of a constant. Fails only where no host memory is left.
+/// The value of a constant.
 fn constant_value<'p>(alloc: Global, given: &Constant) -> Result<Verdict<Value<'p>>, AllocError>
     ensures { IfOk result (λ v. short_of value_of v ≡ shortened (constant (constant_tree given.now))) }
 {
@@ -64,7 +64,7 @@ fn constant_value<'p>(alloc: Global, given: &Constant) -> Result<Verdict<Value<'
     }
 }
 
-/// The earliest fault of a global's type and its constant. Fails only where no host memory is left.
+/// The earliest fault of a global's type and its constant.
 fn given_fault(
     alloc: Global,
     value: &Verdict<Value<'_>>,
@@ -86,7 +86,7 @@ fn given_fault(
     set_fault(&scope, value, of)
 }
 
-/// Whether so many elements are as many as a pointer leads to, where it is a thin one.
+/// Whether there are at least as many elements as the pointer's bound, if it is a thin one.
 fn are_enough(elements: usize, pointer: Option<Layer>) -> bool
     ensures { result ≡ are_enough elements pointer }
 {
@@ -107,7 +107,7 @@ fn is_long_enough(bytes: &[u8], to: &Verdict<CType<'_>>) -> bool
     }
 }
 
-/// The fault of a string at a place that has fewer elements than the pointer of its global leads to.
+/// The fault of a string at this position that has fewer elements than the bound of its global's pointer.
 #[tactic(auto, using(crate::proofs::Texts::enough_faults, crate::proofs::Texts::short_faults))]
 fn text_fault(at: u32, bytes: &[u8], to: &Verdict<CType<'_>>) -> Option<Fault>
     ensures { (v : judged.Value) (t : rules.Verdict StaticType) → short_of static_type to.now ≡ shortened t
@@ -152,7 +152,7 @@ fn string_fault(
     }
 }
 
-/// The earliest fault of a global's type and of what it begins with. Fails only where no host memory is left.
+/// The earliest fault of a global's type and of what it begins with.
 pub(crate) fn initial_fault(
     alloc: Global,
     initial: &Initial,

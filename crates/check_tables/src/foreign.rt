@@ -84,7 +84,7 @@ fn region_name(region: &RegionName) -> Option<&Name>
     }
 }
 
-/// Adds the name of a region, if it has one, as the heap. Fails only where no host memory is left.
+/// Adds the name of a region, if it has one, as the heap.
 fn add_name<'a>(names: &mut RegionNames<'a>, region: &'a RegionName) -> Result<(), AllocError>
     ensures { OnOk result ((p : Bool) (ss : List Spot) (x : List ℕ) → or_region (find_region names.new x) (foreign_in ss x)
         ≡ or_region (find_region names.old x) (foreign_in (spot p (Some (region_tree region.entry.now)) ∷ ss) x)) }
@@ -95,7 +95,7 @@ fn add_name<'a>(names: &mut RegionNames<'a>, region: &'a RegionName) -> Result<(
     Ok(())
 }
 
-/// Adds the names of regions, each as the heap. Fails only where no host memory is left.
+/// Adds the names of regions, each as the heap.
 fn add_names<'a>(names: &mut RegionNames<'a>, arguments: &'a [RegionName]) -> Result<(), AllocError>
     ensures { OnOk result ((ss : List Spot) (x : List ℕ) → or_region (find_region names.new x) (foreign_in ss x)
         ≡ or_region (find_region names.old x) (foreign_in (named_spots (map region_tree arguments.entry.now) ++ ss) x)) }
@@ -106,7 +106,7 @@ fn add_names<'a>(names: &mut RegionNames<'a>, arguments: &'a [RegionName]) -> Re
     Ok(())
 }
 
-/// Adds the name of the region that a pointer has, if it has one, as the heap. Fails only where no host memory is left.
+/// Adds the name of the region that a pointer has, if it has one, as the heap.
 fn add_region<'a>(names: &mut RegionNames<'a>, pointer: &'a Pointer) -> Result<(), AllocError>
     ensures { OnOk result ((ss : List Spot) (x : List ℕ) → or_region (find_region names.new x) (foreign_in ss x)
         ≡ or_region (find_region names.old x) (foreign_in (spot true (pointer_tree pointer.entry.now).region ∷ ss) x)) }
@@ -120,7 +120,7 @@ fn add_region<'a>(names: &mut RegionNames<'a>, pointer: &'a Pointer) -> Result<(
     }
 }
 
-/// Adds the names of the regions that pointers have, each as the heap. Fails only where no host memory is left.
+/// Adds the names of the regions that pointers have, each as the heap.
 fn add_regions<'a>(names: &mut RegionNames<'a>, pointers: &'a [Pointer]) -> Result<(), AllocError>
     ensures { OnOk result ((x : List ℕ) → find_region names.new x
         ≡ or_region (find_region names.old x) (foreign_in (spots_in (map pointer_tree pointers.entry.now)) x)) }
@@ -131,7 +131,7 @@ fn add_regions<'a>(names: &mut RegionNames<'a>, pointers: &'a [Pointer]) -> Resu
     Ok(())
 }
 
-/// The names of regions that a type has, each as the heap. Fails only where no host memory is left.
+/// The names of regions that a type has, each as the heap.
 pub(crate) fn foreign_names<'a>(
     alloc: Global,
     of: &'a TypeName,

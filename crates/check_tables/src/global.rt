@@ -34,7 +34,7 @@ use std::alloc::{AllocError, Global};
 pub struct JudgedGlobal<'p> {
     pub fault: Option<Fault>,
     pub meaning: Meaning<'p>,
-    /// Rounded up to 8; none where it is at fault or isn't judged.
+    /// The size rounded up to 8, or 0 if the global has a fault or isn't judged.
     pub bytes: u64,
 }
 
@@ -61,7 +61,7 @@ fn unknown<'p>(fault: Option<Fault>) -> JudgedGlobal<'p>
     }
 }
 
-/// What a global's name means: a variable of a type, or an array of so many elements of it.
+/// The meaning of a global's name: a variable of a type, or an array of `count` elements of it.
 fn meaning_of<'p>(count: Option<u32>, of: CType<'p>) -> Meaning<'p>
     ensures { result ≡ meaning_by None count of.entry }
 {
@@ -71,7 +71,7 @@ fn meaning_of<'p>(count: Option<u32>, of: CType<'p>) -> Meaning<'p>
     }
 }
 
-/// A global of a type of so many bytes, by its fault.
+/// A global of this type and size, by its fault.
 fn of_type<'p>(
     count: Option<u32>,
     of: CType<'p>,
@@ -92,7 +92,7 @@ fn of_type<'p>(
     }
 }
 
-/// What a global is, by its type of so many bytes and its earliest fault.
+/// A global, by its type and size and its earliest fault.
 fn by_type<'p>(
     count: Option<u32>,
     of: Verdict<CType<'p>>,
@@ -112,7 +112,7 @@ fn by_type<'p>(
     }
 }
 
-/// What a global after so many items is, by its type and its constant. Fails only where no host memory is left.
+/// The global that is the program's item number `item`, by its type and its constant.
 pub fn judged_global<'p>(
     alloc: Global,
     structs: Structs<'_, 'p>,

@@ -23,7 +23,7 @@ use cyc_tree::TypeName;
 use cyc_types::CType;
 use std::alloc::{AllocError, Global};
 
-/// The type, at fault at this place where a global after so many items, or an array of so many elements, can't be of it, as where it
+/// The type, or the fault at this position if the global number `item`, or an array of `count` elements, can't have it, as if the type
 /// names a region.
 fn fitted_global<'p>(
     structs: Structs<'_, 'p>,
@@ -46,7 +46,7 @@ fn fitted_global<'p>(
     }
 }
 
-/// The type, at fault at this place where a global after so many items, or an array of so many elements, can't be of it.
+/// The type, or the fault at this position if the global number `item`, or an array of `count` elements, can't have it.
 fn fitting<'p>(
     structs: Structs<'_, 'p>,
     item: u32,
@@ -66,8 +66,7 @@ fn fitting<'p>(
     }
 }
 
-/// The type of a global after so many items, or of the elements of an array of so many: it names no region but the heap and the unique
-/// one. Fails only where no host memory is left.
+/// The type of the global number `item`, or of the elements of an array of `count`. It names no region but the heap and the unique one.
 pub(crate) fn global_type<'p>(
     alloc: Global,
     structs: Structs<'_, 'p>,
@@ -86,7 +85,7 @@ pub(crate) fn global_type<'p>(
     Ok(fitting(structs, item, count, settled, of.at, is_unnamed))
 }
 
-/// So many bytes of one element, or of so many elements.
+/// The bytes of one element, or of `count` elements.
 fn bytes_of(count: Option<u32>, size: u32) -> u64
     ensures bytes { result ≡ bytes_of count size }
     ensures within { result ≤ 18446744065119617025 }
@@ -97,14 +96,14 @@ fn bytes_of(count: Option<u32>, size: u32) -> u64
     }
 }
 
-/// So many bytes of one element, or of so many elements, rounded up to 8.
+/// The bytes of one element, or of `count` elements, rounded up to 8.
 fn padded(count: Option<u32>, size: u32) -> u64
     ensures { result ≡ rounded_up (bytes_of count size) 8 }
 {
     (bytes_of(count, size) + 7) / 8 * 8
 }
 
-/// How many bytes a global of a type has, or an array of so many elements of it, rounded up to 8; none where the type isn't known.
+/// The bytes of a global of a type, or of an array of `count` elements of it, rounded up to 8; 0 if the type isn't known.
 pub(crate) fn type_bytes(
     structs: Structs<'_, '_>,
     count: Option<u32>,

@@ -19,7 +19,7 @@ use check_types::TagName;
 use cyc_tree::{Function, Item, Name};
 use std::alloc::{AllocError, Global};
 
-/// The names of the functions that every program has, and what they mean. Fails only where no host memory is left.
+/// The names of the functions that every program has, and what they mean.
 fn builtin_names<'p>(alloc: Global) -> Result<Globals<'p>, AllocError>
     ensures { (others : Tables) (x : List ℕ) → IfOk result (λ names. Since (find (builtins others) x) (global_meaning names x) (find others x)) }
 {
@@ -40,7 +40,7 @@ pub fn item_name(item: &Item) -> &Name
     }
 }
 
-/// What a function's name means. Fails only where no host memory is left.
+/// What a function's name means.
 fn function_meaning<'p>(
     alloc: Global,
     structs: Structs<'_, 'p>,
@@ -65,7 +65,7 @@ fn tag_meaning<'p>(structs: Structs<'_, '_>, name: &Name) -> Meaning<'p>
     }
 }
 
-/// What the name of an item after so many means. Fails only where no host memory is left.
+/// The meaning of the name of the program's item number `index`.
 fn item_meaning<'p>(
     alloc: Global,
     structs: Structs<'_, 'p>,
@@ -93,8 +93,8 @@ fn item_meaning<'p>(
     }
 }
 
-/// What the names of a program's items mean, and those of the functions that every program has; with or without the rules on live
-/// regions and effects. Fails only where no host memory is left.
+/// What the names of a program's items mean, and those of the functions that every program has; with or without the rules on live regions
+/// and effects.
 pub fn program_names<'p>(
     alloc: Global,
     structs: Structs<'_, 'p>,
@@ -115,7 +115,7 @@ pub fn program_names<'p>(
     Ok(names)
 }
 
-/// The index after this one. One over a u32 is want of memory.
+/// The index after this one. If it is over a u32, memory has run out.
 pub fn next_index(index: u32) -> Result<u32, AllocError>
     ensures { IfOk result (λ i. i ≡ index + 1) }
 {

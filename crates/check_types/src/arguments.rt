@@ -28,14 +28,14 @@ pub fn written_arguments(base: &Base) -> &[RegionName]
     }
 }
 
-/// Whether these arguments do for so many region parameters: all are written, or none.
+/// Whether these arguments fit `count` region parameters: all are written, or none.
 pub(crate) fn count_fits(arguments: &[RegionName], count: u32) -> bool
     ensures { result ≡ count_meets (map region_tree arguments.now) count }
 {
     arguments.is_empty() || arguments.len() == count as usize
 }
 
-/// Whether an argument is missing, where so many are wanted.
+/// Whether an argument is missing, where `count` are wanted.
 pub(crate) fn misses_argument(arguments: &[RegionName], count: u32) -> bool
     ensures { result ≡ any_missing (spots_by count (map region_tree arguments.now)) }
 {
@@ -131,7 +131,7 @@ fn named_arguments(
     Ok(found)
 }
 
-/// The arguments with the regions that are found, so many missing ones where none is written.
+/// The arguments with the regions that are found, or `count` missing ones if none is written.
 pub(crate) fn found_arguments(
     alloc: Global,
     names: &RegionNames<'_>,

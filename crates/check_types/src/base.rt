@@ -131,7 +131,7 @@ fn or_heap(region: Option<RegionId>) -> RegionId
 }
 
 impl<'p> WrittenBase<'p> {
-    /// The base with its missing regions from what a type leads to through so many pointers. Fails only where no host memory is left.
+    /// The base with its missing regions from what a type leads to through so many pointers.
     pub(crate) fn filled(
         &self,
         alloc: Global,

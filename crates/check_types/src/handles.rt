@@ -30,7 +30,7 @@ pub(crate) fn region_base<'p>(of: &Base, region: Option<RegionId>) -> WrittenBas
     }
 }
 
-/// A type of handles or keys of this region. Fails only where no host memory is left.
+/// A type of handles or keys of this region.
 pub(crate) fn written_handle<'p>(
     alloc: Global,
     names: &RegionNames<'_>,

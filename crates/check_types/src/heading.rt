@@ -15,7 +15,7 @@ use check_faults::{Fault, FaultKind, Verdict};
 use cyc_types::CType;
 use std::alloc::AllocError;
 
-/// A type that takes no missing regions from another one. Fails only where no host memory is left.
+/// A type that takes no missing regions from another one.
 pub fn settled_alone<'p>(
     of: Verdict<WrittenType<'p>>,
     at: u32,
@@ -40,7 +40,7 @@ fn fits(of: &CType<'_>, takes_void: bool) -> bool
     (takes_void && of.is_void()) || (of.is_scalar() && !of.is_union())
 }
 
-/// The type, at fault at this place where it doesn't fit.
+/// The type, or the fault at this position if it doesn't fit.
 fn fitted<'p>(of: CType<'p>, at: u32, takes_void: bool) -> Verdict<CType<'p>>
     ensures { short_of static_type result ≡ shortened (if_scalar takes_void at (static_type of.entry)) }
 {

@@ -1,6 +1,8 @@
 //! Types as a text writes them, and what they are once their missing regions are found.
 //!
 //! What is said of them are the definitions of `source_typing`, on which it stands: a function here answers the verdict that the rules have.
+//!
+//! Each function that answers a `Result` fails only where no host memory is left.
 #![tactic(auto)]
 
 mod arguments;

@@ -42,7 +42,7 @@ fn parameter_of<'p>(
 }
 
 impl<'p> RegionVariables<'p> {
-    /// The type of a parameter of pointers to this base. Fails only where no host memory is left.
+    /// The type of a parameter of pointers to this base.
     fn on_base(
         &mut self,
         alloc: Global,
@@ -59,7 +59,7 @@ impl<'p> RegionVariables<'p> {
         Ok(parameter)
     }
 
-    /// The type of a parameter of pointers to a struct or union, by what its tag means. Fails only where no host memory is left.
+    /// The type of a parameter of pointers to a struct or union, by what its tag means.
     fn on_tagged(
         &mut self,
         alloc: Global,
@@ -82,7 +82,7 @@ impl<'p> RegionVariables<'p> {
         Ok(fitting(settled, of.at, false))
     }
 
-    /// The type of a parameter of handles or keys of this region, or of pointers to them. Fails only where no host memory is left.
+    /// The type of a parameter of handles or keys of this region, or of pointers to them.
     fn on_handle(
         &mut self,
         alloc: Global,
@@ -107,7 +107,7 @@ impl<'p> RegionVariables<'p> {
     }
 
     /// The type of a parameter, where the tag of a struct or union means this: a scalar other than a union. Its missing regions, and the
-    /// first of each name, are fresh variables. Fails only where no host memory is left.
+    /// first of each name, are fresh variables.
     pub fn parameter_in(
         &mut self,
         alloc: Global,

@@ -26,7 +26,7 @@ fn refused<'p>(at: u32) -> Verdict<WrittenType<'p>>
     })
 }
 
-/// The type of pointers on a base, at fault at this place where no pointer leads to the base, or where the pointers can't be.
+/// The type of pointers on a base, or the fault at this position if no pointer can lead to the base or the pointers aren't possible.
 pub(crate) fn built<'p>(
     at: u32,
     base: WrittenBase<'p>,
@@ -46,7 +46,7 @@ pub(crate) fn built<'p>(
     }
 }
 
-/// The pointers of a type on a base. Fails only where no host memory is left.
+/// The pointers of a type on a base.
 pub(crate) fn pointers_on<'p>(
     alloc: Global,
     names: &RegionNames<'_>,

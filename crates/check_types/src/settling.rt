@@ -34,14 +34,14 @@ fn outer_of(layers: &[Layer]) -> Option<Layer>
     layers.last().copied()
 }
 
-/// All pointers but so many, the outermost.
+/// All pointers but the `depth` outermost ones.
 fn inside(layers: &[Layer], depth: usize) -> &[Layer]
     ensures { result.now ≡ take (length layers.now - depth) layers.now }
 {
     &layers[..layers.len().saturating_sub(depth)]
 }
 
-/// The outermost pointer of what a type leads to through so many.
+/// The outermost pointer of the type that is reached through `depth` pointers.
 fn outer_at(source: Option<&CType<'_>>, depth: usize) -> Option<Layer>
     ensures { outer_found result ≡ outer_region (reached depth (option_map (λ s. static_type s.now) source.entry)) }
 {
@@ -72,8 +72,8 @@ fn layers_from(
     Ok(Some(layers))
 }
 
-/// The type, where each missing region is the one at the same place of the source, from the outermost pointer inwards, and else the
-/// heap. A pointer that can't be unique and would be is at fault at this place. Fails only where no host memory is left.
+/// The type, where each missing region is the one at the same place of the source, from the outermost pointer inwards, and else the heap. A
+/// pointer that can't be unique and would be is a fault at this position.
 pub fn settled<'p>(
     written: WrittenType<'p>,
     at: u32,

@@ -40,7 +40,7 @@ pub enum TagName {
         /// How many region parameters it has.
         regions: u32,
     },
-    /// What is declared by a declaration at fault; how many region parameters it has, which are none where it is no struct or union.
+    /// The name of a declaration with a fault, and the number of its region parameters: 0 if it is no struct or union.
     NotJudged(u32),
     /// What is neither struct nor union.
     Other,
@@ -103,7 +103,7 @@ fn tag_base<'p>(of: &Base, tag: &'p [u8], arguments: WrittenArguments) -> Writte
     }
 }
 
-/// A type of structs or unions with so many region parameters, by its region arguments and pointers as they were read.
+/// A type of a struct or union with `count` region parameters, by its region arguments and pointers as they were read.
 fn counted<'p>(
     count: u32,
     of: &'p TypeName,
@@ -174,7 +174,7 @@ fn written_tagged<'p>(
 
 /// A type as a text writes it, where the tag of a struct or union means this. An unknown tag, a tag of another kind and an unknown region
 /// name are at fault at the name, of several the earliest; and a pointer to `void` or to a key, and a unique fat pointer, are at fault at
-/// its type. Fails only where no host memory is left.
+/// its type.
 pub fn written_in<'p>(
     alloc: Global,
     tag: TagName,
@@ -211,8 +211,7 @@ pub fn misses_region_in(tag: TagName, of: &TypeName) -> bool
     }
 }
 
-/// The type of a result: `void`, or a scalar other than a union. Its missing regions are the heap. Fails only where no
-/// host memory is left.
+/// The type of a result: `void`, or a scalar other than a union. Its missing regions are the heap.
 pub fn result_type_in<'p>(
     alloc: Global,
     tag: TagName,

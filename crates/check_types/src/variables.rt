@@ -86,7 +86,7 @@ impl<'p> RegionVariables<'p> {
         }
     }
 
-    /// The region of a name, a fresh variable for the first of a spelling. Fails only where no host memory is left.
+    /// The region of a name, a fresh variable for the first of a spelling.
     fn take_named(&mut self, name: &'p Name) -> Result<RegionId, AllocError>
         ensures found { IfOk result (λ r. (take_spot self.old (Some (Named (name_tree name.entry.now))) true).found ≡ Is (region_of r)) }
         ensures after { OnOk result (self.new ≡ (take_spot self.old (Some (Named (name_tree name.entry.now))) true).after_it) }
@@ -97,7 +97,7 @@ impl<'p> RegionVariables<'p> {
         }
     }
 
-    /// The region of a pointer that isn't unique, a fresh variable for a missing one. Fails only where no host memory is left.
+    /// The region of a pointer that isn't unique, a fresh variable for a missing one.
     fn take(&mut self, region: &'p Option<RegionName>) -> Result<RegionId, AllocError>
         ensures found { is_unique_name (option_map region_tree region.entry.now) ≡ false
             → IfOk result (λ r. (take_spot self.old (option_map region_tree region.entry.now) true).found ≡ Is (region_of r)) }
@@ -121,7 +121,7 @@ impl<'p> RegionVariables<'p> {
         Ok(region)
     }
 
-    /// A pointer with its region. None: it can't be in that region, or leads to no element. Fails only where no host memory is left.
+    /// A pointer with its region. None: it can't be in that region, or leads to no element.
     fn take_layer(&mut self, pointer: &'p Pointer) -> Result<Option<WrittenLayer>, AllocError>
         ensures found { (t : PartialType) → IfOk result (λ l. option_map (λ l. partial_to l t) l
             ≡ made pointer.entry.now.sign (take_spot self.old (option_map region_tree pointer.entry.now.region) true).found t) }
@@ -135,7 +135,7 @@ impl<'p> RegionVariables<'p> {
         }
     }
 
-    /// The pointers of a type with their regions. None: one of them can't be in its region, or leads to no element. Fails only where no host memory is left.
+    /// The pointers of a type with their regions. None: one of them can't be in its region, or leads to no element.
     pub(crate) fn take_layers(
         &mut self,
         alloc: Global,
@@ -172,7 +172,7 @@ impl<'p> RegionVariables<'p> {
         }
     }
 
-    /// The written arguments of a parameter's struct or union, with their regions. Fails only where no host memory is left.
+    /// The written arguments of a parameter's struct or union, with their regions.
     fn take_named_arguments(
         &mut self,
         alloc: Global,
@@ -190,7 +190,7 @@ impl<'p> RegionVariables<'p> {
         Ok(found)
     }
 
-    /// So many missing arguments, with fresh variables. Fails only where no host memory is left.
+    /// So many missing arguments, with fresh variables.
     fn fresh_arguments(&mut self, alloc: Global, count: u32) -> Result<WrittenArguments, AllocError>
         ensures found { IfOk result (λ found. partial_regions found.items ≡ map as_region (take_spots self.old (replicate count (spot false None))).found) }
         ensures after { OnOk result (self.new ≡ (take_spots self.old (replicate count (spot false None))).after_all) }
@@ -205,8 +205,7 @@ impl<'p> RegionVariables<'p> {
         Ok(found)
     }
 
-    /// The arguments of a parameter's struct or union with their regions, fresh variables for so many where none is written. Fails only
-    /// where no host memory is left.
+    /// The arguments of a parameter's struct or union with their regions, or `count` fresh variables if none is written.
     pub(crate) fn take_arguments(
         &mut self,
         alloc: Global,

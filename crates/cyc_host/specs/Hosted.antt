@@ -22,7 +22,7 @@ Written ending.StepLimit old new bytes = Appends old new bytes
 Written (ending.Fault fault) old new bytes = Appends old new bytes
 Written ending.ReadFault old new bytes = Appends old new bytes
 
--- The run in which so many of at most `limit` steps have left the machine, and why it ended there. At a step limit the machine has made all the steps that were
+-- The run in which `count` of at most `limit` steps have left the machine, and why it ended there. At a step limit the machine has made all the steps that were
 -- allowed and runs on. A read fault leaves it waiting, by one step more, so that another run reads again. A write fault before a read leaves it waiting too.
 abbrev pub EndsAs : Ending → Areas → (limit count : ℕ) → (left : Run) → (now : State) → Type 0
 EndsAs (ending.Ended status) n limit count left now = (now ≡ left.state) × (left.state.mode ≡ Over (Stop.Ended (word status)))
@@ -39,9 +39,8 @@ EndsAs ending.WriteFault n limit count left now = (now ≡ left.state) ⊎ ((cou
 abbrev pub IsExact : Areas → Run → Type 0
 IsExact n r = IsShortage n (asked_at n r.state) r.state.holdings (step n (r.answers 0) r.state).shown
 
--- A run of at most `limit` steps, from one state to another: of so many steps, on the bytes that the reader gave, all of which were taken, over a store that gave
--- these answers. The machine was told of the input's end only where the reader is at its end, and the store refused for
--- want of room exactly where its counts do.
+-- A run of at most `limit` steps, from one state to another: on the bytes that the reader gave, which were all taken, and over a store that gave these answers.
+-- The machine was told of the input's end only where the reader is at its end, and the store refused for lack of space exactly where its counts do.
 pub record IsHosted (why : Ending) (n : Areas) (limit : ℕ) (old new : State) (reader_old reader_new writer_old writer_new : Option (List ℕ)) : Type 0 where
   pub input : List ℕ
   pub answers : ℕ → Answer

@@ -9,7 +9,7 @@ use rv32_machine::Machine;
 
 /// What goes ahead in a run, by steps that show nothing.
 pub trait Pace {
-    /// Makes up to so many steps, each of which shows nothing and asks the store for nothing, and says how many.
+    /// Makes up to `limit` steps that show nothing and ask the store for nothing, and returns how many.
     fn advance<S: BlockStore>(&mut self, machine: &mut Machine<S>, limit: u64) -> u64
         ensures quiet { let seen = arrays S.holdings S.byte_at in
             AreQuietSteps (areas_of (seen machine.old)) result (state_of (seen machine.old)) (state_of (seen machine.new)) }

@@ -1,24 +1,25 @@
-// Which pages of the arena a run has taken, as its requests tell.
+// The pages of the arena that a run has taken, derived from its requests.
 
 use arena_laws::{BASE, PAGE};
 use rv32_machine::{KEY_FREE, KEY_NEW, REGION_ALLOC, REGION_FREE, REGION_NEW, UNIQUE_ALLOC};
 use std::alloc::{AllocError, Global};
 
-/// How many pages an arena has at most.
+/// The greatest number of pages of an arena.
 const MOST_PAGES: u32 = 4096;
 
-/// Whose a page is.
+/// The owner of a page.
 #[derive(Clone, Copy)]
 enum Owner {
-    /// Nobody's.
+    /// The page is free.
     Nobody,
-    /// The region's or key's with this number; 0 is the heap.
+    /// The region or key with this number, or the heap (0).
     Region(u32),
-    /// It is cut into slots of unique blocks.
+    /// The page is cut into slots of unique blocks.
     Slots,
 }
 
-/// The pages of an arena, and how many of them were taken at once. A region's or key's number is its first page plus one.
+/// The owners of an arena's pages, how many pages are taken, and the most that were taken at once. A region's or key's number is its
+/// first page plus 1.
 #[derive(Drop)]
 pub struct Pages {
     owners: Vec<Owner>,
@@ -27,7 +28,7 @@ pub struct Pages {
 }
 
 impl Pages {
-    /// None, of which nothing is seen.
+    /// No pages: nothing is recorded.
     pub fn none(alloc: Global) -> Pages {
         Pages {
             owners: Vec::new(alloc),
@@ -36,7 +37,7 @@ impl Pages {
         }
     }
 
-    /// Those of an arena of which nothing is taken.
+    /// The pages of an arena, all free.
     pub fn new(alloc: Global) -> Result<Pages, AllocError> {
         Ok(Pages {
             owners: vec![in alloc; Owner::Nobody; MOST_PAGES as usize]?,
@@ -50,7 +51,7 @@ impl Pages {
         self.most
     }
 
-    /// Takes in a request that was granted: its number, its arguments, and what it answered.
+    /// Records a request that was granted: its number, its arguments, and its result.
     pub fn grant(&mut self, number: u32, arguments: (u32, u32), answer: u32) {
         let (first, second) = arguments;
         match number {
@@ -62,7 +63,7 @@ impl Pages {
         }
     }
 
-    /// Takes the pages of a block of so many bytes at an address.
+    /// Takes the pages of the block of `bytes` bytes at an address.
     fn take_run(&mut self, address: u32, bytes: u32, owner: Owner) {
         let start = address.wrapping_sub(BASE);
         let last = start.saturating_add(bytes.saturating_sub(1)) / PAGE;

@@ -28,7 +28,7 @@ fn finish<W: Output>(gathered: &mut Gathered, writer: &mut W, ending: Ending) ->
     }
 }
 
-/// Runs a machine for at most so many steps, ahead at this pace.
+/// Runs a machine for at most `limit` steps at this pace.
 fn run_at<P: Pace, S: BlockStore, R: Input, W: Output>(
     pace: &mut P,
     machine: &mut Machine<S>,
@@ -43,7 +43,7 @@ fn run_at<P: Pace, S: BlockStore, R: Input, W: Output>(
         (R.remaining reader.old) (R.remaining reader.new) (W.contents writer.old) (W.contents writer.new) }
     // at the step limit the machine runs on
     ensures goes_on { result ≡ Ending.StepLimit → 0 < steps → (state_of (arrays S.holdings S.byte_at machine.new)).mode ≡ Runs }
-    // over a store that never lacks host memory, no run stops for want of it, if the machine isn't stopped so before
+    // over a store that never runs out of host memory, no run stops because of that, if the machine isn't stopped so before
     ensures memory { let seen = arrays S.holdings S.byte_at in S.may_lack ≡ false → lacks (seen machine.old).mode ≡ false →
         (result ≢ Ending.HostMemory) × (lacks (seen machine.new).mode ≡ false) }
     ensures areas { let seen = arrays S.holdings S.byte_at in areas_of (seen machine.new) ≡ areas_of (seen machine.old) }
@@ -85,7 +85,7 @@ fn run_at<P: Pace, S: BlockStore, R: Input, W: Output>(
     finish(&mut gathered, writer, Ending::StepLimit)
 }
 
-/// Runs a machine for at most so many steps.
+/// Runs a machine for at most `limit` steps.
 ///
 /// Output is written when 4,096 bytes are gathered, before each read and at each ending. `WriteFault` comes in place of any
 /// other ending, where a write failed or took no byte; `ReadFault` where a read failed. After a failed call neither device is
@@ -103,7 +103,7 @@ pub fn run<S: BlockStore, R: Input, W: Output>(
         (R.remaining reader.old) (R.remaining reader.new) (W.contents writer.old) (W.contents writer.new) }
     // at the step limit the machine runs on
     ensures goes_on { result ≡ Ending.StepLimit → 0 < steps → (state_of (arrays S.holdings S.byte_at machine.new)).mode ≡ Runs }
-    // over a store that never lacks host memory, no run stops for want of it, if the machine isn't stopped so before
+    // over a store that never runs out of host memory, no run stops because of that, if the machine isn't stopped so before
     ensures memory { let seen = arrays S.holdings S.byte_at in S.may_lack ≡ false → lacks (seen machine.old).mode ≡ false →
         (result ≢ Ending.HostMemory) × (lacks (seen machine.new).mode ≡ false) }
     ensures areas { let seen = arrays S.holdings S.byte_at in areas_of (seen machine.new) ≡ areas_of (seen machine.old) }
@@ -130,7 +130,7 @@ pub fn run_watched<S: BlockStore, R: Input, W: Output>(
         (R.remaining reader.old) (R.remaining reader.new) (W.contents writer.old) (W.contents writer.new) }
     // at the step limit the machine runs on
     ensures goes_on { result ≡ Ending.StepLimit → 0 < steps → (state_of (arrays S.holdings S.byte_at machine.new)).mode ≡ Runs }
-    // over a store that never lacks host memory, no run stops for want of it, if the machine isn't stopped so before
+    // over a store that never runs out of host memory, no run stops because of that, if the machine isn't stopped so before
     ensures memory { let seen = arrays S.holdings S.byte_at in S.may_lack ≡ false → lacks (seen machine.old).mode ≡ false →
         (result ≢ Ending.HostMemory) × (lacks (seen machine.new).mode ≡ false) }
     ensures areas { let seen = arrays S.holdings S.byte_at in areas_of (seen machine.new) ≡ areas_of (seen machine.old) }

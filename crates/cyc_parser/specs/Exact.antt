@@ -18,15 +18,15 @@ abbrev pub AreMadeUp : Tokens → Type 0
 AreMadeUp [] = Unit {0}
 AreMadeUp (t ∷ ts) = (t.at ≡ nowhere) × AreMadeUp ts
 
--- what was read: these tokens, which are a phrase whatever follows
+-- what was read: these tokens, which are a phrase before any others
 pub record Found {A : Type 0} (Is : A → Tokens → Tokens → Type 0) (reader : Tokens → Outcome A) (ts : Tokens) (a : A) (rest : Tokens) : Type 0 where
   pub taken : Tokens
   pub parts : ts ≡ taken ++ rest
   pub is : (more : Tokens) → Is a (taken ++ more) more
-  -- with the same next token it is read so, whatever follows that
+  -- with the same next token it is read so, before any others
   pub kept : (t : Token) (others after : Tokens) → rest ≡ t ∷ others → reader (taken ++ t ∷ after) ≡ Ok (a, t ∷ after)
 
--- where a reader stopped: what stands before is the beginning of a phrase, with the next token it isn't read, whatever follows
+-- where a reader stopped: what stands before is the beginning of a phrase, with the next token it isn't read, before any others
 pub record Refused {A : Type 0} (Is : A → Tokens → Tokens → Type 0) (reader : Tokens → Outcome A) (ts : Tokens) (at : ℕ) : Type 0 where
   pub front : Tokens
   pub rest : Tokens
@@ -38,7 +38,7 @@ pub record Refused {A : Type 0} (Is : A → Tokens → Tokens → Type 0) (reade
   pub is : (more : Tokens) → Is tree (front ++ (ending ++ more)) more
   pub still : (t : Token) (others after : Tokens) → rest ≡ t ∷ others → reader (front ++ t ∷ after) ≡ Err (Parse at)
 
--- where a phrase would nest too deep: the tokens up to this one, itself among them, begin a phrase, and it isn't read, whatever follows
+-- where a phrase would nest too deep: the tokens up to this one, itself among them, begin a phrase, and it isn't read, before any others
 pub record Deepened {A : Type 0} (Is : A → Tokens → Tokens → Type 0) (reader : Tokens → Outcome A) (ts : Tokens) (at : ℕ) : Type 0 where
   pub front : Tokens
   pub next : Token
@@ -99,7 +99,7 @@ Anything ts = Unit {0}
 abbrev pub ends : {A : Type 0} → A → TokenKind → Bool
 ends a k = false
 
--- the same tokens go on, whatever the tree
+-- the same tokens go on for every tree
 abbrev pub always : {A : Type 0} → (TokenKind → Bool) → A → TokenKind → Bool
 always goes_on a k = goes_on k
 

@@ -169,7 +169,7 @@ operation_by unary expr =
 
 -- ---- operands and operators
 
--- the level that has so many levels above it
+-- the level that has n levels above it
 abbrev pub level_over : ℕ → ℕ
 level_over n = 10 - n
 

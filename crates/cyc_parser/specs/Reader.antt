@@ -88,11 +88,11 @@ keyword w = read (token (is_keyword w)) (λ t. done t.at)
 abbrev pub behind : {A : Type 0} → Sign → (Tokens → Outcome A) → Tokens → Outcome A
 behind s p = read (sign s) (λ at. p)
 
--- phrases with commas between them, of which there is one at least
+-- one phrase or more, with commas between them
 abbrev pub listed : {A : Type 0} → (Tokens → Outcome A) → Tokens → Outcome (List A)
 listed p = read p (λ x. read (many (is_sign sign_of.Comma) (behind sign_of.Comma p)) (λ xs. done (x ∷ xs)))
 
--- phrases as long as the next token passes, of which there is one at least
+-- one phrase, and more as long as the next token passes
 abbrev pub some : {A : Type 0} → (TokenKind → Bool) → (Tokens → Outcome A) → Tokens → Outcome (List A)
 some test p = read p (λ x. read (many test p) (λ xs. done (x ∷ xs)))
 

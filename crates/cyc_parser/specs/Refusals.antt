@@ -49,7 +49,7 @@ pub record IsTooDeepAt (tokens : Tokens) (at : ℕ) : Type 0 where
   pub begins : BeginAProgram (front ++ next ∷ [])
   pub first : (program : Program) (ending : Tokens) → IsProgram program (front ++ next ∷ ending) → too_deep_at program ≡ Some at
 
--- a text has at most so many bytes, and so no more tokens
+-- the limit on the bytes of a text, and so on its tokens
 abbrev pub token_limit : ℕ
 token_limit = text_limit
 
@@ -57,13 +57,13 @@ token_limit = text_limit
 abbrev pub IsBehindLimit : Tokens → ℕ → Type 0
 IsBehindLimit tokens at = (token_limit < length tokens) × (at ≡ next_place (drop token_limit tokens))
 
--- why tokens are refused; nothing is said of want of memory
+-- why tokens are refused; that memory runs out is left out here
 abbrev pub IsRefusedFor : ParseFault → Tokens → Type 0
 IsRefusedFor (Parse at) tokens = IsBehindLimit tokens at ⊎ ((length tokens ≤ token_limit) × IsUnexpectedFirst tokens at)
 IsRefusedFor (TooDeep at) tokens = (length tokens ≤ token_limit) × IsTooDeepAt tokens at
 IsRefusedFor Memory tokens = Unit {0}
 
--- the tokens are a program's: it is refused only for want of memory, or since it nests too deep, at the first token that does
+-- the tokens are a program's: it is refused only because memory runs out, or since it nests too deep, at the first token that does
 abbrev pub IsRefusedProgram : Program → ParseFault → Type 0
 IsRefusedProgram program (Parse at) = ⊥
 IsRefusedProgram program (TooDeep at) = too_deep_at program ≡ Some at

@@ -50,7 +50,7 @@ impl<'t, 'a> Cursor<'t, 'a> {
         }
     }
 
-    /// The place of the next token, or the end of the text.
+    /// The position of the next token, or the end of the text.
     pub fn place(&self) -> u32
         ensures { result ≡ next_place self.now }
     {
@@ -60,7 +60,7 @@ impl<'t, 'a> Cursor<'t, 'a> {
         }
     }
 
-    /// The fault that the next token is out of order.
+    /// The fault that the next token is unexpected.
     pub fn unexpected(&self) -> ParseFault
         ensures { result ≡ Parse (next_place self.now) }
     {
@@ -127,7 +127,7 @@ impl<'t, 'a> Cursor<'t, 'a> {
         }
     }
 
-    /// Reads the next token, which has to be this sign, and answers its place.
+    /// Reads the next token, which has to be this sign, and answers its position.
     pub fn sign(&mut self, sign: Sign) -> Parsed<u32>
         ensures reads { Gives (λ at. at) result self.new (sign_at sign self.old) }
         ensures shorter { OnOk result (length self.new < length self.old) }
@@ -166,7 +166,7 @@ impl<'t, 'a> Cursor<'t, 'a> {
         stands
     }
 
-    /// Reads the next token, which has to be this keyword, and answers its place.
+    /// Reads the next token, which has to be this keyword, and answers its position.
     pub fn keyword(&mut self, keyword: Keyword) -> Parsed<u32>
         ensures reads { Gives (λ at. at) result self.new (keyword_at keyword self.old) }
         ensures shorter { OnOk result (length self.new < length self.old) }

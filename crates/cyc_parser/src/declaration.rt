@@ -15,7 +15,7 @@ use cyc_lexer::{Keyword, Sign};
 use cyc_tree::{Declaration, Initializer, Name};
 use std::alloc::Global;
 
-/// Reads a declaration, whose expression has at most `depth` phrases in one another.
+/// Reads a declaration, whose expression has at most `depth` nested phrases.
 #[tactic(auto, unfolding(crate::specs::ReadStatements::declaration_by, crate::specs::ReadStatements::region_declaration, crate::specs::ReadStatements::binding))]
 pub fn declaration(alloc: Global, depth: u32, cursor: &mut Cursor<'_, '_>) -> Parsed<Declaration>
     ensures reads { Gives declaration_tree result cursor.new (declaration_by (expression_at depth) cursor.old) }
@@ -62,7 +62,7 @@ fn initializer(alloc: Global, depth: u32, cursor: &mut Cursor<'_, '_>) -> Parsed
     }
 }
 
-/// Reads the declaration of a region, a new one or one that a key opens, from behind its word, which stands at this place.
+/// Reads the declaration of a region, a new one or one that a key opens, from behind its word, which stands at this position.
 fn region(alloc: Global, at: u32, cursor: &mut Cursor<'_, '_>) -> Parsed<Declaration>
     ensures reads { Gives declaration_tree result cursor.new (region_behind at cursor.old) }
     ensures shorter { OnOk result (length cursor.new < length cursor.old) }
@@ -81,7 +81,7 @@ fn region(alloc: Global, at: u32, cursor: &mut Cursor<'_, '_>) -> Parsed<Declara
     }
 }
 
-/// Reads a declaration from behind its `let`, which stands at this place.
+/// Reads a declaration from behind its `let`, which stands at this position.
 #[tactic(auto, unfolding(crate::specs::ReadStatements::alias_at))]
 fn binding(alloc: Global, at: u32, cursor: &mut Cursor<'_, '_>) -> Parsed<Declaration>
     ensures reads { Gives declaration_tree result cursor.new (binding_behind at cursor.old) }
@@ -94,7 +94,7 @@ fn binding(alloc: Global, at: u32, cursor: &mut Cursor<'_, '_>) -> Parsed<Declar
     }
 }
 
-/// Reads the declaration of an alias from behind `alias`. The place is that of its `let`.
+/// Reads the declaration of an alias from behind `alias`. The position is that of its `let`.
 fn alias(alloc: Global, at: u32, cursor: &mut Cursor<'_, '_>) -> Parsed<Declaration>
     ensures reads { Gives declaration_tree result cursor.new (alias_behind at cursor.old) }
     ensures shorter { OnOk result (length cursor.new < length cursor.old) }
@@ -111,7 +111,7 @@ fn alias(alloc: Global, at: u32, cursor: &mut Cursor<'_, '_>) -> Parsed<Declarat
     }
 }
 
-/// Reads the declaration of a dynamic region's key from `NewDynamicRegion` on. The place is that of its
+/// Reads the declaration of a dynamic region's key from `NewDynamicRegion` on. The position is that of its
 /// `let`.
 #[tactic(auto, unfolding(crate::specs::ReadStatements::new_key_at))]
 fn new_key(alloc: Global, at: u32, cursor: &mut Cursor<'_, '_>) -> Parsed<Declaration>

@@ -17,7 +17,7 @@ use cyc_lexer::{Keyword, Sign};
 use cyc_tree::{Expression, Link, Made, Name, Suffix};
 use std::alloc::Global;
 
-/// Reads an expression, with at most `depth` phrases in one another.
+/// Reads an expression, in which at most `depth` phrases nest.
 #[cycle(expression)]
 pub fn expression(alloc: Global, depth: u32, cursor: &mut Cursor<'_, '_>) -> Parsed<Expression>
     ensures reads { Gives expression_tree result cursor.new (expression_at depth cursor.old) }
@@ -120,7 +120,7 @@ fn links(alloc: Global, depth: u32, level: Level, cursor: &mut Cursor<'_, '_>) -
     Ok(links)
 }
 
-/// Reads a unary expression, with at most `depth` phrases in one another.
+/// Reads a unary expression, in which at most `depth` phrases nest.
 #[cycle(expression)]
 fn unary(alloc: Global, depth: u32, cursor: &mut Cursor<'_, '_>) -> Parsed<Expression>
     ensures reads { Gives expression_tree result cursor.new (unary_at depth cursor.old) }
@@ -133,7 +133,7 @@ fn unary(alloc: Global, depth: u32, cursor: &mut Cursor<'_, '_>) -> Parsed<Expre
     }
 }
 
-/// Reads a unary expression. The phrases in it have at most `depth` in one another.
+/// Reads a unary expression. In it at most `depth` phrases nest.
 #[cycle(expression)]
 #[tactic(auto, unfolding(crate::specs::ReadExpressions::operation_by, crate::specs::ReadExpressions::made_in_by))]
 fn operation(alloc: Global, depth: u32, cursor: &mut Cursor<'_, '_>) -> Parsed<Expression>
@@ -168,7 +168,7 @@ fn prefixed(alloc: Global, depth: u32, cursor: &mut Cursor<'_, '_>) -> Parsed<Ex
     Ok(Expression::Prefixed(sign.at, prefix, operand))
 }
 
-/// Reads the handle of an `rnew` and what it makes, from behind its word, which stands at this place.
+/// Reads the handle of an `rnew` and what it makes, from behind its word, which stands at this position.
 #[cycle(expression)]
 fn made_in(alloc: Global, depth: u32, at: u32, cursor: &mut Cursor<'_, '_>) -> Parsed<Expression>
     ensures reads { Gives expression_tree result cursor.new (made_in_behind (unary_at depth) (expression_at depth) at cursor.old) }
@@ -194,7 +194,7 @@ fn made(alloc: Global, depth: u32, cursor: &mut Cursor<'_, '_>) -> Parsed<Made>
     }
 }
 
-/// Reads an array that is made, from behind its brace: the index's name, the count and the element.
+/// Reads an array comprehension, from behind its brace: the index's name, the count and the element.
 #[cycle(expression)]
 fn array(alloc: Global, depth: u32, cursor: &mut Cursor<'_, '_>) -> Parsed<Made>
     ensures reads { Gives made_tree result cursor.new (array_behind (expression_at depth) cursor.old) }
@@ -338,7 +338,7 @@ fn arguments(alloc: Global, depth: u32, cursor: &mut Cursor<'_, '_>) -> Parsed<V
     }
 }
 
-/// Reads expressions with commas between them, of which there is one at least.
+/// Reads one expression or more, with commas between them.
 #[cycle(expression)]
 fn listed(alloc: Global, depth: u32, cursor: &mut Cursor<'_, '_>) -> Parsed<Vec<Expression>>
     ensures reads { Gives (λ expressions. map expression_tree expressions.items) result cursor.new (listed_by (expression_at depth) cursor.old) }

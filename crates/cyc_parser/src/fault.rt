@@ -6,11 +6,11 @@ ghost use Rattle.cyc_parser.specs.declared.fault.ParseFault.TheVariants.{Memory}
 use std::alloc::{AllocError, AllocFailed};
 use thiserror::Error;
 
-/// Why `parse` refuses tokens. Places are offsets in the text; the end of the text is 4,294,967,295.
+/// Why `parse` refuses tokens. Positions are offsets in the text; the end of the text is 4,294,967,295.
 #[derive(Clone, Copy, Debug, Error)]
 pub enum ParseFault {
-    /// The first token with which the tokens so far begin no program, or the end of the text; of more tokens than a text has, the first one
-    /// behind so many.
+    /// The first token with which the tokens so far begin no program, or the end of the text; if there are more tokens than a text has,
+    /// the first one after these.
     #[error("Parse")]
     Parse(u32),
     /// The first token that over 256 phrases contain.

@@ -87,7 +87,7 @@ fn first_parameter(alloc: Global, cursor: &mut Cursor<'_, '_>) -> Parsed<Option<
     }
 }
 
-/// Reads a parameter from behind the `void` with which its type begins, or nothing behind `void` alone. The place is that of the `void`.
+/// Reads a parameter from behind the `void` with which its type begins, or nothing behind `void` alone. The position is that of the `void`.
 fn void_parameter(alloc: Global, at: u32, cursor: &mut Cursor<'_, '_>) -> Parsed<Option<Member>>
     ensures reads { Gives (λ first. option_map member_tree first) result cursor.new (void_behind at cursor.old) }
     ensures shorter { OnOk result (length cursor.new ≤ length cursor.old) }
@@ -134,7 +134,7 @@ fn bounds(alloc: Global, cursor: &mut Cursor<'_, '_>) -> Parsed<Bounds>
     }
 }
 
-/// Reads bounds with commas between them, of which there is one at least.
+/// Reads one bound or more, with commas between them.
 fn listed_bounds(alloc: Global, cursor: &mut Cursor<'_, '_>) -> Parsed<Bounds>
     ensures reads { Gives (λ bounds. map bound_tree bounds.items) result cursor.new (listed bound_at cursor.old) }
     ensures shorter { OnOk result (length cursor.new < length cursor.old) }

@@ -42,7 +42,7 @@ fn item(alloc: Global, cursor: &mut Cursor<'_, '_>) -> Parsed<Item>
     }
 }
 
-/// Reads a struct, or a global or a function whose type begins with one, from behind its word, which stands at this place. What follows
+/// Reads a struct, or a global or a function whose type begins with one, from behind its word, which stands at this position. What follows
 /// the tag and its regions tells which it is.
 fn struct_or_typed(alloc: Global, at: u32, cursor: &mut Cursor<'_, '_>) -> Parsed<Item>
     ensures reads { Gives program_item_tree result cursor.new (struct_behind nesting_limit at cursor.old) }
@@ -66,7 +66,7 @@ fn struct_or_typed(alloc: Global, at: u32, cursor: &mut Cursor<'_, '_>) -> Parse
     }
 }
 
-/// Reads a tagged union from behind its word, which stands at this place.
+/// Reads a tagged union from behind its word, which stands at this position.
 fn tagged_union(alloc: Global, at: u32, cursor: &mut Cursor<'_, '_>) -> Parsed<Structure>
     ensures reads { Gives structure_tree result cursor.new (union_behind at cursor.old) }
     ensures shorter { OnOk result (length cursor.new < length cursor.old) }
@@ -83,8 +83,7 @@ fn tagged_union(alloc: Global, at: u32, cursor: &mut Cursor<'_, '_>) -> Parsed<S
     })
 }
 
-/// Reads the members of a struct or a union, of which there is one at least, in braces, and the semicolon
-/// that stands after them.
+/// Reads the members of a struct or a union, at least one, in braces, and the semicolon after them.
 #[tactic(auto, unfolding(crate::specs::ReadPrograms::members))]
 fn members(alloc: Global, cursor: &mut Cursor<'_, '_>) -> Parsed<Vec<Member>>
     ensures reads { Gives (λ members. map member_tree members.items) result cursor.new (members_at cursor.old) }
@@ -97,7 +96,7 @@ fn members(alloc: Global, cursor: &mut Cursor<'_, '_>) -> Parsed<Vec<Member>>
     Ok(members)
 }
 
-/// Reads members as far as they go, of which there is one at least.
+/// Reads one member or more, as far as they go.
 fn some_members(alloc: Global, cursor: &mut Cursor<'_, '_>) -> Parsed<Vec<Member>>
     ensures reads { Gives (λ members. map member_tree members.items) result cursor.new (some type_test member_at cursor.old) }
     ensures shorter { OnOk result (length cursor.new < length cursor.old) }
@@ -165,7 +164,7 @@ fn initial(alloc: Global, cursor: &mut Cursor<'_, '_>) -> Parsed<Initial>
     }
 }
 
-/// Reads items up to the end, of which there is one at least.
+/// Reads one item or more, up to the end.
 #[tactic(auto, unfolding(crate::specs::ReadPrograms::program))]
 fn items(alloc: Global, cursor: &mut Cursor<'_, '_>) -> Parsed<Vec<Item>>
     ensures { Gives (λ items. map program_item_tree items.items) result cursor.new (program_at nesting_limit cursor.old) }
@@ -184,8 +183,8 @@ fn items(alloc: Global, cursor: &mut Cursor<'_, '_>) -> Parsed<Vec<Item>>
 /// Refuses with `Parse` at the first token with which the tokens so far begin no program, or at the
 /// end of the text, where no token before it is in over 256 phrases; with `TooDeep` at the first
 /// token that is, where the tokens up to it begin a program; and with `Memory` where no host memory
-/// is left. Over 1,048,576 tokens, which no text has, are `Parse` at the first one behind so many,
-/// whatever they are.
+/// is left. More than 1,048,576 tokens, which no text has, are refused with `Parse` at the first
+/// one after these.
 pub fn parse(alloc: Global, tokens: &[Token<'_>]) -> Result<Program, ParseFault>
     ensures found { IfOk result (λ program. IsProgram program (map token_tree tokens.entry.now)) }
     // no token of it is in over 256 phrases
@@ -204,7 +203,7 @@ pub fn parse(alloc: Global, tokens: &[Token<'_>]) -> Result<Program, ParseFault>
     }
 }
 
-/// The place of the first token behind as many as a text may have, where there are more.
+/// The position of the first token after as many as a text may have, if there are more.
 fn behind_limit(tokens: &[Token<'_>]) -> Option<u32>
     ensures { MatchOption result (length (map token_tree tokens.entry.now) ≤ token_limit) (λ at. IsBehindLimit (map token_tree tokens.entry.now) at) }
 {
@@ -231,13 +230,13 @@ fn program(alloc: Global, tokens: &[Token<'_>]) -> Result<Program, ParseFault>
     }
 }
 
-/// Tokens are one program's at most.
+/// Tokens spell one program at most.
 pub fn one_program()
     ensures { (tokens : Tokens) (program other : Tree) → IsProgram program tokens → IsProgram other tokens → program ≡ other }
 {}
 
 /// Tokens have one fault: there is one first token at most that no program has there, and one that is
-/// the first in over 256 phrases, and none have both, if their places are below 4,294,967,296.
+/// the first in over 256 phrases, and none have both, if their positions are below 4,294,967,296.
 pub fn one_place()
     ensures unexpected { (tokens : Tokens) (at other : ℕ) → IsUnexpectedAt tokens at → IsUnexpectedAt tokens other → at ≡ other }
     ensures too_deep { (tokens : Tokens) (at other : ℕ) → IsTooDeepAt tokens at → IsTooDeepAt tokens other → at ≡ other }

@@ -16,7 +16,7 @@ use cyc_lexer::{Keyword, Sign};
 use cyc_tree::{BlockItem, Clause, Pattern, Statement};
 use std::alloc::Global;
 
-/// Reads a statement, with at most `depth` phrases in one another.
+/// Reads a statement, in which at most `depth` phrases nest.
 #[cycle(statement)]
 fn statement(alloc: Global, depth: u32, cursor: &mut Cursor<'_, '_>) -> Parsed<Statement>
     ensures reads { Gives statement_tree result cursor.new (statement_at depth cursor.old) }
@@ -50,7 +50,7 @@ fn compound(alloc: Global, depth: u32, cursor: &mut Cursor<'_, '_>) -> Parsed<St
     }
 }
 
-/// Reads a statement into a box, with at most `depth` phrases in one another.
+/// Reads a statement into a box, in which at most `depth` phrases nest.
 #[cycle(statement)]
 fn boxed(alloc: Global, depth: u32, cursor: &mut Cursor<'_, '_>) -> Parsed<Box<Statement>>
     ensures reads { Gives (λ box. statement_tree box.value) result cursor.new (statement_at depth cursor.old) }
@@ -60,7 +60,7 @@ fn boxed(alloc: Global, depth: u32, cursor: &mut Cursor<'_, '_>) -> Parsed<Box<S
     Ok(Box::new(alloc, statement)?)
 }
 
-/// Reads a block from behind its brace, which stands at this place.
+/// Reads a block from behind its brace, which stands at this position.
 #[cycle(statement)]
 fn block(alloc: Global, depth: u32, at: u32, cursor: &mut Cursor<'_, '_>) -> Parsed<Statement>
     ensures reads { Gives statement_tree result cursor.new (block_behind (expression_at depth) (statement_at depth) at cursor.old) }
@@ -97,7 +97,7 @@ fn block_item(alloc: Global, depth: u32, cursor: &mut Cursor<'_, '_>) -> Parsed<
     }
 }
 
-/// Reads an `if` from behind its word, which stands at this place, and the `else` that may stand after its statement.
+/// Reads an `if` from behind its word, which stands at this position, and the `else` that may stand after its statement.
 #[cycle(statement)]
 #[tactic(auto, unfolding(crate::specs::ReadStatements::otherwise_by))]
 fn conditional(alloc: Global, depth: u32, at: u32, cursor: &mut Cursor<'_, '_>) -> Parsed<Statement>
@@ -114,7 +114,7 @@ fn conditional(alloc: Global, depth: u32, at: u32, cursor: &mut Cursor<'_, '_>) 
     }
 }
 
-/// Reads a `while` from behind its word, which stands at this place.
+/// Reads a `while` from behind its word, which stands at this position.
 #[cycle(statement)]
 fn repeated(alloc: Global, depth: u32, at: u32, cursor: &mut Cursor<'_, '_>) -> Parsed<Statement>
     ensures reads { Gives statement_tree result cursor.new (repeated_behind (expression_at depth) (statement_at depth) at cursor.old) }
@@ -125,7 +125,7 @@ fn repeated(alloc: Global, depth: u32, at: u32, cursor: &mut Cursor<'_, '_>) -> 
     Ok(Statement::While(at, condition, body))
 }
 
-/// Reads a `switch` from behind its word, which stands at this place.
+/// Reads a `switch` from behind its word, which stands at this position.
 #[cycle(statement)]
 fn switch(alloc: Global, depth: u32, at: u32, cursor: &mut Cursor<'_, '_>) -> Parsed<Statement>
     ensures reads { Gives statement_tree result cursor.new (switch_behind (expression_at depth) (statement_at depth) at cursor.old) }
@@ -141,7 +141,7 @@ fn switch(alloc: Global, depth: u32, at: u32, cursor: &mut Cursor<'_, '_>) -> Pa
     )
 }
 
-/// Reads the clauses of a `switch`, of which there is one at least.
+/// Reads the clauses of a `switch`, at least one.
 #[cycle(statement)]
 #[tactic(auto, unfolding(crate::specs::ReadStatements::clauses_by))]
 fn clauses(alloc: Global, depth: u32, cursor: &mut Cursor<'_, '_>) -> Parsed<Vec<Clause>>
@@ -231,7 +231,7 @@ fn ended(statement: Statement, sign: Sign, cursor: &mut Cursor<'_, '_>) -> Parse
     }
 }
 
-/// Reads a `return` from behind its word, which stands at this place, with its result where it has one.
+/// Reads a `return` from behind its word, which stands at this position, with its result where it has one.
 fn returned(alloc: Global, depth: u32, at: u32, cursor: &mut Cursor<'_, '_>) -> Parsed<Statement>
     ensures reads { Gives statement_tree result cursor.new (returned_behind (expression_at depth) at cursor.old) }
     ensures shorter { OnOk result (length cursor.new < length cursor.old) }

@@ -164,7 +164,7 @@ pub fn region_list(alloc: Global, cursor: &mut Cursor<'_, '_>) -> Parsed<RegionN
     Ok(regions)
 }
 
-/// Reads region names with commas between them, of which there is one at least.
+/// Reads one region name or more, with commas between them.
 #[tactic(auto, unfolding(crate::specs::ReadTypes::regions))]
 pub fn regions(alloc: Global, cursor: &mut Cursor<'_, '_>) -> Parsed<RegionNames>
     ensures reads { Gives (λ regions. map region_tree regions.items) result cursor.new (regions_at cursor.old) }

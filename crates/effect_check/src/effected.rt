@@ -52,7 +52,7 @@ impl Effected {
     }
 }
 
-/// A program's earliest fault of names, types, regions, effects and sizes. Fails only where no host memory is left.
+/// A program's earliest fault of names, types, regions, effects and sizes.
 pub fn effect_fault(alloc: Global, program: &Program) -> Result<Option<Fault>, AllocError>
     ensures { IfOk result (λ f. faults_of f ≡ effect_fault program.now) }
 {

@@ -16,7 +16,7 @@ pub record Follows (c : Context) (names : List RegionNamed) (s : Scope) (g : Env
   pub around : AllAround g.block g.locals
   pub locals : AreLocals s.locals g.locals
 
--- The same within a block, whose own locals come after the first so many.
+-- The same within a block, whose own locals come after the first `outer` ones.
 pub record Stands (c : Context) (names : List RegionNamed) (outer : ℕ) (s : Scope) (g : Env) : Type 0 where
   pub stands : StandsIn c names outer s g
   pub locals : AreLocals s.locals g.locals

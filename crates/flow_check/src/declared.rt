@@ -31,7 +31,7 @@ use cyc_types::{Tables, is_copyable};
 use flow_effects::{Begun, Declared, Loan, Passed};
 use std::alloc::{AllocError, Global};
 
-/// The value of a local, where one is given. Fails only where no host memory is left.
+/// The summary of an initializer that is a value, if it is one.
 #[tactic(auto, using(flow_effects::proofs::Turns::nothing_before))]
 fn value_given(
     scope: &Scope<'_, '_>,
@@ -47,7 +47,7 @@ fn value_given(
     }
 }
 
-/// The initializer of a declaration, where it has one. Fails only where no host memory is left.
+/// The summary of a declaration's initializer, if it has one that is a value.
 #[tactic(auto, using(flow_effects::proofs::Turns::nothing_before))]
 fn initial(
     scope: &Scope<'_, '_>,
@@ -63,7 +63,7 @@ fn initial(
     }
 }
 
-/// A local that is lent.
+/// The loan of the local that is named here.
 fn loan_of(scope: &Scope<'_, '_>, at: u32, name: &Name) -> Loan
     ensures { (g : Env) (rest : rules.Exits) → AreLocals scope.now.locals g.locals
         → lent_if (Some result) rest ≡ lent_in at (name_tree name.now) (number_of g.locals (name_tree name.now).text) rest }
@@ -75,7 +75,7 @@ fn loan_of(scope: &Scope<'_, '_>, at: u32, name: &Name) -> Loan
     }
 }
 
-/// The loan that begins with a declaration, where one does.
+/// The loan that begins with a declaration, if one does: of a key that is opened, or of the source of an alias.
 fn loan(scope: &Scope<'_, '_>, declaration: &Declaration) -> Option<Loan>
     ensures { (g : Env) (rest : rules.Exits) → AreLocals scope.now.locals g.locals → lent_if result rest
         ≡ loan_before g (declaration_tree declaration.now) rest }
@@ -87,7 +87,7 @@ fn loan(scope: &Scope<'_, '_>, declaration: &Declaration) -> Option<Loan>
     }
 }
 
-/// How a local begins that is this.
+/// The state in which a local begins, by what it is.
 fn begins(tables: &Tables<'_>, what: &What<'_>) -> Begun
     ensures { (g : Env) (w : TheWhat) → HasTags tables.now g.tables → WhatIs w what.now → state_of result ≡ begins_as g w }
 {
@@ -105,7 +105,7 @@ fn begins(tables: &Tables<'_>, what: &What<'_>) -> Begun
     }
 }
 
-/// How the local of this name begins, where there are more than so many.
+/// The state in which the local of this name begins, if one was added to the first `around` locals.
 pub(crate) fn begun(scope: &Scope<'_, '_>, around: usize, name: &[u8]) -> Option<Begun>
     ensures { (outer inside : Env) → around ≡ length outer.locals → Adds name.now outer.locals inside.locals → Knows scope.now inside
         → AreLocals scope.now.locals inside.locals → added_of result ≡ added_by outer inside }
@@ -119,8 +119,8 @@ pub(crate) fn begun(scope: &Scope<'_, '_>, around: usize, name: &[u8]) -> Option
     }
 }
 
-/// A declaration in the innermost block, whose own locals come after the first `outer` ones; its local comes into scope. Fails only
-/// where no host memory is left.
+/// Declares the local of a declaration, and answers the declaration's summary. The innermost block's own locals come after the first
+/// `outer` ones.
 pub(crate) fn declared<'p>(
     scope: &mut Scope<'_, 'p>,
     names: &mut RegionNames<'p>,

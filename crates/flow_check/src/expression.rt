@@ -1,4 +1,4 @@
-// What expressions are, beside what they do to locals that can't be copied.
+// What expressions are, and what they do to locals that can't be copied.
 
 ghost use Rattle.std.specs.Prelude.{◌≡◌, ◌≤◌, IfOk, length, map};
 ghost use Rattle.cyc_tree.specs.Tree as tree;
@@ -42,8 +42,7 @@ use cyc_types::RegionId;
 use flow_effects::{Passed, Usage, Used};
 use std::alloc::{AllocError, Global};
 
-/// What an expression is and what it does that is used in this way, with this around. Each expression within another one is judged once.
-/// Fails only where no host memory is left.
+/// Judges an expression that is used in this way, and computes what it does. Each part of it is judged once.
 #[cycle(seen)]
 pub(crate) fn seen<'p>(
     scope: &Scope<'_, 'p>,
@@ -141,8 +140,8 @@ pub(crate) fn seen<'p>(
     }
 }
 
-/// What an expression is that is looked at, and what it does. The forms that nest most are taken apart here, since `seen` needs much of the
-/// stack. Fails only where no host memory is left.
+/// Judges an expression that is only looked at, and computes what it does. The constructs that nest most are handled here, since `seen`
+/// needs much of the stack.
 #[cycle(seen)]
 fn looked<'p>(
     scope: &Scope<'_, 'p>,
@@ -187,7 +186,7 @@ fn looked<'p>(
     }
 }
 
-/// Operators of one level, by what stands before them. Fails only where no host memory is left.
+/// A chain of operators of one level, of which the first operand is given.
 #[cycle(seen)]
 fn linked<'p>(
     scope: &Scope<'_, 'p>,
@@ -208,7 +207,7 @@ fn linked<'p>(
     Ok(found.as_value())
 }
 
-/// `&&` or `||`, by what stands before them. Fails only where no host memory is left.
+/// A chain of `&&` or `||`, of which the first operand is given.
 #[cycle(seen)]
 fn all_tested<'p>(
     scope: &Scope<'_, 'p>,
@@ -229,7 +228,7 @@ fn all_tested<'p>(
     Ok(found.as_value())
 }
 
-/// A call of a name with these arguments. Fails only where no host memory is left.
+/// A call of this name.
 #[cycle(seen)]
 fn called<'p>(
     scope: &Scope<'_, 'p>,
@@ -250,7 +249,7 @@ fn called<'p>(
     given.call(scope, alloc, around, name)
 }
 
-/// What an operator before an operand is, and what it does. Fails only where no host memory is left.
+/// A prefix operator and its operand.
 #[cycle(seen)]
 fn prefixed<'p>(
     scope: &Scope<'_, 'p>,
@@ -280,7 +279,7 @@ fn prefixed<'p>(
     }
 }
 
-/// One suffix, after what stands before it. Fails only where no host memory is left.
+/// A primary expression with one more suffix. What stands before that suffix is given.
 #[cycle(seen)]
 fn suffix_after<'p>(
     scope: &Scope<'_, 'p>,
@@ -315,7 +314,7 @@ fn suffix_after<'p>(
     }
 }
 
-/// Suffixes, of which there is one at least, after what stands before them. Fails only where no host memory is left.
+/// A primary expression with one or more suffixes.
 #[cycle(seen)]
 fn suffixed<'p>(
     scope: &Scope<'_, 'p>,
@@ -340,7 +339,7 @@ fn suffixed<'p>(
     Ok(suffixed.seen(how))
 }
 
-/// What is made at a place, by where it is made and after its handle is looked at. Fails only where no host memory is left.
+/// An allocation by `new` or `rnew`. `goal` is the region in which it is made, and `handle` the summary of its handle.
 #[cycle(seen)]
 fn made<'p>(
     scope: &Scope<'_, 'p>,

@@ -19,7 +19,7 @@ use cyc_types::RegionId;
 use flow_effects::{Passed, Usage};
 use std::alloc::{AllocError, Global};
 
-/// An expression that is given away. Fails only where no host memory is left.
+/// The summary of an expression whose value is moved or copied.
 pub(crate) fn given(
     scope: &Scope<'_, '_>,
     alloc: Global,
@@ -36,7 +36,7 @@ pub(crate) fn given(
     Ok(found.used.passed)
 }
 
-/// An expression that is looked at. Fails only where no host memory is left.
+/// The summary of an expression that is only looked at.
 pub(crate) fn looked(
     scope: &Scope<'_, '_>,
     alloc: Global,
@@ -53,7 +53,7 @@ pub(crate) fn looked(
     Ok(found.used.passed)
 }
 
-/// The value of a `return`, where it has one. Fails only where no host memory is left.
+/// The summary of the value of a `return`, if it has one.
 pub(crate) fn result_given(
     scope: &Scope<'_, '_>,
     alloc: Global,
@@ -68,7 +68,7 @@ pub(crate) fn result_given(
     }
 }
 
-/// A local that is freed, at a place. Fails only where no host memory is left.
+/// The summary of a `free` of a local.
 pub(crate) fn freed(
     scope: &Scope<'_, '_>,
     alloc: Global,

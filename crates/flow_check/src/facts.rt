@@ -1,4 +1,4 @@
-// What the flow of an expression asks for of the judgement of its parts.
+// What the flow of an expression needs to know of the verdicts on its parts.
 
 ghost use Rattle.std.specs.Prelude.{◌≡◌};
 ghost use Rattle.cyc_types.specs.Sameness.{HasTags};
@@ -12,7 +12,7 @@ use check_faults::Verdict;
 use check_operators::{Seat, Value};
 use cyc_types::{Tables, is_copyable};
 
-/// Whether a value would be moved.
+/// Whether the value can't be copied, so that it would be moved.
 pub(crate) fn is_moved(tables: &Tables, judged: &Verdict<Value>) -> bool
     ensures { (g : Env) → HasTags tables.now g.tables → result ≡ is_moved_short g (short_of value_of judged.now) }
 {
@@ -22,7 +22,7 @@ pub(crate) fn is_moved(tables: &Tables, judged: &Verdict<Value>) -> bool
     }
 }
 
-/// Whether it is a unique pointer.
+/// Whether the value is a unique pointer.
 pub(crate) fn is_unique_value(judged: &Verdict<Value>) -> bool
     ensures { result ≡ is_unique_short (short_of value_of judged.now) }
 {
@@ -32,7 +32,7 @@ pub(crate) fn is_unique_value(judged: &Verdict<Value>) -> bool
     }
 }
 
-/// Whether it is a place in the block of a unique pointer.
+/// Whether the value is a place in the block of a unique pointer.
 pub(crate) fn in_block(judged: &Verdict<Value>) -> bool
     ensures { result ≡ in_block_short (short_of value_of judged.now) }
 {
@@ -42,7 +42,7 @@ pub(crate) fn in_block(judged: &Verdict<Value>) -> bool
     }
 }
 
-/// Where what stands before a suffix begins, where it is in order.
+/// Where the value's text begins, or 0 if it has no verdict.
 pub(crate) fn place_of(judged: &Verdict<Value>) -> u32
     ensures { result ≡ place_short (short_of value_of judged.now) }
 {

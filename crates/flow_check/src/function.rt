@@ -27,7 +27,7 @@ use cyc_types::RegionId;
 use flow_effects::Begun;
 use std::alloc::{AllocError, Global};
 
-/// Declares the parameters in the body's block, and answers how they begin as locals. Fails only where no host memory is left.
+/// Declares the parameters as locals, and answers the states in which they begin.
 fn parameters_begun<'p>(
     scope: &mut Scope<'_, 'p>,
     alloc: Global,
@@ -51,8 +51,7 @@ fn parameters_begun<'p>(
     Ok(states)
 }
 
-/// The earliest fault of flow of a function's body, where no local is in scope before its parameters. Fails only where no host memory is
-/// left.
+/// The earliest fault of flow of a function's body. No local is in scope yet.
 fn body_flow<'p>(
     scope: &mut Scope<'_, 'p>,
     known: &mut RegionNames<'p>,
@@ -70,8 +69,7 @@ fn body_flow<'p>(
     Ok(exits.whole.found(states.as_slice()))
 }
 
-/// The earliest fault of flow of a function with this head, after so many items, where the program's names mean this. Fails only where no
-/// host memory is left.
+/// The earliest fault of flow of the function number `item` of the program, which has this head.
 fn headed_flow<'p>(
     alloc: Global,
     names: Names<'_, 'p>,
@@ -96,8 +94,7 @@ fn headed_flow<'p>(
     body_flow(&mut scope, &mut known, alloc, context, parameters, function)
 }
 
-/// The earliest fault of flow of a function after so many items, where the program's names mean this. Fails only where no host memory is
-/// left.
+/// The earliest fault of flow of the function number `item` of the program.
 pub(crate) fn function_flow<'p>(
     alloc: Global,
     names: Names<'_, 'p>,

@@ -1,4 +1,4 @@
-// What operators and calls are, beside what they do, by what their parts are and do.
+// Operators and calls: their verdicts and summaries from those of their parts.
 
 ghost use Rattle.std.specs.Prelude.{◌≡◌, IfOk, List, []};
 ghost use Rattle.cyc_tree.specs.View.{name_tree};
@@ -29,7 +29,7 @@ use cyc_tree::{Name, Operator};
 use flow_effects::{Passed, Used};
 use std::alloc::{AllocError, Global};
 
-/// Two operands of an operator, one after the other. Fails only where no host memory is left.
+/// Two operands of an operator, one evaluated after the other.
 pub(crate) fn applied<'p>(
     scope: &Scope<'_, 'p>,
     alloc: Global,
@@ -47,7 +47,7 @@ pub(crate) fn applied<'p>(
     Ok(Seen { judged, used })
 }
 
-/// Two operands of `&&` or `||`, of which the second may be left out.
+/// Two operands of `&&` or `||`. The second may not be evaluated.
 pub(crate) fn tested<'p>(alloc: Global, one: Seen<'p>, two: Seen<'p>) -> Seen<'p>
     ensures judged { short_of value_of result.judged
         ≡ short_both (short_of value_of one.entry.judged) (short_of value_of two.entry.judged) (λ a b. shortened (tested_both a b)) }
@@ -59,7 +59,7 @@ pub(crate) fn tested<'p>(alloc: Global, one: Seen<'p>, two: Seen<'p>) -> Seen<'p
     Seen { judged, used }
 }
 
-/// An assignment: the value goes before its place. Fails only where no host memory is left.
+/// An assignment. The value is evaluated before its place.
 pub(crate) fn assigned<'p>(
     scope: &Scope<'_, 'p>,
     alloc: Global,
@@ -76,7 +76,7 @@ pub(crate) fn assigned<'p>(
     Ok(Seen { judged, used })
 }
 
-/// The count of elements of an operand.
+/// `numelts` of an operand.
 pub(crate) fn counted<'p>(alloc: Global, at: u32, operand: Seen<'p>) -> Seen<'p>
     ensures { (how : TheUsage) → IsSeen how (short_after (short_of value_of operand.entry.judged) (λ a. shortened (counted at a)))
         (uses_as_value (passage_of operand.entry.used.passed)) result }
@@ -86,7 +86,7 @@ pub(crate) fn counted<'p>(alloc: Global, at: u32, operand: Seen<'p>) -> Seen<'p>
     Seen { judged, used }
 }
 
-/// A value of a union that is made of a member's value. Fails only where no host memory is left.
+/// A value of a union that is made of a member's value.
 pub(crate) fn made_union<'p>(
     scope: &Scope<'_, 'p>,
     alloc: Global,
@@ -104,7 +104,7 @@ pub(crate) fn made_union<'p>(
     Ok(Seen { judged, used })
 }
 
-/// Arguments, which are given away one after another.
+/// The verdict and the summary of a call's first arguments.
 #[derive(Drop)]
 pub(crate) struct Given<'p> {
     values: Verdict<Vec<Value<'p>>>,
@@ -123,7 +123,7 @@ impl<'p> Given<'p> {
         }
     }
 
-    /// These, and one more. Fails only where no host memory is left.
+    /// One more argument.
     pub(crate) fn with(self, argument: Seen<'p>) -> Result<Given<'p>, AllocError>
         ensures values { IfOk result (λ r. short_of (λ vs. values_of vs.items) r.values
             ≡ short_both (short_of (λ vs. values_of vs.items) self.entry.values) (short_of value_of argument.entry.judged) one_more) }
@@ -134,7 +134,7 @@ impl<'p> Given<'p> {
         Ok(Given { values, passed })
     }
 
-    /// A call of a name with these. Fails only where no host memory is left.
+    /// A call of a name with these arguments.
     pub(crate) fn call(
         self,
         scope: &Scope<'_, 'p>,

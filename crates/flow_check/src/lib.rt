@@ -1,8 +1,11 @@
-//! The earliest fault of flow of a program: a local that is needed after it was moved or freed, or while it is lent, and a copy of what
-//! can't be copied.
+//! The earliest fault of flow of a program: a local is needed after it was moved or freed, or while it is lent, or what can't be copied
+//! would be.
 //!
-//! `flow_fault` walks each function once and answers what the rules of `source_typing` find, whatever other faults the program has. It stands
-//! on what each phrase does to the locals (`flow_summaries`, in code `flow_effects`), and asks `check_expressions` for the types of parts.
+//! `flow_fault` visits each phrase once and answers what the rules of `source_typing` find, also in a program with other faults. It
+//! computes what each phrase does to the locals (`flow_summaries`, in code `flow_effects`), and asks `check_expressions` for the types of
+//! parts.
+//!
+//! Each function that answers a `Result` fails only where no host memory is left.
 #![tactic(auto)]
 
 mod declared;

@@ -1,4 +1,4 @@
-// What is made, beside what that does, by what its parts are and do.
+// Allocations: their verdicts and summaries from those of their parts.
 
 ghost use Rattle.std.specs.Prelude.{◌≡◌, IfOk};
 ghost use Rattle.source_typing.specs.Making.{made};
@@ -19,7 +19,7 @@ use check_operators::Goal;
 use flow_effects::{Passed, Used};
 use std::alloc::AllocError;
 
-/// What is made of a value, after its handle is looked at. Fails only where no host memory is left.
+/// An allocation of one value.
 pub(crate) fn made_one<'p>(
     at: u32,
     goal: Verdict<Goal>,
@@ -36,8 +36,7 @@ pub(crate) fn made_one<'p>(
     Ok(Seen { judged, used })
 }
 
-/// What is made of a count and of an element for each index, after its handle is looked at, with so many locals around. Fails only where
-/// no host memory is left.
+/// An allocation of an array comprehension. Its index is the local number `locals`.
 pub(crate) fn made_array<'p>(
     at: u32,
     goal: Verdict<Goal>,

@@ -1,4 +1,4 @@
-// How names use locals that can't be copied.
+// What the use of a name does to locals that can't be copied.
 
 ghost use Rattle.std.specs.Prelude.{◌≡◌, IfOk, None, Some, false};
 ghost use Rattle.cyc_tree.specs.Tree.{Variable};
@@ -23,7 +23,7 @@ use cyc_types::is_copyable;
 use flow_effects::{Passed, Usage, Used};
 use std::alloc::{AllocError, Global};
 
-/// A name that is no local. Fails only where no host memory is left.
+/// The use of a name that is no local.
 fn uses_of_global(
     scope: &Scope<'_, '_>,
     alloc: Global,
@@ -38,7 +38,7 @@ fn uses_of_global(
     Ok(Used::place(how, name.at, moves, false, Passed::nothing()))
 }
 
-/// A name of a local that is this. Fails only where no host memory is left.
+/// The use of the name of a local, by what the local is.
 fn uses_of_local(
     scope: &Scope<'_, '_>,
     alloc: Global,
@@ -68,7 +68,7 @@ fn uses_of_local(
     }
 }
 
-/// A name, with this around. Fails only where no host memory is left.
+/// The use of a name.
 pub(crate) fn uses_of_name(
     scope: &Scope<'_, '_>,
     alloc: Global,

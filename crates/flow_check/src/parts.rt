@@ -1,4 +1,4 @@
-// Expressions without parts, and what is around parts.
+// Expressions without parts, and the number of locals around an expression.
 
 ghost use Rattle.std.specs.Prelude.{◌≡◌, ◌+◌, IfOk, length};
 ghost use Rattle.flow_effects.specs.Used.{IsUsed};
@@ -11,14 +11,15 @@ use check_scopes::Scope;
 use flow_effects::{Passed, Used};
 use std::alloc::AllocError;
 
-/// An expression that does nothing.
+/// The summary of an expression that does nothing.
 pub(crate) fn idle() -> Used
     ensures { (how : TheUsage) → IsUsed how (uses_as_value unchanged) result }
 {
     Used::value(Passed::nothing())
 }
 
-/// How many locals are in scope, with the indexes of arrays that are made around. Fails only where there are more than a number can say.
+/// The number of locals in scope, the indices of the enclosing array comprehensions among them. Fails only if it is over the greatest
+/// `usize`.
 pub(crate) fn locals_around(scope: &Scope<'_, '_>, around: Around<'_>) -> Result<usize, AllocError>
     ensures { IfOk result (λ n. n ≡ length scope.now.locals + length around.entry.counters.now) }
 {

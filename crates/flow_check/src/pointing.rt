@@ -1,4 +1,4 @@
-// What is pointed to, and what a pointer leads to.
+// The operators `*` and `&`, and operators that only look at their operand.
 
 ghost use Rattle.std.specs.Prelude.{◌≡◌, ◌&&◌, ◌||◌, IfOk, not};
 ghost use Rattle.check_faults.specs.Verdicts.{short_of, shortened};
@@ -27,21 +27,21 @@ use cyc_tree::Prefix;
 use flow_effects::{Passed, Usage, Used};
 use std::alloc::{AllocError, Global};
 
-/// Whether a unique pointer would be dereferenced that is no local by its name.
+/// Whether the value is a unique pointer, but not the name of a local: it can't be dereferenced then.
 fn is_led_away(judged: &Verdict<Value>, used: &Used) -> bool
     ensures { result ≡ (is_unique_short (short_of value_of judged.now) && not used.now.whole) }
 {
     is_unique_value(judged) && !used.whole
 }
 
-/// Whether an element is a part of a noncopyable local: what a unique pointer leads to isn't.
+/// Whether an element or member is a part of a noncopyable local. What a unique pointer points to isn't.
 pub(crate) fn is_part(judged: &Verdict<Value>, used: &Used) -> bool
     ensures { result ≡ (used.now.own && not (is_unique_short (short_of value_of judged.now))) }
 {
     used.own && !is_unique_value(judged)
 }
 
-/// What is looked at where it is dereferenced at a place: a unique pointer is so through a local alone.
+/// The summary of a dereference at this position. A unique pointer is dereferenced by the name of a local alone.
 pub(crate) fn pointed(at: u32, judged: &Verdict<Value>, used: Used) -> Passed
     ensures { (u : Uses) → IsUsed usage.Look u used
         → passage_of result ≡ in_turn u.look (copied_if (is_unique_short (short_of value_of judged.now) && not u.whole) at) }
@@ -50,14 +50,14 @@ pub(crate) fn pointed(at: u32, judged: &Verdict<Value>, used: Used) -> Passed
     used.passed.in_turn(copied)
 }
 
-/// Whether it is a noncopyable local or a part of one, or a place in the block of a unique pointer.
+/// Whether the value is a noncopyable local or a part of one, or a place in the block of a unique pointer.
 fn is_owned(judged: &Verdict<Value>, used: &Used) -> bool
     ensures { result ≡ (used.now.own || in_block_short (short_of value_of judged.now)) }
 {
     used.own || in_block(judged)
 }
 
-/// What is pointed to by `&` at a place.
+/// The summary of a `&` at this position, whose operand must not be owned.
 fn pointed_to(at: u32, judged: &Verdict<Value>, used: Used) -> Used
     ensures { (how : TheUsage) (u : Uses) → IsUsed usage.Place u used → IsUsed how (uses_as_value
         (in_turn u.place (copied_if (u.own || in_block_short (short_of value_of judged.now)) at))) result }
@@ -66,7 +66,7 @@ fn pointed_to(at: u32, judged: &Verdict<Value>, used: Used) -> Used
     Used::value(used.passed.in_turn(copied))
 }
 
-/// An operator at a place that only looks at its operand. Fails only where no host memory is left.
+/// A prefix operator at this position that only looks at its operand.
 pub(crate) fn looked_at<'p>(
     scope: &Scope<'_, 'p>,
     alloc: Global,
@@ -83,7 +83,7 @@ pub(crate) fn looked_at<'p>(
     Ok(Seen { judged, used })
 }
 
-/// What a `*` at a place leads to. Fails only where no host memory is left.
+/// A `*` at this position.
 pub(crate) fn dereferenced<'p>(
     scope: &Scope<'_, 'p>,
     alloc: Global,
@@ -102,7 +102,7 @@ pub(crate) fn dereferenced<'p>(
     Ok(Seen { judged, used })
 }
 
-/// What a `&` at a place points to. Fails only where no host memory is left.
+/// A `&` at this position.
 pub(crate) fn addressed<'p>(
     scope: &Scope<'_, 'p>,
     alloc: Global,

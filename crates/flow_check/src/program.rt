@@ -19,7 +19,7 @@ use check_tables::{Structs, next_index, program_names};
 use cyc_tree::{Item, Program};
 use std::alloc::{AllocError, Global};
 
-/// The earliest fault of flow of an item after so many, where the program's names mean this. Fails only where no host memory is left.
+/// The earliest fault of flow of the program's item number `index`.
 fn item_flow<'p>(
     alloc: Global,
     names: Names<'_, 'p>,
@@ -35,7 +35,7 @@ fn item_flow<'p>(
     }
 }
 
-/// The earliest fault of flow of functions, where the program's names mean this. Fails only where no host memory is left.
+/// The earliest fault of flow of the program's items.
 fn items_flow<'p>(
     alloc: Global,
     names: Names<'_, 'p>,
@@ -53,7 +53,7 @@ fn items_flow<'p>(
     Ok(found)
 }
 
-/// The earliest fault of flow of a program whose structs and unions these are. Fails only where no host memory is left.
+/// The earliest fault of flow of a program with these structs and unions.
 fn known_flow<'p>(
     alloc: Global,
     structs: Structs<'_, 'p>,
@@ -71,7 +71,7 @@ fn known_flow<'p>(
     items_flow(alloc, names, items)
 }
 
-/// The earliest fault of flow of a program, whatever other faults it has. Fails only where no host memory is left.
+/// The earliest fault of flow of a program, also of one with other faults.
 pub fn flow_fault(alloc: Global, program: &Program) -> Result<Option<Fault>, AllocError>
     ensures { IfOk result (λ f. faults_of f ≡ earliest (flow_faults program.now)) }
 {

@@ -1,4 +1,4 @@
-// What an expression is, beside what it does.
+// The verdict and the summary of an expression.
 
 ghost use Rattle.std.specs.Prelude.{◌≡◌};
 ghost use Rattle.check_faults.specs.Verdicts.{Short, short_after, short_of, shortened};
@@ -15,14 +15,14 @@ use check_faults::Verdict;
 use check_operators::{Value, grouped};
 use flow_effects::Used;
 
-/// What an expression is, and what it does that is used in one way.
+/// The verdict of an expression, and its summary where it is used in one way.
 #[derive(Drop)]
 pub(crate) struct Seen<'p> {
     pub(crate) judged: Verdict<Value<'p>>,
     pub(crate) used: Used,
 }
 
-/// What an expression in parentheses is.
+/// The verdict of an expression in parentheses, which begins at `at`.
 fn grouped_value<'p>(at: u32, inner: Verdict<Value<'p>>) -> Verdict<Value<'p>>
     ensures { short_of value_of result ≡ short_after (short_of value_of inner.entry) (λ a. shortened (grouped at a)) }
 {
@@ -34,7 +34,7 @@ fn grouped_value<'p>(at: u32, inner: Verdict<Value<'p>>) -> Verdict<Value<'p>>
 }
 
 impl<'p> Seen<'p> {
-    /// The same where it is no place.
+    /// The same expression as a value that is no place.
     pub(crate) fn as_value(self) -> Seen<'p>
         ensures { (how : TheUsage) (p : Passage) → passage_of self.entry.used.passed ≡ p
             → IsSeen how (short_of value_of self.entry.judged) (uses_as_value p) result }
@@ -44,7 +44,7 @@ impl<'p> Seen<'p> {
         Seen { judged, used }
     }
 
-    /// The same in parentheses.
+    /// The same expression in parentheses.
     pub(crate) fn grouped(self, at: u32) -> Seen<'p>
         ensures { (how : TheUsage) (s : Short TheValue) (u : Uses) → IsSeen how s u self.entry
             → IsSeen how (short_after s (λ a. shortened (grouped at a))) u result }

@@ -31,7 +31,7 @@ use cyc_tree::{BlockItem, Clause, Expression, Name, Pattern, Statement};
 use flow_effects::{Exits, Step, all_before};
 use std::alloc::{AllocError, Global};
 
-/// What an expression that is discarded does. Fails only where no host memory is left.
+/// The summary of an expression statement.
 fn run_exits(scope: &Scope<'_, '_>, alloc: Global, value: &Expression) -> Result<Exits, AllocError>
     ensures { (g : Env) → Knows scope.now g → AreLocals scope.now.locals g.locals
         → IfOk result (λ w. exits_of w ≡ ends_after (uses_of g (expression_tree value.now)).value) }
@@ -39,7 +39,7 @@ fn run_exits(scope: &Scope<'_, '_>, alloc: Global, value: &Expression) -> Result
     Ok(Exits::ends_after(given(scope, alloc, value)?))
 }
 
-/// What an exchange of two places does. Fails only where no host memory is left.
+/// The summary of an exchange of two places.
 fn exchange_exits(
     scope: &Scope<'_, '_>,
     alloc: Global,
@@ -54,7 +54,7 @@ fn exchange_exits(
     Ok(Exits::ends_after(left.in_turn(right)))
 }
 
-/// What a `return` does. Fails only where no host memory is left.
+/// The summary of a `return`.
 fn return_exits(
     scope: &Scope<'_, '_>,
     alloc: Global,
@@ -66,7 +66,7 @@ fn return_exits(
     Ok(Exits::returns(result_given(scope, alloc, value)?))
 }
 
-/// What the freeing of a local at a place does. Fails only where no host memory is left.
+/// The summary of a `free` of a local.
 fn free_exits(
     scope: &Scope<'_, '_>,
     alloc: Global,
@@ -79,7 +79,7 @@ fn free_exits(
     Ok(Exits::ends_after(freed(scope, alloc, at, name)?))
 }
 
-/// What a statement does on these ways, before which a value is looked at. Fails only where no host memory is left.
+/// The summary of a statement before which a value is looked at.
 fn after_look(
     scope: &Scope<'_, '_>,
     alloc: Global,
@@ -93,7 +93,7 @@ fn after_look(
     ways.after(alloc, passed)
 }
 
-/// What an `if` does, by what its statements do. Fails only where no host memory is left.
+/// The summary of an `if`, from those of its branches.
 fn either_after(
     scope: &Scope<'_, '_>,
     alloc: Global,
@@ -108,7 +108,7 @@ fn either_after(
     after_look(scope, alloc, condition, ways)
 }
 
-/// What a `switch` on a place does, by what its clauses do. Fails only where no host memory is left.
+/// The summary of a `switch`, from that of its clauses.
 fn switch_after(
     scope: &Scope<'_, '_>,
     alloc: Global,
@@ -122,8 +122,7 @@ fn switch_after(
     after_look(scope, alloc, place, ways)
 }
 
-/// What a statement does on each way out of it. What is in scope is the same before and after it. Fails only where no host memory is
-/// left.
+/// The summary of a statement. The scope is the same after the call as before it.
 #[cycle(exits)]
 fn exits<'p>(
     scope: &mut Scope<'_, 'p>,
@@ -163,8 +162,7 @@ fn exits<'p>(
     }
 }
 
-/// What an `if` does, by what it does otherwise. What is in scope is the same before and after it. Fails only where no host memory is
-/// left.
+/// The summary of an `if`, given that of its `else` branch.
 #[cycle(exits)]
 fn if_exits<'p>(
     scope: &mut Scope<'_, 'p>,
@@ -185,7 +183,7 @@ fn if_exits<'p>(
     either_after(scope, alloc, condition, body, otherwise)
 }
 
-/// What a `while` does. What is in scope is the same before and after it. Fails only where no host memory is left.
+/// The summary of a `while`.
 #[cycle(exits)]
 fn while_exits<'p>(
     scope: &mut Scope<'_, 'p>,
@@ -205,7 +203,7 @@ fn while_exits<'p>(
     body.loop_of(alloc, condition)
 }
 
-/// What a `switch` on a place does. What is in scope is the same before and after it. Fails only where no host memory is left.
+/// The summary of a `switch`.
 #[cycle(exits)]
 fn switch_exits<'p>(
     scope: &mut Scope<'_, 'p>,
@@ -227,7 +225,7 @@ fn switch_exits<'p>(
     switch_after(scope, alloc, place, ways)
 }
 
-/// What a block does. What is in scope is the same before and after it. Fails only where no host memory is left.
+/// The summary of a block.
 #[cycle(exits)]
 fn block<'p>(
     scope: &mut Scope<'_, 'p>,
@@ -253,8 +251,7 @@ fn block<'p>(
     Ok(found)
 }
 
-/// What the items of a block do, where its own locals come after the first `outer` ones. What was in scope before is so again where the
-/// block is left. Fails only where no host memory is left.
+/// The summary of the items of a block, whose own locals come after the first `outer` ones. What they declare stays in scope.
 #[cycle(exits)]
 pub(crate) fn items_exits<'p>(
     scope: &mut Scope<'_, 'p>,
@@ -285,8 +282,7 @@ pub(crate) fn items_exits<'p>(
     all_before(alloc, steps, Exits::ends())
 }
 
-/// What the clauses of a `switch` do, each as a way of its own. What is in scope is the same before and after them. Fails only where no
-/// host memory is left.
+/// The summary of the clauses of a `switch`: a choice between them.
 #[cycle(exits)]
 fn switched<'p>(
     scope: &mut Scope<'_, 'p>,
@@ -309,8 +305,7 @@ fn switched<'p>(
     all_before(alloc, ways, Exits::nowhere())
 }
 
-/// What a clause of a `switch` does, which is a block with its name. What is in scope is the same before and after it. Fails only where
-/// no host memory is left.
+/// The summary of a clause of a `switch`, which is a block with the name that its pattern binds.
 #[cycle(exits)]
 fn clause_exits<'p>(
     scope: &mut Scope<'_, 'p>,

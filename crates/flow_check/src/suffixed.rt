@@ -1,4 +1,4 @@
-// What stands after suffixes.
+// A primary expression with suffixes.
 
 ghost use Rattle.std.specs.Prelude.{◌≡◌};
 ghost use Rattle.cyc_types.specs.Sameness.{HasTags};
@@ -19,19 +19,19 @@ use check_operators::Value;
 use cyc_types::Tables;
 use flow_effects::{Passed, Usage, Used};
 
-/// What stands after some suffixes: what it is, and what it does where it is looked at. A noncopyable value isn't moved out of it.
+/// A primary expression with suffixes: its verdict, and its summary where it is only looked at.
 #[derive(Drop)]
 pub(crate) struct Suffixed<'p> {
     pub(crate) judged: Verdict<Value<'p>>,
     pub(crate) look: Used,
-    /// Where what stands before the last suffix begins.
+    /// Where the text before the last suffix begins.
     pub(crate) at: u32,
-    /// Whether its value would be moved.
+    /// Whether its value can't be copied. It is a fault to move it out of there.
     pub(crate) moves: bool,
 }
 
 impl<'p> Suffixed<'p> {
-    /// A place that is a part of what begins there.
+    /// A place that is a part of the value of what stands before the last suffix. `own` tells whether it is a part of a noncopyable local.
     pub(crate) fn of(
         tables: &Tables<'p>,
         at: u32,
@@ -55,7 +55,7 @@ impl<'p> Suffixed<'p> {
         }
     }
 
-    /// What that is where it is used in this way.
+    /// The same expression where it is used in this way.
     pub(crate) fn seen(self, how: Usage) -> Seen<'p>
         ensures { (s : Short rules_scope.Value) (u : Uses) → IsSuffixed s u self.entry → IsSeen how s u result }
     {

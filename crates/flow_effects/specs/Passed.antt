@@ -25,7 +25,7 @@ added_of (Some b) = state_of b ∷ []
 abbrev pub left_after : ℕ → ℕ → States → Passage → Passage
 left_after n m added p = record { effects = effects_below n p.effects; faults = begun n m added p.faults }
 
--- a passage in which a local is lent that is named at a place
+-- a passage in which a local is lent; the loan names it at this position
 abbrev pub lent_within : ℕ → ℕ → Passage → Passage
 lent_within at i p = record { effects = with_number i Holds p.effects; faults = faults_lent at i p.faults }
 
@@ -34,7 +34,7 @@ pub record IsMetBy (p : Passage) (way : Option Effects) (met : Passage) : Type 0
   pub effects : Some met.effects ≡ met_ways (Some p.effects) way
   pub faults : met.faults ≡ p.faults
 
--- a turn of a loop that is left from its head with these effects
+-- a loop with this body, which is left from its head with these effects
 abbrev pub looped_from : Passage → Effects → Passage
 looped_from p left = record {
   effects = then_effects (to_head (Some p.effects)) left;

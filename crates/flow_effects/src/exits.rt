@@ -1,4 +1,4 @@
-// What a statement does on each way out of it.
+// Summaries of statements, which have several exits.
 
 ghost use Rattle.std.specs.Prelude.{◌≡◌, ◌+◌, IfOk, None, Some, length, true};
 ghost use Rattle.cyc_tree.specs.Tree as tree;
@@ -17,21 +17,21 @@ use crate::touch::How;
 use crate::ways::{after, below, effects_of, held_again, met};
 use std::alloc::{AllocError, Global};
 
-/// What a statement does to the locals on each way out of it, and its faults.
+/// What a statement does to the locals on each path out of it, and its faults.
 #[derive(Drop)]
 pub struct Exits {
-    /// Whether its end is reached.
+    /// Whether the statement's end is reached.
     pub falls: bool,
-    /// The effects up to its end, where it is reached, and the faults of all ways.
+    /// The effects up to the end, if it is reached, and the faults of all paths.
     pub whole: Passed,
-    /// The effects up to a `break`, where one is reached.
+    /// The effects up to a `break`, if one is reached.
     pub breaks: Option<Table>,
-    /// The effects up to a `continue`, where one is reached.
+    /// The effects up to a `continue`, if one is reached.
     pub continues: Option<Table>,
 }
 
 impl Exits {
-    /// No way out, and no fault.
+    /// A statement of which no exit is reached, without a fault.
     pub fn nowhere() -> Exits
         ensures { exits_of result ≡ no_exits }
     {
@@ -43,7 +43,7 @@ impl Exits {
         }
     }
 
-    /// The end, after an expression.
+    /// A statement that ends after an expression.
     pub fn ends_after(passed: Passed) -> Exits
         ensures { exits_of result ≡ ends_after (passage_of passed) }
     {
@@ -55,7 +55,7 @@ impl Exits {
         }
     }
 
-    /// The end, reached at once.
+    /// A statement that does nothing.
     pub fn ends() -> Exits
         ensures { exits_of result ≡ ends }
     {
@@ -98,7 +98,7 @@ impl Exits {
         }
     }
 
-    /// An expression, and then this. Fails only where no host memory is left.
+    /// The summary of an expression and then this statement.
     pub fn after(self, alloc: Global, passed: Passed) -> Result<Exits, AllocError>
         ensures { IfOk result (λ w. exits_of w ≡ with_passage (passage_of passed) (exits_of self)) }
     {
@@ -112,7 +112,7 @@ impl Exits {
         })
     }
 
-    /// This statement, and then another one. Fails only where no host memory is left.
+    /// The summary of this statement and then the next one.
     pub fn in_sequence(self, alloc: Global, next: Exits) -> Result<Exits, AllocError>
         ensures { IfOk result (λ w. exits_of w ≡ exits_in_sequence (exits_of self) (exits_of next)) }
     {
@@ -129,7 +129,7 @@ impl Exits {
         })
     }
 
-    /// Two ways that meet. Fails only where no host memory is left.
+    /// The summary of a choice between this statement and another one.
     pub fn either(self, alloc: Global, other: Exits) -> Result<Exits, AllocError>
         ensures { IfOk result (λ w. exits_of w ≡ either_exits (exits_of self) (exits_of other)) }
     {
@@ -144,7 +144,7 @@ impl Exits {
         })
     }
 
-    /// These clauses as a `switch`, which a `break` leaves. Fails only where no host memory is left.
+    /// The summary of a `switch` with these clauses: a `break` in them ends it.
     pub fn switch_left(self, alloc: Global) -> Result<Exits, AllocError>
         ensures { IfOk result (λ w. exits_of w ≡ switch_left (exits_of self)) }
     {
@@ -170,8 +170,8 @@ impl Exits {
         }
     }
 
-    /// This turn of a loop whose end is reached, as the loop, where its condition has these effects. All but its other ways stays in
-    /// place. Fails only where no host memory is left.
+    /// The summary of a loop whose body, with the condition before it, is this, in case the body's end is reached. `condition` has the
+    /// effects of the condition alone.
     fn come_round(self, alloc: Global, condition: Table) -> Result<Exits, AllocError>
         ensures { (p : rules.Passage) → p.effects ≡ effects_in (table_at condition) → self.falls ≡ true
             → IfOk result (λ w. exits_of w ≡ looped p (exits_of self)) }
@@ -188,7 +188,7 @@ impl Exits {
         Ok(Exits::ends_after(round))
     }
 
-    /// This turn of a loop, as the loop, where its condition has these effects. Fails only where no host memory is left.
+    /// The summary of a loop whose body, with the condition before it, is this. `condition` has the effects of the condition alone.
     fn looped(self, alloc: Global, condition: Table) -> Result<Exits, AllocError>
         ensures { (p : rules.Passage) → p.effects ≡ effects_in (table_at condition) → IfOk result (λ w. exits_of w ≡ looped p (exits_of self)) }
     {
@@ -202,7 +202,7 @@ impl Exits {
         Ok(Exits::ends_after(turn.with_effects(alloc, &left)?))
     }
 
-    /// This body as a loop with a condition. Fails only where no host memory is left.
+    /// The summary of a loop with this condition and this body.
     pub fn loop_of(self, alloc: Global, condition: Passed) -> Result<Exits, AllocError>
         ensures { IfOk result (λ w. exits_of w ≡ loop_exits (passage_of condition) (exits_of self)) }
     {
@@ -211,7 +211,8 @@ impl Exits {
         turn.looped(alloc, effects)
     }
 
-    /// This as the rest of a block, where so many locals are around, and one that begins in this state, where there is one.
+    /// Leaves the scope of a declaration: forgets the locals from number `around` on. The first of them, if there is one, begins in the
+    /// state `begun`.
     pub fn leaving(self, around: usize, begun: Option<Begun>) -> Exits
         ensures { exits_of result ≡ entered around (length (added_of begun) + around) (added_of begun) (exits_of self) }
     {
@@ -225,8 +226,8 @@ impl Exits {
         }
     }
 
-    /// This as the rest of a block in which a local is lent, from a declaration at a place on, whose name of the local is at another
-    /// one. Fails only where no host memory is left.
+    /// The summary of the rest of a block in which a local is lent. The declaration stands at `at`, and the local's name in it at
+    /// `name_at`. Without a number it is no local, and can't be lent.
     pub fn lent(
         self,
         alloc: Global,
@@ -250,7 +251,7 @@ impl Exits {
     }
 }
 
-/// How two ways meet, by which of them are reached.
+/// How the ends of two paths join, by which of the ends are reached.
 fn met_by(one: bool, other: bool) -> How
     ensures { result ≡ met_by one other }
 {
@@ -261,8 +262,7 @@ fn met_by(one: bool, other: bool) -> How
     }
 }
 
-/// The effects with which the head of a loop is reached whose turns come back by a `continue` alone, where one is reached. Fails only
-/// where no host memory is left.
+/// The effects at a loop's head if the body's end isn't reached: none on entry, joined with those up to a `continue` if one is reached.
 fn head_by(alloc: Global, continues: &Option<Table>) -> Result<Table, AllocError>
     ensures { IfOk result (λ t. effects_in (table_at t) ≡ to_head (way_of continues.now)) }
 {
@@ -275,8 +275,7 @@ fn head_by(alloc: Global, continues: &Option<Table>) -> Result<Table, AllocError
     }
 }
 
-/// The effects with which a loop is left from its head: those of its condition, or up to a `break`. Fails only where no host memory is
-/// left.
+/// The effects with which a loop is left: those of its condition, joined with those up to a `break` if one is reached.
 fn left_by(alloc: Global, condition: Table, breaks: Option<Table>) -> Result<Table, AllocError>
     ensures { IfOk result (λ t. Some (effects_in (table_at t)) ≡ met_ways (Some (effects_in (table_at condition))) (way_of breaks)) }
 {

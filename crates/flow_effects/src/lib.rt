@@ -1,8 +1,10 @@
-//! What phrases do to the locals that can't be copied, in code: an effect on each local, and the faults that it causes.
+//! Summaries, in code: what each phrase does to the locals that can't be copied, and which faults that causes.
 //!
-//! `Passed` is what a phrase with one way out does, and `Exits` what a statement does on each of its ways; their steps are those of the
-//! definitions of `flow_summaries`. Both hang on trees by the locals' numbers (`Table`), so that a phrase that touches no such local takes no
-//! memory, and two phrases are put together in the time of those locals that both touch.
+//! `Passed` is the summary of a phrase with one exit, and `Exits` that of a statement with several. Their operations are those of the
+//! definitions in `flow_summaries`. Both keep a tree by the locals' numbers (`Table`). So a phrase that touches no such local allocates
+//! nothing, and two summaries are joined in time linear in the number of locals that both touch.
+//!
+//! Each function that answers a `Result` fails only where no host memory is left.
 #![tactic(auto)]
 
 mod exits;

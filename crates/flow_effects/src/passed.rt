@@ -1,4 +1,4 @@
-// What a phrase with one way out does.
+// Summaries of phrases with one exit.
 
 ghost use Rattle.std.specs.Prelude.{◌≡◌, ◌+◌, IfOk, length, map, reverse};
 ghost use Rattle.flow_summaries.specs.Exits.{lent_from};
@@ -14,14 +14,14 @@ use crate::touch::{Caused, Effect, How, Touch};
 use check_faults::{Fault, FaultKind, sooner};
 use std::alloc::{AllocError, Global};
 
-/// What a phrase with one way out does to the locals, and its earliest fault that hangs on no local.
+/// What a phrase with one exit does to the locals, and its earliest fault that depends on no local.
 #[derive(Drop)]
 pub struct Passed {
     pub table: Table,
     pub always: Option<Fault>,
 }
 
-/// The state of a local where it begins.
+/// The state of a local at its declaration: held if its type can't be copied, else plain.
 #[derive(Clone, Copy)]
 pub enum Begun {
     Plain,
@@ -29,7 +29,7 @@ pub enum Begun {
 }
 
 impl Passed {
-    /// It does nothing.
+    /// A phrase that does nothing.
     pub fn nothing() -> Passed
         ensures { passage_of result ≡ unchanged }
     {
@@ -39,7 +39,7 @@ impl Passed {
         }
     }
 
-    /// What can't be copied would be.
+    /// A phrase with the fault Copy, if `copied`, and without an effect.
     pub fn copied_if(copied: bool, at: u32) -> Passed
         ensures { passage_of result ≡ copied_if copied at }
     {
@@ -53,7 +53,7 @@ impl Passed {
         passed
     }
 
-    /// A use of a local, where it is in scope. Fails only where no host memory is left.
+    /// A use of a local with this effect and these faults. Without a number it is no local, and nothing is done.
     fn used(
         alloc: Global,
         number: Option<usize>,
@@ -72,28 +72,28 @@ impl Passed {
         })
     }
 
-    /// A local is given away. Fails only where no host memory is left.
+    /// A move of a local's value.
     pub fn moved(alloc: Global, at: u32, number: Option<usize>) -> Result<Passed, AllocError>
         ensures { IfOk result (λ p. passage_of p ≡ rules.moved at number) }
     {
         Passed::used(alloc, number, Effect::Loses, unless_held(at))
     }
 
-    /// A local is looked at. Fails only where no host memory is left.
+    /// A use that only looks at a local.
     pub fn looked_at(alloc: Global, at: u32, number: Option<usize>) -> Result<Passed, AllocError>
         ensures { IfOk result (λ p. passage_of p ≡ rules.looked_at at number) }
     {
         Passed::used(alloc, number, Effect::Holds, unless_held(at))
     }
 
-    /// A local is assigned as a whole. Fails only where no host memory is left.
+    /// An assignment to a whole local.
     pub fn assigned(alloc: Global, at: u32, number: Option<usize>) -> Result<Passed, AllocError>
         ensures { IfOk result (λ p. passage_of p ≡ rules.assigned at number) }
     {
         Passed::used(alloc, number, Effect::Holds, if_lent(at))
     }
 
-    /// This phrase, and then another one.
+    /// The summary of this phrase and then the next one.
     pub fn in_turn(self, next: Passed) -> Passed
         ensures { passage_of result ≡ in_turn (passage_of self) (passage_of next) }
     {
@@ -103,7 +103,7 @@ impl Passed {
         }
     }
 
-    /// This phrase, and another one that may be passed or not.
+    /// The summary of this phrase and then one that may be skipped.
     pub fn in_turn_or_not(self, next: Passed) -> Passed
         ensures { passage_of result ≡ in_turn_or_not (passage_of self) (passage_of next) }
     {
@@ -114,7 +114,7 @@ impl Passed {
         }
     }
 
-    /// The fault that a local causes, which begins in this state.
+    /// The fault that a local causes if it begins in this state.
     fn caused(&self, number: usize, state: Begun) -> Option<Fault>
         ensures { result ≡ caused_by (state_of state) ((passage_of self.now).faults.caused number) }
     {
@@ -125,14 +125,14 @@ impl Passed {
         }
     }
 
-    /// The earliest fault with that of a local, which begins in this state.
+    /// The earlier of the fault that a local causes, if it begins in this state, and of the fault that depends on no local.
     pub fn begun(&self, number: usize, state: Begun) -> Option<Fault>
         ensures { result ≡ sooner_found (caused_by (state_of state) ((passage_of self.now).faults.caused number)) self.now.always }
     {
         sooner(self.caused(number, state), self.always)
     }
 
-    /// The earliest fault where the first locals begin in these states, and there are no others.
+    /// The earliest fault if the first locals begin in these states and there are no others.
     pub fn found(&self, states: &[Begun]) -> Option<Fault>
         ensures { result ≡ found_in (length states.now) (passage_of self.now).faults (reverse (map state_of states.now)) }
     {
@@ -145,7 +145,7 @@ impl Passed {
         sooner(found, self.always)
     }
 
-    /// This as the elements of an array, where so many locals are around, and the index is one more.
+    /// The summary of an array comprehension whose element is this. Its index is the local number `around`.
     pub fn repeated(self, around: usize) -> Passed
         ensures { passage_of result ≡ repeated around (passage_of self) }
     {
@@ -157,7 +157,7 @@ impl Passed {
         }
     }
 
-    /// This, joined to another way by which of them are reached. Fails only where no host memory is left.
+    /// Joins the summaries of two paths. `how` tells which of their ends are reached.
     pub fn met(self, alloc: Global, how: How, other: Passed) -> Result<Passed, AllocError>
         ensures { IfOk result (λ p. passage_of p
             ≡ passage_in (λ i. joined how (table_at self.table i) (table_at other.table i)) (sooner_found self.always other.always)) }
@@ -169,7 +169,7 @@ impl Passed {
         })
     }
 
-    /// This after effects, with its own faults alone. Fails only where no host memory is left.
+    /// This phrase after these effects, with its own faults alone.
     pub fn after_effects(self, alloc: Global, first: &Table) -> Result<Passed, AllocError>
         ensures { IfOk result (λ p. (passage_of p).faults ≡ faults_after (effects_in (table_at first.now)) (passage_of self).faults) }
     {
@@ -180,7 +180,7 @@ impl Passed {
         })
     }
 
-    /// This, whose effects meet those of another way, where that one is reached. Fails only where no host memory is left.
+    /// Joins the effects of another path to this one's, if that path is reached.
     pub fn met_by(self, alloc: Global, way: Option<Table>) -> Result<Passed, AllocError>
         ensures { IfOk result (λ p. IsMetBy (passage_of self) (way_of way) (passage_of p)) }
     {
@@ -196,7 +196,7 @@ impl Passed {
         }
     }
 
-    /// This turn of a loop as the loop, which is left from its head with these effects. Fails only where no host memory is left.
+    /// The summary of a loop with this body. It is left from its head with the effects `left`.
     pub fn looped(self, alloc: Global, left: &Table) -> Result<Passed, AllocError>
         ensures { IfOk result (λ p. passage_of p ≡ looped_from (passage_of self) (effects_in (table_at left.now))) }
     {
@@ -208,7 +208,7 @@ impl Passed {
         })
     }
 
-    /// Other effects, with the faults of this. Fails only where no host memory is left.
+    /// Replaces the effects, and keeps the faults.
     pub fn with_effects(self, alloc: Global, effects: &Table) -> Result<Passed, AllocError>
         ensures { IfOk result (λ p. passage_of p ≡ record (passage_of self) { effects = effects_in (table_at effects.now) }) }
     {
@@ -219,7 +219,7 @@ impl Passed {
         })
     }
 
-    /// This without the locals from a number on, of which one may begin in a state.
+    /// Forgets the locals from number `around` on. The first of them, if there is one, begins in the state `begun`.
     pub fn leaving(self, around: usize, begun: Option<Begun>) -> Passed
         ensures { passage_of result ≡ left_after around (length (added_of begun) + around) (added_of begun) (passage_of self) }
     {
@@ -233,7 +233,7 @@ impl Passed {
         }
     }
 
-    /// This, in which a local is lent that is named at a place. Fails only where no host memory is left.
+    /// The summary of this phrase where a local is lent throughout. The loan names the local at `at`.
     pub fn lent(self, alloc: Global, at: u32, number: usize) -> Result<Passed, AllocError>
         ensures { IfOk result (λ p. passage_of p ≡ lent_within at number (passage_of self)) }
     {
@@ -250,14 +250,14 @@ impl Passed {
     }
 }
 
-/// A fault of a kind.
+/// A fault of this kind.
 fn fault(kind: FaultKind, at: u32) -> Option<Fault>
     ensures { result ≡ rules.fault_of_kind kind at }
 {
     Some(Fault { kind, at })
 }
 
-/// The faults of a local that has to be held.
+/// The faults of a use that needs the local to be held.
 fn unless_held(at: u32) -> Caused
     ensures { caused_of result ≡ rules.unless_held at }
 {
@@ -269,7 +269,7 @@ fn unless_held(at: u32) -> Caused
     }
 }
 
-/// The faults of a local that must not be lent.
+/// The faults of a use that needs the local not to be lent.
 fn if_lent(at: u32) -> Caused
     ensures { caused_of result ≡ rules.if_lent at }
 {
@@ -281,7 +281,7 @@ fn if_lent(at: u32) -> Caused
     }
 }
 
-/// The faults of a loan by those where the local is lent: it has to be held.
+/// The faults of a loan, which needs the local to be held. `lent` is the fault of what follows while the local is lent.
 fn lent_from(at: u32, lent: Option<Fault>) -> Caused
     ensures { caused_of result ≡ lent_from at lent }
 {

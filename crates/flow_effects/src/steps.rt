@@ -1,4 +1,4 @@
-// What follows one after another in a block.
+// The steps of a block or a `switch`, one after another.
 
 ghost use Rattle.std.specs.Prelude.{◌≡◌, IfOk};
 ghost use Rattle.flow_effects.specs.Exits.{exits_of};
@@ -13,25 +13,25 @@ use std::alloc::{AllocError, Global};
 pub struct Loan {
     /// Where the declaration begins.
     pub at: u32,
-    /// Where the local's name stands in it.
+    /// Where the local's name stands in the declaration.
     pub name_at: u32,
-    /// The local's number; a pointer that is no local isn't lent.
+    /// The local's number. None: it is no local, and can't be lent.
     pub number: Option<usize>,
 }
 
 /// A declaration.
 #[derive(Drop)]
 pub struct Declared {
-    /// Its initializer.
+    /// The summary of the initializer.
     pub initial: Option<Passed>,
     pub loan: Option<Loan>,
-    /// How many locals are around.
+    /// How many locals there are before it.
     pub around: usize,
-    /// How its local begins, where it adds one.
+    /// The state of the local that it adds, if it adds one.
     pub begun: Option<Begun>,
 }
 
-/// What stands before the rest of a block, or before other clauses.
+/// A step: it stands before the rest of a block, or before the later clauses of a `switch`.
 #[derive(Drop)]
 pub enum Step {
     Executed(Exits),
@@ -40,7 +40,7 @@ pub enum Step {
     Way(Exits),
 }
 
-/// A loan that may begin before this. Fails only where no host memory is left.
+/// The summary of the rest of a block, after a loan if there is one.
 fn lent(alloc: Global, loan: Option<Loan>, rest: Exits) -> Result<Exits, AllocError>
     ensures { IfOk result (λ w. exits_of w ≡ lent_if loan (exits_of rest)) }
 {
@@ -51,7 +51,7 @@ fn lent(alloc: Global, loan: Option<Loan>, rest: Exits) -> Result<Exits, AllocEr
 }
 
 impl Declared {
-    /// This declaration, and the rest of its block. Fails only where no host memory is left.
+    /// The summary of this declaration and then the rest of its block.
     fn before(self, alloc: Global, rest: Exits) -> Result<Exits, AllocError>
         ensures { IfOk result (λ w. exits_of w ≡ declared_before self (exits_of rest)) }
     {
@@ -65,7 +65,7 @@ impl Declared {
 }
 
 impl Step {
-    /// This, and what comes after it. Fails only where no host memory is left.
+    /// The summary of this step and what comes after it.
     fn before(self, alloc: Global, rest: Exits) -> Result<Exits, AllocError>
         ensures { IfOk result (λ w. exits_of w ≡ step_before self (exits_of rest)) }
     {
@@ -77,7 +77,7 @@ impl Step {
     }
 }
 
-/// All of these, before what comes last. Fails only where no host memory is left.
+/// The summary of all steps in order, and `last` after them.
 pub fn all_before(alloc: Global, steps: Vec<Step>, last: Exits) -> Result<Exits, AllocError>
     ensures { IfOk result (λ w. exits_of w ≡ all_before steps.items (exits_of last)) }
 {

@@ -1,11 +1,11 @@
-// A tree of what a phrase does to the locals, and how far it reaches.
+// A map from the locals' numbers to what a phrase does to them.
 
 ghost use Rattle.flow_effects.specs.Touches.{IsNothingFrom};
 
 use crate::touches::Touches;
 
-/// What a phrase does to the locals. A step on one local takes time by the logarithm of its number, and two of these are put together in
-/// the time of those locals that both have.
+/// What a phrase does to each local. Access to one local takes time logarithmic in its number. Two tables are joined in time linear in the
+/// number of locals that both have.
 #[derive(Drop)]
 pub struct Table {
     /// Nothing is done to the locals from this number on.

@@ -1,4 +1,4 @@
-// What a phrase does to the locals, by their numbers.
+// Operations on tables.
 
 ghost use Rattle.std.specs.Prelude.{◌≡◌, IfOk};
 ghost use Rattle.flow_summaries.specs.Effects.{below, with_number};
@@ -12,7 +12,7 @@ use crate::touches::{Touches, forget, join, join_nothing, set_touch, touch_at};
 use std::alloc::{AllocError, Global};
 
 impl Table {
-    /// Nothing is done to any local.
+    /// The table of a phrase that does nothing.
     pub fn nothing() -> Table
         ensures { table_at result ≡ (λ i. idle_touch) }
     {
@@ -29,7 +29,7 @@ impl Table {
         touch_at(&self.touches, number)
     }
 
-    /// With something else done to a local. Fails only where no host memory is left.
+    /// Sets what is done to a local.
     pub fn with(self, alloc: Global, number: usize, touch: Touch) -> Result<Table, AllocError>
         ensures { IfOk result (λ t. table_at t ≡ with_number number (touch_of touch) (table_at self)) }
     {
@@ -44,7 +44,7 @@ impl Table {
         })
     }
 
-    /// Without the locals from this number on.
+    /// Forgets the locals from number `count` on.
     pub fn below(self, count: usize) -> Table
         ensures { table_at result ≡ below count idle_touch (table_at self) }
     {
@@ -60,7 +60,7 @@ impl Table {
         }
     }
 
-    /// This phrase, and then another one.
+    /// The table of this phrase and then the next one.
     pub fn turn(self, next: Table) -> Table
         ensures { table_at result ≡ (λ i. joined how.Turn (table_at self i) (table_at next i)) }
     {
@@ -72,7 +72,7 @@ impl Table {
         }
     }
 
-    /// What a phrase does, joined to this. Fails only where no host memory is left.
+    /// Joins the table of a first phrase to this one, local by local.
     pub fn joined(self, alloc: Global, how: How, first: &Table) -> Result<Table, AllocError>
         ensures { IfOk result (λ t. table_at t ≡ (λ i. joined how (table_at first.now i) (table_at self i))) }
     {
@@ -84,7 +84,7 @@ impl Table {
         })
     }
 
-    /// This, joined to a phrase that does nothing.
+    /// Joins the table of a first phrase that does nothing to this one.
     pub fn joined_to_nothing(self, how: How) -> Table
         ensures { table_at result ≡ (λ i. joined how idle_touch (table_at self i)) }
     {

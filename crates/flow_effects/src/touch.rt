@@ -11,11 +11,11 @@ use check_faults::{Fault, sooner};
 #[derive(Clone, Copy)]
 pub enum Effect {
     Keeps,
-    /// Left held, unless it is lent.
+    /// Leaves it held, unless it is lent.
     Holds,
-    /// Left gone, unless it is lent.
+    /// Leaves it gone, unless it is lent.
     Loses,
-    /// Left gone on one way and kept on another.
+    /// Leaves it gone on one path, and keeps it on another.
     MayLose,
 }
 
@@ -28,40 +28,40 @@ pub struct Caused {
     pub lent: Option<Fault>,
 }
 
-/// What a phrase does to one local, and the faults that this causes.
+/// What a phrase does to one local: the effect and the faults.
 #[derive(Clone, Copy)]
 pub struct Touch {
     pub effect: Effect,
     pub caused: Caused,
 }
 
-/// How what is done to a local by one phrase is joined to what is done to it by another one.
+/// How two phrases are joined at one local. The first of them is the argument `first` of `joined`.
 #[derive(Clone, Copy)]
 pub enum How {
-    /// One after the other.
+    /// The first phrase and then the second one.
     Turn,
-    /// The second one comes after the first one; the faults are those of the second one.
+    /// The effect of the first and then the second; the faults of the second alone, which come after that of the first.
     After,
-    /// The effects meet; the faults are those of the second one.
+    /// The effects of two paths that join; the faults of the second alone.
     Meet,
-    /// The effect of the second one meets that of the first one; the faults are those of the second one.
+    /// As Meet, with the effect of the second taken first.
     MetBy,
-    /// The effect of the second one, and then that of the first one; the faults are those of the second one.
+    /// The effect of the second and then that of the first; the faults of the second alone.
     Before,
-    /// Two ways that are both reached.
+    /// Two paths; the ends of both are reached.
     EachWay,
-    /// Two ways, of which the first one is reached.
+    /// Two paths; only the end of the first is reached.
     FirstWay,
-    /// Two ways, of which the second one is reached.
+    /// Two paths; only the end of the second is reached.
     LastWay,
-    /// The effect of the first one, and the faults of the second one.
+    /// The effect of the first, and the faults of the second.
     Pair,
-    /// The second one is a turn of a loop; from its head, which the first one meets.
+    /// The second is a loop's body, which begins after the first or after an iteration.
     Head,
 }
 
 impl Effect {
-    /// One after the other.
+    /// The effect of this and then the next one.
     fn then(self, next: Effect) -> Effect
         ensures { effect_of result ≡ rules.then_effect (effect_of self) (effect_of next) }
     {
@@ -74,7 +74,7 @@ impl Effect {
         }
     }
 
-    /// Where two ways meet.
+    /// The effect where two paths join.
     fn met(self, other: Effect) -> Effect
         ensures { effect_of result ≡ rules.met_effect (effect_of self) (effect_of other) }
     {
@@ -89,7 +89,7 @@ impl Effect {
 }
 
 impl Caused {
-    /// No fault.
+    /// No fault in any state.
     pub fn none() -> Caused
         ensures { caused_of result ≡ rules_of_faults.no_cause }
     {
@@ -101,7 +101,7 @@ impl Caused {
         }
     }
 
-    /// The faults of two phrases, from the same state.
+    /// The earlier fault of two phrases that begin in the same state.
     fn with(self, other: Caused) -> Caused
         ensures { caused_of result ≡ rules_of_faults.both_caused (caused_of self) (caused_of other) }
     {
@@ -113,7 +113,7 @@ impl Caused {
         }
     }
 
-    /// The faults of a phrase that comes after an effect.
+    /// The faults of a phrase that comes after this effect.
     fn after(self, effect: Effect) -> Caused
         ensures { caused_of result ≡ rules_of_faults.caused_after (effect_of effect) (caused_of self) }
     {
@@ -138,7 +138,7 @@ impl Caused {
 }
 
 impl Touch {
-    /// It keeps the local, without a fault.
+    /// Nothing is done to the local.
     pub fn none() -> Touch
         ensures { touch_of result ≡ idle_touch }
     {
@@ -150,7 +150,7 @@ impl Touch {
 }
 
 impl How {
-    /// What is done to a local by both phrases.
+    /// What both phrases, joined in this way, do to a local.
     pub fn joined(self, first: Touch, next: Touch) -> Touch
         ensures { touch_of result ≡ joined self (touch_of first) (touch_of next) }
     {

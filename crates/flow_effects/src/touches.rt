@@ -1,4 +1,4 @@
-// What a phrase does to the locals, by their numbers.
+// Trees of what a phrase does to the locals, by their numbers.
 
 ghost use Rattle.std.specs.Prelude.{◌≡◌, OnOk, IfOk, ℕ};
 ghost use Rattle.flow_summaries.specs.Effects.{with_number};
@@ -8,8 +8,8 @@ ghost use Rattle.flow_effects.specs.declared.touch.How.TheVariants as how;
 use crate::touch::{How, Touch};
 use std::alloc::{AllocError, Global};
 
-/// What a phrase does to the locals, by their numbers: nothing to those that it hasn't. A tree in which the halves of the odd numbers
-/// go on the left, and those of the even ones on the right.
+/// A map from the locals' numbers to what a phrase does to them, as a binary tree. The local 0 is at the root. The odd number 2n + 1 is n
+/// on the left, and the even number 2n + 2 is n on the right. Nothing is done to a local that isn't in the tree.
 pub enum Touches {
     Nothing,
     Fork(Box<Touches>, Touch, Box<Touches>),
@@ -25,7 +25,7 @@ impl Drop for Touches {
     }
 }
 
-/// What stands where the first phrase does something and the second one nothing. Fails only where no host memory is left.
+/// The tree of a first phrase, joined with a next one that does nothing.
 fn copied(alloc: Global, how: How, first: &Touches) -> Result<Touches, AllocError>
     ensures { IfOk result (λ t. (i : ℕ) → touch_at t i ≡ joined how (touch_at first.now i) idle_touch) }
 {
@@ -40,7 +40,7 @@ fn copied(alloc: Global, how: How, first: &Touches) -> Result<Touches, AllocErro
     }
 }
 
-/// What stands where the first phrase does nothing, whatever the second one does.
+/// Joins the tree of a phrase that does nothing to this one, node by node.
 fn each_joined(how: How, next: &mut Touches)
     ensures { (i : ℕ) → touch_at next.new i ≡ joined how idle_touch (touch_at next.old i) }
 {
@@ -54,7 +54,7 @@ fn each_joined(how: How, next: &mut Touches)
     }
 }
 
-/// What stands where the first phrase does nothing.
+/// Joins the tree of a phrase that does nothing to this one. Where that changes no node, none is visited.
 pub fn join_nothing(how: How, next: &mut Touches)
     ensures { (i : ℕ) → touch_at next.new i ≡ joined how idle_touch (touch_at next.old i) }
 {
@@ -66,7 +66,7 @@ pub fn join_nothing(how: How, next: &mut Touches)
 }
 
 impl Touches {
-    /// One phrase after the other, local by local. A tree that the other one hasn't is taken as it is.
+    /// Joins the trees of two phrases that follow each other. A subtree that the second one lacks is moved.
     pub fn turn(self, next: &mut Touches)
         ensures { (i : ℕ) → touch_at next.new i ≡ joined how.Turn (touch_at self i) (touch_at next.old i) }
     {
@@ -84,7 +84,7 @@ impl Touches {
     }
 }
 
-/// Joins what a phrase does to what another one does, local by local. Fails only where no host memory is left.
+/// Joins the tree of a first phrase to that of a next one, local by local.
 pub fn join(alloc: Global, how: How, first: &Touches, next: &mut Touches) -> Result<(), AllocError>
     ensures { OnOk result ((i : ℕ) → touch_at next.new i ≡ joined how (touch_at first.now i) (touch_at next.old i)) }
 {
@@ -107,8 +107,7 @@ pub fn join(alloc: Global, how: How, first: &Touches, next: &mut Touches) -> Res
     }
 }
 
-/// What a phrase does that touches one local alone. Fails only where no host memory is left.
-
+/// A tree with one local.
 fn placed(alloc: Global, number: usize, touch: Touch) -> Result<Touches, AllocError>
     ensures { IfOk result (λ t. (i : ℕ) → touch_at t i ≡ with_number number (touch_of touch) (λ j. idle_touch) i) }
 {
@@ -145,7 +144,7 @@ pub fn touch_at(touches: &Touches, number: usize) -> Touch
     }
 }
 
-/// Sets what is done to a local. Fails only where no host memory is left.
+/// Sets what is done to a local.
 pub fn set_touch(
     alloc: Global,
     number: usize,
@@ -172,7 +171,7 @@ pub fn set_touch(
     }
 }
 
-/// Nothing is done to a local any more.
+/// Sets that nothing is done to a local.
 pub fn forget(number: usize, touches: &mut Touches)
     ensures { (i : ℕ) → touch_at touches.new i ≡ with_number number idle_touch (touch_at touches.old) i }
 {

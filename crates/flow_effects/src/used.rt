@@ -1,4 +1,4 @@
-// What an expression does, by how it is used.
+// Summaries of expressions, by how they are used.
 
 ghost use Rattle.std.specs.Prelude.{◌≡◌, IfOk, List};
 ghost use Rattle.cyc_tree.specs.Tree as tree;
@@ -15,23 +15,23 @@ use std::alloc::{AllocError, Global};
 /// How an expression is used.
 #[derive(Clone, Copy)]
 pub enum Usage {
-    /// Given away.
+    /// Its value is moved or copied.
     Value,
-    /// Looked at.
+    /// It is only looked at.
     Look,
-    /// Pointed to by `&`.
+    /// Its address is taken by `&`.
     Place,
-    /// Assigned as a whole.
+    /// It is assigned as a whole.
     Target,
 }
 
-/// What an expression does that is used in one way.
+/// The summary of an expression that is used in one way.
 #[derive(Drop)]
 pub struct Used {
     pub passed: Passed,
-    /// Whether it is a noncopyable local by its name.
+    /// Whether it is the name of a noncopyable local.
     pub whole: bool,
-    /// Whether it is a noncopyable local, a part of one, or an element of a local array of such.
+    /// Whether it is a noncopyable local, a part of one, or an element of a local array of noncopyable values.
     pub own: bool,
 }
 
@@ -47,7 +47,7 @@ impl Used {
         }
     }
 
-    /// A place that is no local: a noncopyable value isn't moved out of it.
+    /// A place that is no local's name. It is a fault to move a noncopyable value out of it.
     pub fn place(how: Usage, at: u32, moves: bool, own: bool, passed: Passed) -> Used
         ensures { (p : Passage) → passage_of passed ≡ p → IsUsed how (uses_as_place at moves own p) result }
     {
@@ -62,7 +62,7 @@ impl Used {
         }
     }
 
-    /// A noncopyable local with this number. Fails only where no host memory is left.
+    /// The name of a noncopyable local with this number.
     pub fn own(
         alloc: Global,
         how: Usage,
@@ -84,7 +84,7 @@ impl Used {
         })
     }
 
-    /// A local array of noncopyable elements.
+    /// The name of a local array of noncopyable elements.
     pub fn array(at: u32) -> Used
         ensures { (how : TheUsage) → IsUsed how (uses_of_array at) result }
     {

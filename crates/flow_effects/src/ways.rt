@@ -1,4 +1,4 @@
-// Ways out of a statement, where they are reached.
+// The effects on a path that may not be reached (None).
 
 ghost use Rattle.std.specs.Prelude.{◌≡◌, IfOk, None, option_map};
 ghost use Rattle.flow_summaries.specs.Effects.{Holds, met_ways, then_way, way_below, with_number};
@@ -8,7 +8,7 @@ use crate::table::Table;
 use crate::touch::{Caused, Effect, How, Touch};
 use std::alloc::{AllocError, Global};
 
-/// A way after effects. Fails only where no host memory is left.
+/// The effects of `first` and then of the path.
 pub fn after(alloc: Global, first: &Table, way: Option<Table>) -> Result<Option<Table>, AllocError>
     ensures { IfOk result (λ w. way_of w ≡ then_way (effects_in (table_at first.now)) (way_of way)) }
 {
@@ -18,7 +18,7 @@ pub fn after(alloc: Global, first: &Table, way: Option<Table>) -> Result<Option<
     }
 }
 
-/// Where two ways meet. Fails only where no host memory is left.
+/// The effects where two paths join.
 pub fn met(
     alloc: Global,
     one: Option<Table>,
@@ -33,7 +33,7 @@ pub fn met(
     }
 }
 
-/// A way without the locals from this number on.
+/// Forgets the locals from number `count` on.
 pub fn below(count: usize, way: Option<Table>) -> Option<Table>
     ensures { way_of result ≡ way_below count (way_of way) }
 {
@@ -43,7 +43,7 @@ pub fn below(count: usize, way: Option<Table>) -> Option<Table>
     }
 }
 
-/// A way on which a local is held at the end. Fails only where no host memory is left.
+/// Sets that a local is held at the path's end.
 pub fn held_again(
     alloc: Global,
     number: usize,
@@ -63,7 +63,7 @@ pub fn held_again(
     }
 }
 
-/// The effects of a phrase alone. Fails only where no host memory is left.
+/// A copy of a table's effects, without its faults.
 pub fn effects_of(alloc: Global, table: &Table) -> Result<Table, AllocError>
     ensures { IfOk result (λ t. effects_in (table_at t) ≡ effects_in (table_at table.now)) }
 {

@@ -4,6 +4,8 @@
 //! sizes, without the rules on live regions and effects, and `Typed::effect_fault` the earliest one with these. The rules are those of
 //! `source_typing`; `check_programs` finds the faults. A program in which all these rules find no fault is gone over once: that it has
 //! none by fewer rules either is proved here (`proofs/EasedPrograms`). Stands on these and on `cyc_tree`.
+//!
+//! Each function that answers a `Result` fails only where no host memory is left.
 #![tactic(auto)]
 
 mod looking;

@@ -11,8 +11,7 @@ use check_programs::program_fault;
 use cyc_tree::Program;
 use std::alloc::{AllocError, Global};
 
-/// A program's earliest fault of names, types, regions and sizes, without the rules on live regions and effects. Fails only where no host
-/// memory is left.
+/// A program's earliest fault of names, types, regions and sizes, without the rules on live regions and effects.
 pub fn type_fault(alloc: Global, program: &Program) -> Result<Option<Fault>, AllocError>
     ensures { IfOk result (λ f. faults_of f ≡ type_fault program.now) }
 {
@@ -20,7 +19,6 @@ pub fn type_fault(alloc: Global, program: &Program) -> Result<Option<Fault>, All
 }
 
 /// The same where this is the earliest fault by the rules on live regions and effects too: where these find none, the others find none.
-/// Fails only where no host memory is left.
 fn fault_without_effects(
     alloc: Global,
     program: &Program,
@@ -35,8 +33,7 @@ fn fault_without_effects(
     }
 }
 
-/// Looks at a program's names, types, regions, effects and sizes. A program without a fault is gone over once. Fails only where no host
-/// memory is left.
+/// Looks at a program's names, types, regions, effects and sizes. A program without a fault is gone over once.
 pub fn typed(alloc: Global, program: &Program) -> Result<Typed, AllocError>
     ensures { IfOk result (λ t. t ≡ program.now) }
 {

@@ -13,7 +13,7 @@ IsAs (flow.Lent at) f = (f ≡ fault lent_rule at)
 IsAs (flow.Copy at) f = (f ≡ fault copy_rule at)
 IsAs flow.Memory f = ⊥
 
--- It is the program's earliest fault by all rules, where it isn't want of memory.
+-- It is the program's earliest fault by all rules, unless memory has run out.
 abbrev pub IsFirstFault : FlowFault → Program → Type 0
 IsFirstFault (flow.Consumed at) program = (first_fault program ≡ Some (fault consumed_rule at))
 IsFirstFault (flow.Lent at) program = (first_fault program ≡ Some (fault lent_rule at))

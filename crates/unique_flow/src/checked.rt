@@ -1,4 +1,4 @@
-// The last of the checks: flow.
+// The last check: flow.
 
 ghost use Rattle.std.specs.Prelude.{◌≡◌, IfOk, IfErr, None, Some, true};
 ghost use Rattle.source_typing.specs.Answers.{effect_fault, first_fault};
@@ -15,8 +15,7 @@ use effect_check::Effected;
 use flow_check::flow_fault;
 use std::alloc::{AllocError, Global};
 
-/// The earliest fault of a program whose names, types, regions, effects and sizes have none: it is one of flow. Fails only where no host
-/// memory is left.
+/// The earliest fault of a program without a fault of names, types, regions, effects or sizes. It is a fault of flow.
 fn first_of_flow(alloc: Global, effected: &Effected) -> Result<Option<Fault>, AllocError>
     ensures first { IfOk result (λ f. faults_of f ≡ first_fault effected.now) }
     ensures of_flow { IfOk result (λ f. IsOfFlowIfSome (faults_of f)) }
@@ -24,7 +23,7 @@ fn first_of_flow(alloc: Global, effected: &Effected) -> Result<Option<Fault>, Al
     flow_fault(alloc, effected.program())
 }
 
-/// A fault of flow as it is answered.
+/// The error of `flow` for a fault of flow.
 fn refused(fault: Fault) -> FlowFault
     requires { is_of_flow (number_of fault.kind) ≡ true }
     ensures { IsAs result (fault_of fault) }
@@ -33,7 +32,7 @@ fn refused(fault: Fault) -> FlowFault
         FaultKind::Consumed => FlowFault::Consumed(fault.at),
         FaultKind::Lent => FlowFault::Lent(fault.at),
         FaultKind::Copy => FlowFault::Copy(fault.at),
-        // the others are no faults of flow
+        // other kinds are no faults of flow
         FaultKind::Name
         | FaultKind::Typing
         | FaultKind::Region
@@ -43,7 +42,7 @@ fn refused(fault: Fault) -> FlowFault
     }
 }
 
-/// A program in which no rule finds a fault. That it has operands is known of each program.
+/// Wraps a program in which no rule finds a fault.
 fn accepted(program: Program) -> Checked
     requires { first_fault program ≡ None }
     ensures { result ≡ program }
@@ -52,12 +51,12 @@ fn accepted(program: Program) -> Checked
     Checked::new(program)
 }
 
-/// Looks at a program's flow. A program with a fault is refused with its earliest one, or for want of memory; one without a fault for
-/// want of memory alone.
+/// Checks a program's flow. A program with a fault is refused with its earliest one, or because no host memory is left. A program without a
+/// fault is refused for the latter alone.
 pub fn flow(alloc: Global, effected: Effected) -> Result<Checked, FlowFault>
     // the program is answered as it is
     ensures same { IfOk result (λ c. c ≡ effected) }
-    // an accepted program is refused only for want of memory
+    // an accepted program is refused only if no host memory is left
     ensures exact { IsAccepted effected → IfErr result (λ fault. fault ≡ FlowFault.Memory) }
     // a fault is the program's first
     ensures broken { IfErr result (λ fault. IsFirstFault fault effected) }
@@ -69,8 +68,8 @@ pub fn flow(alloc: Global, effected: Effected) -> Result<Checked, FlowFault>
     }
 }
 
-/// The earliest fault of a program by all rules, where this one is its earliest of names, types, regions, effects and sizes. Flow is the
-/// last phase, so a fault that is none of flow is the first, and flow isn't looked at. Fails only where no host memory is left.
+/// The earliest fault of a program by all rules, given the earliest one of names, types, regions, effects and sizes. Flow is the last
+/// phase, so a fault that is none of flow is the first, and flow isn't checked. Fails only where no host memory is left.
 pub fn first_broken(alloc: Global, program: &Program, broken: Fault) -> Result<Fault, AllocError>
     requires { effect_fault program.now ≡ Some (fault_of broken) }
     ensures { IfOk result (λ first. first_fault program.now ≡ Some (fault_of first)) }

@@ -2,7 +2,7 @@
 
 use thiserror::Error;
 
-/// Why `flow` refuses a program. Places are offsets in the text.
+/// Why `flow` refuses a program. Positions are offsets in the text.
 #[derive(Clone, Copy, Debug, Error)]
 pub enum FlowFault {
     /// A local is used after its value was moved.

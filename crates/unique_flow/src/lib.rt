@@ -1,8 +1,8 @@
-//! Unique pointers, and the programs that are accepted.
+//! The check of unique pointers, which is the last: what it accepts is an accepted program.
 //!
-//! `flow` answers the earliest fault of flow, or the program as `Checked`: nothing in it breaks a rule. Of a program with a fault of
-//! another rule `first_broken` answers which one is the first by all rules. `flow_fault` answers the earliest fault of flow, which
-//! `flow_check` finds. That flow has no faults but Consumed, Lent and Copy is proved here. Stands on these and on `effect_check`.
+//! `flow` answers the earliest fault of flow, or the program as `Checked`, which breaks no rule. If another check has found a fault,
+//! `first_broken` answers the earliest fault by all rules. `flow_check` finds the faults of flow; that these are Consumed, Lent and Copy
+//! alone is proved here. Stands on `flow_check` and `effect_check`.
 #![tactic(auto)]
 
 mod checked;

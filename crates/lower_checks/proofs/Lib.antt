@@ -4,6 +4,7 @@ mod Bodies
 mod Clauses
 mod Exchanges
 mod Following
+mod Globals
 mod Initials
 mod Items
 mod Linking

@@ -77,11 +77,6 @@ pub tag_found : (unions structs : List Layout) (tag : List ℕ) (found : Option 
 tag_found unions structs tag None is has = absurd cc (sym is ∙ has)
 tag_found unions structs tag (Some k) is has = refl
 
-none_found : (unions structs : List Layout) (tag : List ℕ) (found : Option Known) → IsFound unions structs tag found
-    → has_tag structs tag ≡ false → is_some found ≡ false
-none_found unions structs tag None is other = refl
-none_found unions structs tag (Some k) is other = absurd cc (sym is.has ∙ other)
-
 -- where no struct has a tag, it has no bytes and no cells
 
 pub no_bytes : (unions structs : List Layout) (tag : List ℕ) → has_tag structs tag ≡ false → struct_extent unions structs tag ≡ bytes_and 0 1
@@ -388,11 +383,7 @@ pub next_struct :
 next_struct unions items found all s is h =
     (earlier_are unions items (layout_of s ∷ found) (subst (λ (ls : List Layout). AreStructs unions ls) (sym is) h)).0
 
--- no earlier one has its tag, and its members can be laid
-pub new_tag : (table : Structs) (unions structs : List Layout) (l : Layout) → Knows table unions structs → IsStruct unions structs l
-    → is_some (struct_in table l.tag) ≡ false
-new_tag table unions structs l knows h = none_found unions structs l.tag (struct_in table l.tag) (knows.knows l.tag) h.new
-
+-- its members can be laid
 pub members_laid : (table : Structs) (unions structs : List Layout) (l : Layout) → Knows table unions structs
     → IsStruct unions structs l → AreLaid table l.parts
 members_laid table unions structs l knows h = objects_laid table unions structs knows l.parts h.members

@@ -7,9 +7,9 @@ pub mod Numbers
 pub mod Ordering
 pub mod Promise
 pub mod Reaching
-pub mod Refusals
 pub mod Scoped
 pub mod Given
+pub mod Globals
 pub mod Signs
 pub mod Simple
 pub mod Structs

@@ -54,10 +54,13 @@ fn lower_request(program: &Table<'_>, shape: &Shape<'_>, body: &mut Body<'_>, to
     ensures { Emits body.old body.new
         (core.Do (core.RegionAlloc to.0 to.0 (to.0 + 1) (layout_of (world_of program.now) (shape_tree shape.now))) ∷ []) }
 {
+    if body.failed {
+        return;
+    }
     let many = behind(to, 1);
     match object_layout(body.alloc, program, *shape) {
         Ok(layout) => body.emit(Statement::RegionAlloc(to, to, many, layout)),
-        Err(fault) => body.note(fault),
+        Err(_) => body.fail(),
     }
 }
 
@@ -139,7 +142,7 @@ fn lower_within(program: &Table<'_>, body: &mut Body<'_>, inside: Vec<Statement>
             body.block(locals, inside);
             body.operation(Operation::Constant(number, 0));
         }
-        Err(fault) => body.note(fault),
+        Err(_) => body.fail(),
     }
 }
 
@@ -315,8 +318,8 @@ pub fn lower_array<'p>(
             };
             lower_elements(&inside, element, body, to)
         }
-        Err(fault) => {
-            body.note(fault);
+        Err(_) => {
+            body.fail();
             Shape::Void
         }
     }

@@ -5,17 +5,14 @@ ghost use Rattle.core_meaning.specs.Core as core;
 ghost use Rattle.cyc_core.specs.Trees.{local_tree, operation_tree, statements_of, statement_tree};
 ghost use Rattle.source_lowering.specs.Lowered.{all_of};
 ghost use Rattle.source_lowering.specs.Pieces.{raised};
-ghost use Rattle.lower_checks.specs.Refusals.{NeverRefused};
 ghost use Rattle.lower_checks.specs.Views.{shape_tree};
 ghost use Rattle.lower_checks.specs.Writing.{Emits, IsBegun, IsEnded, IsSound, Stays, Writes, code_of, next_of};
-ghost use Rattle.lower_checks.specs.declared.fault.LowerFault.TheVariants.{Memory};
 
-use crate::fault::LowerFault;
 use crate::shape::Shape;
-use crate::vectors::append;
+use crate::vectors::{append, space_for_one};
 use cyc_core::{Local, Operation, Origin, Statement, Temporary};
 use cyc_words::Kind;
-use std::alloc::Global;
+use std::alloc::{AllocError, Global};
 use std::mem;
 
 /// What is written: statements, the shapes of the unnamed values, and whether memory was wanting on the way.
@@ -49,15 +46,6 @@ impl<'p> Body<'p> {
         self.failed = true;
     }
 
-    /// Notes a fault, which is no refusal.
-    pub fn note(&mut self, fault: LowerFault)
-        requires { IsSound self.old → fault ≡ Memory }
-        ensures { self.new.failed ≡ true }
-    {
-        let _fault = fault;
-        self.failed = true;
-    }
-
     /// Appends a statement.
     pub fn emit(&mut self, statement: Statement)
         ensures { Emits self.old self.new (statement_tree statement ∷ []) }
@@ -88,7 +76,9 @@ impl<'p> Body<'p> {
         ensures ended { IsEnded self.old self.new (map statement_tree outer.items) }
         ensures part { map statement_tree result.items ≡ code_of self.old }
     {
-        mem::replace(&mut self.code, outer)
+        let mut part = mem::replace(&mut self.code, outer);
+        part.shrink_to_fit();
+        part
     }
 
     /// A statement alone, as a part.
@@ -96,7 +86,7 @@ impl<'p> Body<'p> {
         ensures stays { Stays self.old self.new }
         ensures alone { IsSound self.new → map statement_tree result.items ≡ statement_tree statement ∷ [] }
     {
-        let mut part = Vec::new(self.alloc);
+        let mut part = space_for_one(self.alloc);
         match append(&mut part, statement) {
             Ok(()) => {}
             Err(_) => self.failed = true,
@@ -208,8 +198,7 @@ impl<'p> Body<'p> {
     }
 
     /// The shape that is found, or any other where that failed.
-    pub fn known(&mut self, found: Result<Shape<'p>, LowerFault>) -> Shape<'p>
-        requires { NeverRefused found }
+    pub fn known(&mut self, found: Result<Shape<'p>, AllocError>) -> Shape<'p>
         ensures stays { Stays self.old self.new }
         ensures known { IsSound self.new → found.entry ≡ Ok result }
     {

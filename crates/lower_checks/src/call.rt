@@ -9,23 +9,20 @@ ghost use Rattle.source_lowering.specs.Lowered.{call_parameters, from_on, call_c
 ghost use Rattle.source_lowering.specs.Pieces.{function_call};
 ghost use Rattle.lower_checks.specs.Room.{HasRoom};
 ghost use Rattle.lower_checks.specs.Views.{shape_tree};
-ghost use Rattle.lower_checks.specs.Refusals.{NeverRefused};
 ghost use Rattle.lower_checks.specs.Writing.{Emits};
 
 use crate::body::Body;
-use crate::fault::LowerFault;
 use crate::names::behind;
 use crate::shape::Shape;
 use crate::table::{Callee, Table};
 use crate::vectors::append;
 use cyc_core::{Operation, Origin, Statement, Temporary};
 use cyc_tree::Member;
-use std::alloc::Global;
+use std::alloc::{AllocError, Global};
 
 /// The shapes of parameters, in order.
-fn part_shapes<'p>(alloc: Global, parameters: &'p [Member]) -> Result<Vec<Shape<'p>>, LowerFault>
+fn part_shapes<'p>(alloc: Global, parameters: &'p [Member]) -> Result<Vec<Shape<'p>>, AllocError>
     ensures shapes { IfOk result (λ shapes. map shape_tree shapes.items ≡ part_shapes (map part_of (map member_tree parameters.entry.now))) }
-    ensures taken { NeverRefused result }
 {
     let mut shapes = Vec::new(alloc);
     'each: for parameter in parameters {
@@ -39,9 +36,8 @@ pub fn call_parameters<'p>(
     alloc: Global,
     program: &Table<'p>,
     name: &[u8],
-) -> Result<Vec<Shape<'p>>, LowerFault>
+) -> Result<Vec<Shape<'p>>, AllocError>
     ensures shapes { IfOk result (λ shapes. map shape_tree shapes.items ≡ call_parameters (world_of program.now) name.now) }
-    ensures taken { NeverRefused result }
 {
     let mut shapes = Vec::new(alloc);
     if name == b"getchar".as_slice() {
@@ -58,16 +54,15 @@ pub fn call_parameters<'p>(
 }
 
 /// So many temporaries, from one on.
-fn passed_from(alloc: Global, count: u32, first: Temporary) -> Result<Vec<Temporary>, LowerFault>
+fn passed_from(alloc: Global, count: u32, first: Temporary) -> Result<Vec<Temporary>, AllocError>
     requires room { HasRoom first.0 count }
     ensures passed { IfOk result (λ passed. map temporary_tree passed.items ≡ from_on first.0 count) }
-    ensures taken { NeverRefused result }
 {
     let mut passed = Vec::new(alloc);
     let mut next = first;
     'each: for _ in 0..count {
         if let Err(_) = passed.push(next) {
-            return Err(LowerFault::Memory);
+            return Err(AllocError);
         }
         next = behind(next, 1);
     }
@@ -81,11 +76,10 @@ fn passing(
     words: u32,
     to: Temporary,
     at: Origin,
-) -> Result<Statement, LowerFault>
+) -> Result<Statement, AllocError>
     requires room { HasRoom to.0 (words + 2) }
     ensures call { IfOk result
         (λ call. statement_tree call ∷ [] ≡ function_call (Some (routine_of (function_tree callee.entry.function.now))) callee.entry.number words to.0) }
-    ensures taken { NeverRefused result }
 {
     let result = Shape::of(&callee.function.result).result_in(to);
     let passed = passed_from(alloc, words, to)?;
@@ -99,7 +93,7 @@ fn lower_callee(body: &mut Body<'_>, callee: Callee<'_>, words: u32, to: Tempora
 {
     match passing(body.alloc, callee, words, to, at) {
         Ok(call) => body.emit(call),
-        Err(fault) => body.note(fault),
+        Err(_) => body.fail(),
     }
 }
 

@@ -9,14 +9,12 @@ ghost use Rattle.source_meaning.specs.Places.{literal_string, own_string};
 ghost use Rattle.source_meaning.specs.Steps.{World};
 ghost use Rattle.source_meaning.specs.Programs.{world_of};
 ghost use Rattle.source_lowering.specs.Programs.{constant_content, datum_of, global_datum, initial_content, string_datum, text_content, text_datum};
-ghost use Rattle.source_lowering.specs.Taken.{TakesConstant};
 ghost use Rattle.source_lowering.specs.Lowerable.{IsObject, TakesGlobal};
 ghost use Rattle.listed_strings.specs.Listing.{literal_of};
 ghost use Rattle.lower_checks.specs.Bytes.{AreLow};
+ghost use Rattle.lower_checks.specs.Globals.{BeginsWithNumber, BeginsWithPointer, IsNumber, IsPointer};
 ghost use Rattle.lower_checks.specs.Views.{shape_tree, text_value};
-ghost use Rattle.lower_checks.specs.Refusals.{NeverRefused};
 
-use crate::fault::LowerFault;
 use crate::objects::{cell_layout, object_layout};
 use crate::shape::Shape;
 use crate::table::{Table, Text};
@@ -24,36 +22,32 @@ use cyc_core::{Cell, Datum};
 use cyc_tree::{Constant, Initial};
 use cyc_words::sub32;
 use listed_strings::Literal;
-use std::alloc::Global;
+use std::alloc::{AllocError, Global};
 
-/// The word of a constant. Refuses a string and `NULL`.
-fn constant_word(constant: &Constant) -> Result<u32, LowerFault>
-    ensures int { IfOk result (λ word. (w : World) → constant_content w (constant_tree constant.now) IntShape ≡ Word word) }
-    ensures unsigned { IfOk result (λ word. (w : World) → constant_content w (constant_tree constant.now) UnsignedShape ≡ Word word) }
-    ensures char { IfOk result (λ word. (w : World) → constant_content w (constant_tree constant.now) CharShape ≡ Word (word % 256)) }
-    ensures taken_int { TakesConstant IntShape (constant_tree constant.now) → NeverRefused result }
-    ensures taken_unsigned { TakesConstant UnsignedShape (constant_tree constant.now) → NeverRefused result }
-    ensures taken_char { TakesConstant CharShape (constant_tree constant.now) → NeverRefused result }
+/// The word of a constant that is a number.
+fn constant_word(constant: &Constant) -> u32
+    requires number { IsNumber (constant_tree constant.now) }
+    ensures int { (w : World) → constant_content w (constant_tree constant.now) IntShape ≡ Word result }
+    ensures unsigned { (w : World) → constant_content w (constant_tree constant.now) UnsignedShape ≡ Word result }
+    ensures char { (w : World) → constant_content w (constant_tree constant.now) CharShape ≡ Word (result % 256) }
 {
     match constant {
-        Constant::Number(_, value, _) => Ok(*value),
-        Constant::Negative(_, value, _) => Ok(sub32(0, *value)),
-        Constant::Character(_, byte) => Ok(u32::from(*byte)),
-        Constant::Text(_, _) | Constant::Null(_) => Err(LowerFault::NotTaken),
+        Constant::Number(_, value, _) => *value,
+        Constant::Negative(_, value, _) => sub32(0, *value),
+        Constant::Character(_, byte) => u32::from(*byte),
+        Constant::Text(_, _) | Constant::Null(_) => unreachable!(),
     }
 }
 
-/// The word that a global begins with, before it is narrowed: 0, or its constant.
-fn initial_word(initial: &Initial) -> Result<u32, LowerFault>
-    ensures int { IfOk result (λ word. (w : World) → initial_content w (initial_tree initial.now) IntShape ≡ Word word) }
-    ensures unsigned { IfOk result (λ word. (w : World) → initial_content w (initial_tree initial.now) UnsignedShape ≡ Word word) }
-    ensures char { IfOk result (λ word. (w : World) → initial_content w (initial_tree initial.now) CharShape ≡ Word (word % 256)) }
-    ensures taken_int { TakesGlobal IntShape (initial_tree initial.now) → NeverRefused result }
-    ensures taken_unsigned { TakesGlobal UnsignedShape (initial_tree initial.now) → NeverRefused result }
-    ensures taken_char { TakesGlobal CharShape (initial_tree initial.now) → NeverRefused result }
+/// The word that a global begins with, before it is narrowed: 0, or its constant, which is a number.
+fn initial_word(initial: &Initial) -> u32
+    requires number { BeginsWithNumber (initial_tree initial.now) }
+    ensures int { (w : World) → initial_content w (initial_tree initial.now) IntShape ≡ Word result }
+    ensures unsigned { (w : World) → initial_content w (initial_tree initial.now) UnsignedShape ≡ Word result }
+    ensures char { (w : World) → initial_content w (initial_tree initial.now) CharShape ≡ Word (result % 256) }
 {
     match initial {
-        Initial::None | Initial::Array(_) => Ok(0),
+        Initial::None | Initial::Array(_) => 0,
         Initial::Constant(constant) => constant_word(constant),
     }
 }
@@ -98,38 +92,37 @@ fn string_pointer(found: Option<Text>) -> Datum
     }
 }
 
-/// A thin pointer that is given a constant: NULL or a string. Refuses a number.
-fn constant_pointer(program: &Table<'_>, constant: &Constant) -> Result<Datum, LowerFault>
+/// A thin pointer that is given a constant: NULL or a string.
+fn constant_pointer(program: &Table<'_>, constant: &Constant) -> Datum
+    requires pointer { IsPointer (constant_tree constant.now) }
     ensures datum { let w = world_of program.now in
         (bound : SourceReach) (owner : SourceOwner) (to : SourceShape) → let s = ThinShape bound owner to in
-        IfOk result (λ datum. datum_tree datum ≡ datum_of w s (constant_content w (constant_tree constant.now) s)) }
-    ensures taken { (bound : SourceReach) (owner : SourceOwner) (to : SourceShape) →
-        TakesConstant (ThinShape bound owner to) (constant_tree constant.now) → NeverRefused result }
+        datum_tree result ≡ datum_of w s (constant_content w (constant_tree constant.now) s) }
 {
     match constant {
-        Constant::Null(_) => Ok(Datum::Null),
-        Constant::Text(at, bytes) => Ok(string_pointer(literal_text(program, *at, bytes))),
-        _ => Err(LowerFault::NotTaken),
+        Constant::Null(_) => Datum::Null,
+        Constant::Text(at, bytes) => string_pointer(literal_text(program, *at, bytes)),
+        Constant::Number(_, _, _) | Constant::Negative(_, _, _) | Constant::Character(_, _) => {
+            unreachable!()
+        }
     }
 }
 
-/// A thin pointer, which is NULL or a string at first. Refuses a number.
-fn pointer_datum(program: &Table<'_>, initial: &Initial) -> Result<Datum, LowerFault>
+/// A thin pointer, which is NULL or a string at first.
+fn pointer_datum(program: &Table<'_>, initial: &Initial) -> Datum
+    requires pointer { BeginsWithPointer (initial_tree initial.now) }
     ensures datum { (bound : SourceReach) (owner : SourceOwner) (to : SourceShape) →
-        IfOk result (λ datum. datum_tree datum ≡ global_datum (world_of program.now) (initial_tree initial.now) (ThinShape bound owner to)) }
-    ensures taken { (bound : SourceReach) (owner : SourceOwner) (to : SourceShape) →
-        TakesGlobal (ThinShape bound owner to) (initial_tree initial.now) → NeverRefused result }
+        datum_tree result ≡ global_datum (world_of program.now) (initial_tree initial.now) (ThinShape bound owner to) }
 {
     match initial {
-        Initial::None | Initial::Array(_) => Ok(Datum::Null),
+        Initial::None | Initial::Array(_) => Datum::Null,
         Initial::Constant(constant) => constant_pointer(program, constant),
     }
 }
 
 /// A fat pointer to a string's characters; NULL where there is no string. Fails only where no host memory is left.
-fn string_bounds(alloc: Global, found: Option<Text>) -> Result<Datum, LowerFault>
+fn string_bounds(alloc: Global, found: Option<Text>) -> Result<Datum, AllocError>
     ensures datum { (w : World) (to : SourceShape) → IfOk result (λ datum. datum_tree datum ≡ text_datum w (FatShape to) (option_map text_value found)) }
-    ensures taken { NeverRefused result }
 {
     match found {
         Some(text) => Ok(Datum::Bounds(text.object, text.count)),
@@ -154,53 +147,50 @@ fn initial_text(program: &Table<'_>, initial: &Initial) -> Option<Text>
 }
 
 /// A fat pointer, which is a string at first where it is given one, and else NULL. Fails only where no host memory is left.
-fn fat_datum(alloc: Global, program: &Table<'_>, initial: &Initial) -> Result<Datum, LowerFault>
+fn fat_datum(alloc: Global, program: &Table<'_>, initial: &Initial) -> Result<Datum, AllocError>
     ensures datum { (to : SourceShape) →
         IfOk result (λ datum. datum_tree datum ≡ global_datum (world_of program.now) (initial_tree initial.now) (FatShape to)) }
-    ensures taken { NeverRefused result }
 {
     string_bounds(alloc, initial_text(program, initial))
 }
 
-/// A global of a shape, with what it begins with. Refuses what is no integer, no pointer and no struct of the program.
+/// A global of a shape, with what it begins with: an integer, a pointer or a struct of the program. Fails only where no host memory is left.
 pub fn first_datum(
     alloc: Global,
     program: &Table<'_>,
     shape: Shape<'_>,
     initial: &Initial,
-) -> Result<Datum, LowerFault>
+) -> Result<Datum, AllocError>
+    requires object { IsObject (world_of program.now).unions (world_of program.now).structs (shape_tree shape) }
+    requires taken { TakesGlobal (shape_tree shape) (initial_tree initial.now) }
     ensures datum { let w = world_of program.now in
         IfOk result (λ datum. datum_tree datum ≡ global_datum w (initial_tree initial.now) (shape_tree shape.entry)) }
-    ensures taken { IsObject (world_of program.now).unions (world_of program.now).structs (shape_tree shape.entry) →
-        TakesGlobal (shape_tree shape.entry) (initial_tree initial.now) → NeverRefused result }
 {
     match shape {
         Shape::Struct(_) => Ok(Datum::Whole(object_layout(alloc, program, shape)?, 1)),
         Shape::Fat(_) => fat_datum(alloc, program, initial),
-        Shape::Thin(_, _, _) | Shape::Address(_, _, _) => pointer_datum(program, initial),
-        Shape::Char => Ok(Datum::Byte((initial_word(initial)? % 256) as u8)),
-        Shape::Int | Shape::Unsigned => Ok(Datum::Word(initial_word(initial)?)),
-        _ => Err(LowerFault::NotTaken),
+        Shape::Thin(_, _, _) | Shape::Address(_, _, _) => Ok(pointer_datum(program, initial)),
+        Shape::Char => Ok(Datum::Byte((initial_word(initial) % 256) as u8)),
+        Shape::Int | Shape::Unsigned => Ok(Datum::Word(initial_word(initial))),
+        _ => unreachable!(),
     }
 }
 
 /// Appends a byte.
 #[tactic(auto, using(crate::proofs::Bytes::low_more))]
-fn add_byte(bytes: &mut Vec<u8>, byte: u8) -> Result<(), LowerFault>
+fn add_byte(bytes: &mut Vec<u8>, byte: u8) -> Result<(), AllocError>
     ensures added { OnOk result (bytes.new.items ≡ bytes.old.items ++ byte ∷ []) }
     ensures low { OnOk result (AreLow bytes.old.items → AreLow bytes.new.items) }
-    ensures taken { NeverRefused result }
 {
     match bytes.push(byte) {
         Ok(()) => Ok(()),
-        Err(_) => Err(LowerFault::Memory),
+        Err(_) => Err(AllocError),
     }
 }
 
 /// A string's bytes, behind which its final 0 stands.
-pub fn literal_datum(alloc: Global, literal: Literal<'_>) -> Result<Datum, LowerFault>
+pub fn literal_datum(alloc: Global, literal: Literal<'_>) -> Result<Datum, AllocError>
     ensures datum { (w : World) → IfOk result (λ datum. datum_tree datum ≡ string_datum w (literal_of literal.entry)) }
-    ensures taken { NeverRefused result }
 {
     let mut bytes = Vec::new(alloc);
     'each: for byte in literal.bytes {

@@ -114,11 +114,14 @@ fn lower_clear(
     ensures { let l = local_of (world_of program.now) (stored_tree stored.now) in
         Emits body.old body.new (core.Do (core.LocalAddress to.0 0 index) ∷ core.Do (core.Clear to.0 l.layout l.count) ∷ []) }
 {
+    if body.failed {
+        return;
+    }
     let local = Variable { out: 0, index };
     body.operation(Operation::LocalAddress(to, local));
     match stored_layout(body.alloc, program, *stored) {
         Ok((layout, count)) => body.emit(Statement::Clear(to, layout, count)),
-        Err(fault) => body.note(fault),
+        Err(_) => body.fail(),
     }
 }
 

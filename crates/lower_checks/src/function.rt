@@ -11,12 +11,10 @@ ghost use Rattle.lower_checks.specs.Views.{shape_tree, stored_tree};
 ghost use Rattle.lower_checks.specs.Visible.{names_of};
 ghost use Rattle.source_lowering.specs.Lowerable.{TakesFunction};
 ghost use Rattle.cyc_tree.specs.Room.{function_room};
-ghost use Rattle.lower_checks.specs.Refusals.{NeverRefused};
 ghost use Rattle.lower_checks.specs.Room.{HasRoom};
 ghost use Rattle.lower_checks.specs.Writing.{Emits, IsSound, values_of};
 
 use crate::body::Body;
-use crate::fault::LowerFault;
 use crate::leaving::RegionsAround;
 use crate::locals::Locals;
 use crate::objects::values_of;
@@ -29,7 +27,7 @@ use crate::usage::{passed, temporaries};
 use crate::variable::lower_store_local;
 use cyc_core::{Function, Operation, Statement, Temporary, Variable, Words};
 use cyc_tree::{Function as Source, Member};
-use std::alloc::Global;
+use std::alloc::{AllocError, Global};
 
 /// How many words parameters take.
 fn parameter_words(parameters: &[Member]) -> u32
@@ -144,12 +142,11 @@ pub fn lower_function<'p>(
     alloc: Global,
     program: &Table<'p>,
     function: &'p Source,
-) -> Result<Function, LowerFault>
+) -> Result<Function, AllocError>
     requires room { HasRoom 0 (function_room (source_tree function.now)) }
     requires taken { TakesFunction (world_of program.now) (source_tree function.now) }
     ensures code { let f = routine_of (source_tree function.entry.now) in
         IfOk result (λ lowered. function_tree lowered ≡ function_code (world_of program.now) f) }
-    ensures memory { NeverRefused result }
 {
     let parameters = parameter_words(&function.parameters);
     let Body {
@@ -159,7 +156,7 @@ pub fn lower_function<'p>(
         ..
     } = lower_body(alloc, program, function, parameters);
     if failed {
-        return Err(LowerFault::Memory);
+        return Err(AllocError);
     }
     let temporaries = word(u64::max(u64::from(parameters), temporaries(&code)));
     let passed = word(passed(&code) as u64);

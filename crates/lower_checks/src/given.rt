@@ -4,15 +4,13 @@ ghost use Rattle.std.specs.Prelude.{◌≡◌, [], IfOk, drop, map};
 ghost use Rattle.cyc_tree.specs.View.{pointer_tree, type_tree};
 ghost use Rattle.source_meaning.specs.Shapes.{settled_by, written};
 ghost use Rattle.lower_checks.specs.Given.{given_by, has_digit, is_given};
-ghost use Rattle.lower_checks.specs.Refusals.{NeverRefused};
 ghost use Rattle.lower_checks.specs.Views.{shape_tree};
 
-use crate::fault::LowerFault;
 use crate::shape::{Owner, Shape, type_shape};
 use crate::vectors::append;
 use bumpalo::Bump;
 use cyc_tree::{Pointer, Sign, TypeName};
-use std::alloc::Global;
+use std::alloc::{AllocError, Global};
 
 /// Which pointers of a type are unique though the type leaves their region out, since an initializer's type says so: from the outermost
 /// one inwards. Those behind the end aren't.
@@ -72,9 +70,8 @@ fn given_by<'p>(
     arena: &'p Bump,
     pointers: &[Pointer],
     by: Shape<'_>,
-) -> Result<Given<'p>, LowerFault>
+) -> Result<Given<'p>, AllocError>
     ensures given { IfOk result (λ given. given.alone.now ≡ given_by (map pointer_tree pointers.now) (shape_tree by.entry)) }
-    ensures taken { NeverRefused result }
 {
     let mut alone = Vec::new(alloc);
     let mut left = by;
@@ -94,9 +91,8 @@ pub fn settled_by<'p>(
     arena: &'p Bump,
     of: &'p TypeName,
     by: Shape<'_>,
-) -> Result<Shape<'p>, LowerFault>
+) -> Result<Shape<'p>, AllocError>
     ensures shape { IfOk result (λ shape. shape_tree shape ≡ settled_by (written (type_tree of.entry.now)) (shape_tree by.entry)) }
-    ensures taken { NeverRefused result }
 {
     let given = given_by(alloc, arena, &of.pointers, by)?;
     Ok(type_shape(&of.pointers, &of.base, given))

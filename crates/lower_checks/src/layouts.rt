@@ -1,15 +1,14 @@
 // The structs and the tagged unions of a program by their tags: members, and where cells lie.
 
-ghost use Rattle.std.specs.Prelude.{◌≡◌, ◌≤◌, ◌+◌, ◌++◌, ◌∷◌, [], List, ℕ, IfOk, OnOk, None, Some, true, is_some, map, max, option_copied, option_map};
+ghost use Rattle.std.specs.Prelude.{◌≡◌, ◌≤◌, ◌+◌, ◌++◌, ◌∷◌, List, ℕ, IfOk, OnOk, None, Some, true, is_some, map, max, option_copied, option_map};
 ghost use Rattle.cyc_core.specs.Trees.{bytes_of};
 ghost use Rattle.cyc_tree.specs.View.{member_tree, structure_tree};
 ghost use Rattle.source_meaning.specs.Shapes.{Layout as Rules, part_of};
 ghost use Rattle.source_meaning.specs.Programs.{layout_of};
 ghost use Rattle.source_meaning.specs.Sizes.{laid_out, rounded_up};
 ghost use Rattle.source_lowering.specs.Layouts.{bytes_through};
-ghost use Rattle.source_lowering.specs.Lowerable.{IsStruct};
 ghost use Rattle.lower_checks.specs.Cells.{cell_for};
-ghost use Rattle.lower_checks.specs.Unions.{KnowsUnions, union_in, union_tree};
+ghost use Rattle.lower_checks.specs.Unions.{union_in, union_tree};
 ghost use Rattle.lower_checks.specs.Structs.{
   AreLaid,
   AreNear,
@@ -31,9 +30,7 @@ ghost use Rattle.lower_checks.specs.Structs.{
   table_cell,
 };
 ghost use Rattle.lower_checks.specs.Views.{shape_tree};
-ghost use Rattle.lower_checks.specs.Refusals.{NeverRefused};
 
-use crate::fault::LowerFault;
 use crate::first::Firsts;
 use crate::shape::Shape;
 use crate::unions::Union;
@@ -41,7 +38,7 @@ use crate::vectors::append;
 use cyc_core::{Cell, CellLayout, Layout, Width};
 use cyc_tree::{Member, Structure};
 use indexmap::IndexMap;
-use std::alloc::Global;
+use std::alloc::{AllocError, Global};
 use std::rc::Rc;
 
 /// Bytes, and how they are aligned.
@@ -82,18 +79,18 @@ struct Laying {
     room: Room,
 }
 
-/// What a cell of a shape is made for. Refuses what is no integer, no pointer, no handle and no key.
-pub fn cell_of(shape: Shape<'_>) -> Result<Cell, LowerFault>
-    ensures cell { IfOk result (λ cell. cell_for (shape_tree shape.entry) ≡ Some cell) }
-    ensures taken { is_some (cell_for (shape_tree shape.entry)) ≡ true → NeverRefused result }
+/// What a cell of a shape is made for, which is an integer, a pointer, a handle or a key.
+pub fn cell_of(shape: Shape<'_>) -> Cell
+    requires taken { is_some (cell_for (shape_tree shape)) ≡ true }
+    ensures cell { cell_for (shape_tree shape.entry) ≡ Some result }
 {
     match shape {
-        Shape::Char => Ok(Cell::Byte),
-        Shape::Int | Shape::Unsigned => Ok(Cell::Word),
-        Shape::Thin(_, _, _) | Shape::Address(_, _, _) => Ok(Cell::Pointer),
-        Shape::Fat(_) => Ok(Cell::Fat),
-        Shape::Handle | Shape::Key => Ok(Cell::Handle),
-        _ => Err(LowerFault::NotTaken),
+        Shape::Char => Cell::Byte,
+        Shape::Int | Shape::Unsigned => Cell::Word,
+        Shape::Thin(_, _, _) | Shape::Address(_, _, _) => Cell::Pointer,
+        Shape::Fat(_) => Cell::Fat,
+        Shape::Handle | Shape::Key => Cell::Handle,
+        _ => unreachable!(),
     }
 }
 
@@ -120,11 +117,10 @@ fn wider(a: Width, b: Width) -> Width
 }
 
 /// Appends cells, each so many bytes further on. Fails only where no host memory is left.
-fn push_moved(cells: &mut Vec<CellLayout>, by: u32, more: &[CellLayout]) -> Result<(), LowerFault>
+fn push_moved(cells: &mut Vec<CellLayout>, by: u32, more: &[CellLayout]) -> Result<(), AllocError>
     requires by { by ≤ 4096 }
     requires near { AreNear more.now }
     ensures added { OnOk result (map laid_cell cells.new.items ≡ map laid_cell cells.old.items ++ map (moved_cell by) (map laid_cell more.now)) }
-    ensures taken { NeverRefused result }
 {
     'each: for cell in more {
         let moved = CellLayout {
@@ -161,9 +157,8 @@ fn next_of(cells: &[CellLayout], bytes: u32) -> u32
 }
 
 /// The cells, each with the bytes up to the next one, or to the object's end.
-fn fill_all(alloc: Global, cells: &[CellLayout], bytes: u32) -> Result<Vec<CellLayout>, LowerFault>
+fn fill_all(alloc: Global, cells: &[CellLayout], bytes: u32) -> Result<Vec<CellLayout>, AllocError>
     ensures cells { IfOk result (λ all. all.items ≡ all_filled bytes cells.now) }
-    ensures taken { NeverRefused result }
 {
     let mut all = Vec::new(alloc);
     let mut rest = cells;
@@ -179,13 +174,12 @@ fn known_of<'p>(
     alloc: Global,
     members: &'p [Member],
     laying: Laying,
-) -> Result<Known<'p>, LowerFault>
+) -> Result<Known<'p>, AllocError>
     requires small { laying.room.size ≤ 4096 }
     ensures members { IfOk result (λ known. known.members ≡ members.entry) }
     ensures size { IfOk result (λ known. known.layout.value.bytes ≡ rounded_up laying.room.size (bytes_of laying.room.align)) }
     ensures align { IfOk result (λ known. known.align ≡ laying.room.align) }
     ensures cells { IfOk result (λ known. known.layout.value.cells.items ≡ all_filled known.layout.value.bytes laying.cells.items) }
-    ensures taken { NeverRefused result }
 {
     let align = laying.room.align;
     let bytes = rounded(laying.room.size, align);
@@ -196,7 +190,7 @@ fn known_of<'p>(
             align,
             layout,
         }),
-        Err(_) => Err(LowerFault::Memory),
+        Err(_) => Err(AllocError),
     }
 }
 
@@ -219,17 +213,17 @@ impl<'p> Structs<'p> {
         self.unions.of(tag)
     }
 
-    /// What a cell of a shape is made for. Refuses what is no integer, no pointer, no handle, no key and no union that is known.
-    fn cell(&self, shape: Shape<'_>) -> Result<Cell, LowerFault>
-        ensures cell { IfOk result (λ cell. table_cell self.now (shape_tree shape.entry) ≡ Some cell) }
-        ensures taken { is_some (table_cell self.now (shape_tree shape.entry)) ≡ true → NeverRefused result }
+    /// What a cell of a shape is made for, which is an integer, a pointer, a handle, a key or a union that is known.
+    fn cell(&self, shape: Shape<'_>) -> Cell
+        requires taken { is_some (table_cell self.now (shape_tree shape)) ≡ true }
+        ensures cell { table_cell self.now (shape_tree shape.entry) ≡ Some result }
     {
         let Shape::Union(tag) = shape else {
             return cell_of(shape);
         };
         match self.union_of(tag) {
-            Some(known) => Ok(known.cell),
-            None => Err(LowerFault::NotTaken),
+            Some(known) => known.cell,
+            None => unreachable!(),
         }
     }
 
@@ -240,48 +234,47 @@ impl<'p> Structs<'p> {
         self.by_tag.get(tag)
     }
 
-    /// The bytes of a shape. Refuses what is no integer, no pointer, no handle, no key and no union or struct that is known.
-    fn room(&self, shape: Shape<'_>) -> Result<Room, LowerFault>
-        ensures room { IfOk result (λ room. room_tree room ≡ room_in self.now (shape_tree shape.entry)) }
-        ensures laid { OnOk result (IsLaid self.now (shape_tree shape.entry)) }
-        ensures taken { IsLaid self.now (shape_tree shape.entry) → NeverRefused result }
+    /// The bytes of a shape: an integer, a pointer, a handle, a key, or a union or a struct that is known.
+    fn room(&self, shape: Shape<'_>) -> Room
+        requires taken { IsLaid self.now (shape_tree shape) }
+        ensures room { room_tree result ≡ room_in self.now (shape_tree shape.entry) }
     {
         if let Shape::Struct(tag) = shape {
             return match self.of(tag) {
-                Some(known) => Ok(Room {
+                Some(known) => Room {
                     size: known.layout.bytes,
                     align: known.align,
-                }),
-                None => Err(LowerFault::NotTaken),
+                },
+                None => unreachable!(),
             };
         }
-        let cell = self.cell(shape)?;
-        Ok(Room {
+        let cell = self.cell(shape);
+        Room {
             size: cell.bytes(),
             align: cell.width(),
-        })
+        }
     }
 
-    /// Appends the cells of a shape, so many bytes on. Refuses what is no integer, no pointer, no handle, no key and no union or struct that is known.
+    /// Appends the cells of a shape, so many bytes on: of an integer, a pointer, a handle, a key, or a union or a struct that is known.
     fn push_shape(
         &self,
         cells: &mut Vec<CellLayout>,
         at: u32,
         shape: Shape<'_>,
-    ) -> Result<(), LowerFault>
+    ) -> Result<(), AllocError>
         requires at { at ≤ 4096 }
         requires near { IsNear self.now }
+        requires taken { IsLaid self.now (shape_tree shape) }
         ensures cells { OnOk result
             (map laid_cell cells.new.items ≡ map laid_cell cells.old.items ++ map (moved_cell at) (cells_in self.now (shape_tree shape.entry))) }
-        ensures taken { IsLaid self.now (shape_tree shape.entry) → NeverRefused result }
     {
         if let Shape::Struct(tag) = shape {
             return match self.of(tag) {
                 Some(known) => push_moved(cells, at, &known.layout.cells),
-                None => Err(LowerFault::NotTaken),
+                None => unreachable!(),
             };
         }
-        let cell = self.cell(shape)?;
+        let cell = self.cell(shape);
         append(
             cells,
             CellLayout {
@@ -292,10 +285,11 @@ impl<'p> Structs<'p> {
         )
     }
 
-    /// Lays one more member. Refuses what is no integer, no pointer, no handle, no key and no union or struct that is known.
-    fn lay(&self, laying: &mut Laying, shape: Shape<'_>) -> Result<(), LowerFault>
+    /// Lays one more member: an integer, a pointer, a handle, a key, or a union or a struct that is known.
+    fn lay(&self, laying: &mut Laying, shape: Shape<'_>) -> Result<(), AllocError>
         requires small { let room = room_in self.now (shape_tree shape) in rounded_up laying.old.room.size room.align + room.size ≤ 4096 }
         requires near { IsNear self.now }
+        requires taken { IsLaid self.now (shape_tree shape) }
         ensures size { let room = room_in self.now (shape_tree shape.entry) in
             OnOk result (laying.new.room.size ≡ rounded_up laying.old.room.size room.align + room.size) }
         ensures align { let room = room_in self.now (shape_tree shape.entry) in
@@ -305,10 +299,8 @@ impl<'p> Structs<'p> {
             (map laid_cell laying.new.cells.items ≡
             map laid_cell laying.old.cells.items ++
             map (moved_cell (rounded_up laying.old.room.size room.align)) (cells_in self.now (shape_tree shape.entry))) }
-        ensures laid { OnOk result (IsLaid self.now (shape_tree shape.entry)) }
-        ensures taken { IsLaid self.now (shape_tree shape.entry) → NeverRefused result }
     {
-        let room = self.room(shape)?;
+        let room = self.room(shape);
         let at = rounded(laying.room.size, room.align);
         self.push_shape(&mut laying.cells, at, shape)?;
         laying.room = Room {
@@ -318,19 +310,18 @@ impl<'p> Structs<'p> {
         Ok(())
     }
 
-    /// Lays members. Refuses what is no integer, no pointer, no handle, no key and no union or struct that is known.
-    fn lay_all(&self, alloc: Global, members: &[Member]) -> Result<Laying, LowerFault>
+    /// Lays members: integers, pointers, handles, keys, and unions and structs that are known.
+    fn lay_all(&self, alloc: Global, members: &[Member]) -> Result<Laying, AllocError>
         requires small { bytes_through (room_in self.now) 0 (map part_of (map member_tree members.now)) ≤ 4096 }
         requires near { IsNear self.now }
+        requires taken { AreLaid self.now (map part_of (map member_tree members.now)) }
         ensures room { let parts = map part_of (map member_tree members.now) in
             IfOk result (λ laying.
             bytes_and (rounded_up laying.room.size (bytes_of laying.room.align)) (bytes_of laying.room.align) ≡
             laid_out (room_in self.now) (bytes_and 0 1) parts) }
         ensures cells { let parts = map part_of (map member_tree members.now) in
             IfOk result (λ laying. map laid_cell laying.cells.items ≡ laid_cells self.now 0 parts) }
-        ensures laid { OnOk result (AreLaid self.now (map part_of (map member_tree members.now))) }
         ensures small { IfOk result (λ laying. laying.room.size ≤ 4096) }
-        ensures taken { AreLaid self.now (map part_of (map member_tree members.now)) → NeverRefused result }
     {
         let mut laying = Laying {
             cells: Vec::new(alloc),
@@ -345,25 +336,19 @@ impl<'p> Structs<'p> {
         Ok(laying)
     }
 
-    /// Adds a struct behind the others. Refuses one whose tag another one has, and one with a member that is no integer, no
-    /// pointer, no handle, no key, no union and no earlier struct.
-    #[tactic(auto, using(crate::proofs::Structs::new_tag, crate::proofs::Structs::members_laid))]
-    pub fn add(&mut self, alloc: Global, structure: &'p Structure) -> Result<(), LowerFault>
+    /// Adds a struct behind the others: its tag is new, and each member is an integer, a pointer, a handle, a key, a union or an earlier struct.
+    /// Fails only where no host memory is left.
+    pub fn add(&mut self, alloc: Global, structure: &'p Structure) -> Result<(), AllocError>
         requires next { IsNext self.old (layout_of (structure_tree structure.now)) }
         ensures added { OnOk result
             ((unions structs : List Rules) → Knows self.old unions structs →
             Knows self.new unions (layout_of (structure_tree structure.entry.now) ∷ structs)) }
-        ensures taken { (unions structs : List Rules) → Knows self.old unions structs →
-            IsStruct unions structs (layout_of (structure_tree structure.entry.now)) → NeverRefused result }
     {
-        if self.of(&structure.tag.text).is_some() {
-            return Err(LowerFault::NotTaken);
-        }
         let laying = self.lay_all(alloc, &structure.members)?;
         let known = known_of(alloc, &structure.members, laying)?;
         match self.by_tag.insert(&structure.tag.text, known) {
             Ok(_) => Ok(()),
-            Err(_) => Err(LowerFault::Memory),
+            Err(_) => Err(AllocError),
         }
     }
 }

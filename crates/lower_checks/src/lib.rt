@@ -16,7 +16,6 @@ mod declaration;
 mod exchange;
 mod expression;
 mod fat;
-mod fault;
 mod first;
 mod freeing;
 mod function;

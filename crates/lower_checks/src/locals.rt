@@ -5,15 +5,13 @@ ghost use Rattle.cyc_tree.specs.View.{name_tree};
 ghost use Rattle.source_lowering.specs.Lowered.{local_named};
 ghost use Rattle.lower_checks.specs.Views.{named_tree};
 ghost use Rattle.lower_checks.specs.Visible.{declared, left, names_of};
-ghost use Rattle.lower_checks.specs.Refusals.{NeverRefused};
 
-use crate::fault::LowerFault;
 use crate::last::Lasts;
 use crate::mark::{Local, Mark};
 use crate::names::Named;
 use crate::stored::Stored;
 use cyc_tree::Name;
-use std::alloc::Global;
+use std::alloc::{AllocError, Global};
 use std::marker::Model;
 
 /// The locals that are visible at a point. A contract sees them with the beginnings of the open blocks, the last one first.
@@ -70,9 +68,8 @@ impl<'p> Locals<'p> {
         name: &'p Name,
         stored: Stored<'p>,
         index: usize,
-    ) -> Result<(), LowerFault>
+    ) -> Result<(), AllocError>
         ensures declared { OnOk result (self.new ≡ Some (declared (name_tree name.entry.now).text stored.entry index) ∷ self.old) }
-        ensures taken { NeverRefused result }
     {
         let local = Local {
             name: &name.text,
@@ -82,24 +79,23 @@ impl<'p> Locals<'p> {
         };
         let hidden = self.last.of(local.name);
         if let Err(_) = self.marks.push(Mark::Declare(local, hidden)) {
-            return Err(LowerFault::Memory);
+            return Err(AllocError);
         }
         match self.last.add(local.name, local) {
             Ok(()) => Ok(()),
             Err(_) => {
                 self.marks.pop();
-                Err(LowerFault::Memory)
+                Err(AllocError)
             }
         }
     }
 
     /// Begins a block. Fails only where no host memory is left.
-    pub fn enter(&mut self) -> Result<(), LowerFault>
+    pub fn enter(&mut self) -> Result<(), AllocError>
         ensures entered { OnOk result (self.new ≡ None ∷ self.old) }
-        ensures taken { NeverRefused result }
     {
         if let Err(_) = self.marks.push(Mark::Begin) {
-            return Err(LowerFault::Memory);
+            return Err(AllocError);
         }
         self.depth += 1;
         Ok(())

@@ -53,9 +53,12 @@ fn lower_request(
     requires taken { IsSound body.old → IsObject (world_of program.now).unions (world_of program.now).structs (shape_tree shape.now) }
     ensures { Emits body.old body.new (request_code (world_of program.now) (is_alone (owner_tree owner)) (shape_tree shape.now) to.0 count.0) }
 {
+    if body.failed {
+        return;
+    }
     let layout = match object_layout(body.alloc, program, *shape) {
         Ok(layout) => layout,
-        Err(fault) => return body.note(fault),
+        Err(_) => return body.fail(),
     };
     match owner {
         Owner::Alone => body.emit(Statement::UniqueAlloc(to, layout)),

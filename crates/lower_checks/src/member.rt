@@ -1,6 +1,6 @@
 // Members and elements: where they lie, and how they are reached.
 
-ghost use Rattle.std.specs.Prelude.{◌≡◌, ◌≤◌, ◌-◌, ◌∷◌, [], IfOk, Ok, OnOk, map};
+ghost use Rattle.std.specs.Prelude.{◌≡◌, ◌≤◌, ◌-◌, ◌∷◌, [], map};
 ghost use Rattle.cyc_tree.specs.View.{member_tree, suffix_tree, suffixes_of};
 ghost use Rattle.source_meaning.specs.Shapes.{part_of, part_shape, pointee};
 ghost use Rattle.source_meaning.specs.Sizes.{cells_before};
@@ -11,17 +11,15 @@ ghost use Rattle.source_meaning.specs.Steps.{World};
 ghost use Rattle.source_lowering.specs.Layouts.{bytes_before, extent_of};
 ghost use Rattle.source_lowering.specs.Lowered.{member_shape, offset_code, reach_code};
 ghost use Rattle.source_lowering.specs.Lowerable.{IsObject, TakesMembers};
-ghost use Rattle.lower_checks.specs.Refusals.{NeverRefused};
 ghost use Rattle.lower_checks.specs.Reaching.{further_code, further_place, indices_in, member_place, place_at_once, reached_place};
 ghost use Rattle.lower_checks.specs.Room.{HasRoom};
 ghost use Rattle.lower_checks.specs.Scoped.{names_in, world_in};
 ghost use Rattle.lower_checks.specs.Views.{shape_tree};
 ghost use Rattle.lower_checks.specs.Within.{AreSmall, AreWithin, IsWithin};
-ghost use Rattle.lower_checks.specs.Writing.{Emits, IsSound, Stays};
+ghost use Rattle.lower_checks.specs.Writing.{Emits, IsSound};
 
 use crate::body::Body;
 use crate::fat::lower_reach;
-use crate::fault::LowerFault;
 use crate::layouts::rounded;
 use crate::scope::Scope;
 use crate::shape::Shape;
@@ -85,81 +83,56 @@ fn among<'p>(program: &Table<'p>, members: &'p [Member], name: &[u8]) -> Reached
     }
 }
 
-/// Where a member of a struct of a shape lies from the struct's beginning on. Refuses what is no struct.
+/// Where a member of a struct of a shape lies from the struct's beginning on.
 #[tactic(auto, using(crate::proofs::Reaching::no_members))]
-fn member<'p>(
-    program: &Table<'p>,
-    shape: &Shape<'_>,
-    name: &[u8],
-) -> Result<Reached<'p>, LowerFault>
-    ensures shape { IfOk result (λ reached. shape_tree reached.shape ≡ member_shape (world_of program.now) (shape_tree shape.now) name.now) }
-    ensures cells { let w = world_of program.now in
-        IfOk result (λ reached. reached.cells ≡ cells_before (cells_of w) (struct_parts w (shape_tree shape.now)) name.now) }
-    ensures bytes { let w = world_of program.now in
-        IfOk result (λ reached. reached.bytes ≡ bytes_before (extent_of w) 0 (struct_parts w (shape_tree shape.now)) name.now) }
-    ensures small { OnOk result (AreSmall (world_of program.now)) }
-    ensures taken { let w = world_of program.now in IsObject w.unions w.structs (member_shape w (shape_tree shape.now) name.now) → NeverRefused result }
+fn member<'p>(program: &Table<'p>, shape: &Shape<'_>, name: &[u8]) -> Reached<'p>
+    requires taken { let w = world_of program.now in IsObject w.unions w.structs (member_shape w (shape_tree shape.now) name.now) }
+    ensures shape { shape_tree result.shape ≡ member_shape (world_of program.now) (shape_tree shape.now) name.now }
+    ensures cells { let w = world_of program.now in result.cells ≡ cells_before (cells_of w) (struct_parts w (shape_tree shape.now)) name.now }
+    ensures bytes { let w = world_of program.now in result.bytes ≡ bytes_before (extent_of w) 0 (struct_parts w (shape_tree shape.now)) name.now }
+    ensures small { AreSmall (world_of program.now) }
 {
     match shape {
         Shape::Struct(tag) => match program.struct_of(tag) {
-            Some(known) => Ok(among(program, known.members, name)),
-            None => Err(LowerFault::NotTaken),
+            Some(known) => among(program, known.members, name),
+            None => unreachable!(),
         },
-        _ => Err(LowerFault::NotTaken),
+        _ => unreachable!(),
     }
 }
 
-/// A member of the struct that is reached. Refuses what is no struct.
+/// A member of the struct that is reached.
 #[tactic(auto, using(crate::proofs::Reaching::reached_member))]
-fn dot<'p>(
-    program: &Table<'p>,
-    reached: &Reached<'p>,
-    name: &[u8],
-) -> Result<Reached<'p>, LowerFault>
+fn dot<'p>(program: &Table<'p>, reached: &Reached<'p>, name: &[u8]) -> Reached<'p>
     requires within { IsWithin (world_of program.now) (reached_place reached.now) }
-    ensures place { let w = world_of program.now in
-        IfOk result (λ further. reached_place further ≡ member_place w (reached_place reached.now) name.now) }
-    ensures within { IfOk result (λ further. IsWithin (world_of program.now) (reached_place further)) }
-    ensures taken { let w = world_of program.now in IsObject w.unions w.structs (member_shape w (shape_tree reached.now.shape) name.now) → NeverRefused result }
+    requires taken { let w = world_of program.now in IsObject w.unions w.structs (member_shape w (shape_tree reached.now.shape) name.now) }
+    ensures place { reached_place result ≡ member_place (world_of program.now) (reached_place reached.now) name.now }
+    ensures within { IsWithin (world_of program.now) (reached_place result) }
 {
-    let further = member(program, &reached.shape, name)?;
-    Ok(Reached {
+    let further = member(program, &reached.shape, name);
+    Reached {
         shape: further.shape,
         cells: reached.cells + further.cells,
         bytes: reached.bytes + further.bytes,
-    })
-}
-
-/// The member that is found, or any place where that failed.
-fn known_member<'p>(body: &mut Body<'_>, found: Result<Reached<'p>, LowerFault>) -> Reached<'p>
-    requires { IsSound body.old → NeverRefused found }
-    ensures stays { Stays body.old body.new }
-    ensures known { IsSound body.new → found.entry ≡ Ok result }
-    ensures within { (w : World) → IfOk found.entry (λ reached. IsWithin w (reached_place reached)) → IsWithin w (reached_place result) }
-{
-    match found {
-        Ok(reached) => reached,
-        Err(fault) => {
-            body.note(fault);
-            Reached::at_once(Shape::Void)
-        }
     }
 }
 
-/// Goes on to a member of the struct that is reached.
+/// Goes on to a member of the struct that is reached; to any place where the body has failed.
 pub fn lower_dot<'p>(
     program: &Table<'p>,
     reached: &Reached<'p>,
     name: &[u8],
-    body: &mut Body<'_>,
+    body: &Body<'_>,
 ) -> Reached<'p>
     requires within { IsWithin (world_of program.now) (reached_place reached.now) }
-    requires taken { let w = world_of program.now in IsSound body.old → IsObject w.unions w.structs (member_shape w (shape_tree reached.now.shape) name.now) }
-    ensures stays { Stays body.old body.new }
-    ensures place { IsSound body.new → reached_place result ≡ member_place (world_of program.now) (reached_place reached.now) name.now }
+    requires taken { let w = world_of program.now in IsSound body.now → IsObject w.unions w.structs (member_shape w (shape_tree reached.now.shape) name.now) }
+    ensures place { IsSound body.now → reached_place result ≡ member_place (world_of program.now) (reached_place reached.now) name.now }
     ensures within { IsWithin (world_of program.now) (reached_place result) }
 {
-    known_member(body, dot(program, reached, name))
+    if body.failed {
+        return Reached::at_once(Shape::Void);
+    }
+    dot(program, reached, name)
 }
 
 /// Goes on to a member of the struct that a value of a shape, in a temporary, leads to: appends what leaves a pointer to the struct there,

@@ -1,12 +1,10 @@
 // The numbers of the elements that are being made, by their names.
 
 ghost use Rattle.std.specs.Prelude.{◌≡◌, ◌∷◌, IfOk};
-ghost use Rattle.lower_checks.specs.Refusals.{NeverRefused};
 ghost use Rattle.lower_checks.specs.Numbers.{numbers_in};
 
-use crate::fault::LowerFault;
 use crate::vectors::append;
-use std::alloc::Global;
+use std::alloc::{AllocError, Global};
 
 /// The number of the element that is being made: the one local of its array's block, which has this name.
 #[derive(Clone, Copy)]
@@ -19,14 +17,11 @@ pub fn with_number<'p>(
     alloc: Global,
     numbers: &[Number<'p>],
     name: &'p [u8],
-) -> Result<Vec<Number<'p>>, LowerFault>
+) -> Result<Vec<Number<'p>>, AllocError>
     ensures numbers { IfOk result (λ more. numbers_in more.items ≡ name.entry.now ∷ numbers_in numbers.now) }
-    ensures taken { NeverRefused result }
 {
     let mut more = Vec::new(alloc);
     append(&mut more, Number { name })?;
-    match more.extend_from_slice(numbers) {
-        Ok(()) => Ok(more),
-        Err(_) => Err(LowerFault::Memory),
-    }
+    more.extend_from_slice(numbers)?;
+    Ok(more)
 }

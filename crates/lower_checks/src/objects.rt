@@ -10,54 +10,52 @@ ghost use Rattle.source_lowering.specs.Programs.{locals_of};
 ghost use Rattle.source_lowering.specs.Lowerable.{AreObjects, IsObject, IsWholeShape, IsVariable};
 ghost use Rattle.source_lowering.specs.Objects.{AreVariables};
 ghost use Rattle.lower_checks.specs.Views.{shape_tree, stored_tree};
-ghost use Rattle.lower_checks.specs.Refusals.{NeverRefused};
 ghost use Rattle.lower_checks.specs.Writing.{Emits, IsSound};
 
 use crate::body::Body;
-use crate::fault::LowerFault;
 use crate::shape::Shape;
 use crate::stored::Stored;
 use crate::table::Table;
 use crate::vectors::append;
 use cyc_core::{Cell, CellLayout, Layout, Local, Statement, Temporary};
-use std::alloc::Global;
+use std::alloc::{AllocError, Global};
 use std::rc::Rc;
 
-/// The layout of the struct of a tag. Refuses a tag that no struct has.
-fn struct_layout(program: &Table<'_>, tag: &[u8]) -> Result<Rc<Layout>, LowerFault>
+/// The layout of the struct of a tag. Fails only where no host memory is left.
+fn struct_layout(program: &Table<'_>, tag: &[u8]) -> Result<Rc<Layout>, AllocError>
+    requires taken { has_tag (world_of program.now).structs tag.now ≡ true }
     ensures layout { IfOk result (λ layout. layout_tree layout.value ≡ layout_of (world_of program.now) (StructShape tag.now)) }
-    ensures taken { has_tag (world_of program.now).structs tag.now ≡ true → NeverRefused result }
 {
     match program.struct_of(tag) {
         Some(known) => Ok(known.layout.clone()?),
-        None => Err(LowerFault::NotTaken),
+        None => unreachable!(),
     }
 }
 
-/// What the cell of the union of a tag is made for. Refuses a tag that no union has.
-fn union_cell(program: &Table<'_>, tag: &[u8]) -> Result<Cell, LowerFault>
-    ensures cell { IfOk result (λ cell. part_layout cell ≡ layout_of (world_of program.now) (UnionShape tag.now)) }
-    ensures taken { has_tag (world_of program.now).unions tag.now ≡ true → NeverRefused result }
+/// What the cell of the union of a tag is made for.
+fn union_cell(program: &Table<'_>, tag: &[u8]) -> Cell
+    requires taken { has_tag (world_of program.now).unions tag.now ≡ true }
+    ensures cell { part_layout result ≡ layout_of (world_of program.now) (UnionShape tag.now) }
 {
     match program.union_of(tag) {
-        Some(known) => Ok(known.cell),
-        None => Err(LowerFault::NotTaken),
+        Some(known) => known.cell,
+        None => unreachable!(),
     }
 }
 
-/// The layout of a struct or a union. Refuses all other shapes, and a tag that none of the kind has.
+/// The layout of a struct or a union of the program. Fails only where no host memory is left.
 fn whole_layout(
     alloc: Global,
     program: &Table<'_>,
     shape: Shape<'_>,
-) -> Result<Rc<Layout>, LowerFault>
+) -> Result<Rc<Layout>, AllocError>
+    requires taken { IsWholeShape (world_of program.now).unions (world_of program.now).structs (shape_tree shape) }
     ensures layout { IfOk result (λ layout. layout_tree layout.value ≡ layout_of (world_of program.now) (shape_tree shape.entry)) }
-    ensures taken { IsWholeShape (world_of program.now).unions (world_of program.now).structs (shape_tree shape.entry) → NeverRefused result }
 {
     match shape {
         Shape::Struct(tag) => struct_layout(program, tag),
-        Shape::Union(tag) => cell_layout(alloc, union_cell(program, tag)?),
-        _ => Err(LowerFault::NotTaken),
+        Shape::Union(tag) => cell_layout(alloc, union_cell(program, tag)),
+        _ => unreachable!(),
     }
 }
 
@@ -72,16 +70,18 @@ pub fn lower_copy(
     requires taken { IsSound body.old → IsWholeShape (world_of program.now).unions (world_of program.now).structs (shape_tree shape.now) }
     ensures { Emits body.old body.new (core.Do (core.Copy to.0 from.0 (layout_of (world_of program.now) (shape_tree shape.now))) ∷ []) }
 {
+    if body.failed {
+        return;
+    }
     match whole_layout(body.alloc, program, *shape) {
         Ok(layout) => body.emit(Statement::Copy(to, from, layout)),
-        Err(fault) => body.note(fault),
+        Err(_) => body.fail(),
     }
 }
 
-/// The layout of an object of one cell.
-pub fn cell_layout(alloc: Global, cell: Cell) -> Result<Rc<Layout>, LowerFault>
+/// The layout of an object of one cell. Fails only where no host memory is left.
+pub fn cell_layout(alloc: Global, cell: Cell) -> Result<Rc<Layout>, AllocError>
     ensures layout { IfOk result (λ layout. layout_tree layout.value ≡ part_layout cell) }
-    ensures taken { NeverRefused result }
 {
     let bytes = cell.bytes();
     let mut cells = Vec::new(alloc);
@@ -93,18 +93,19 @@ pub fn cell_layout(alloc: Global, cell: Cell) -> Result<Rc<Layout>, LowerFault>
     append(&mut cells, first)?;
     match Rc::new(alloc, Layout { cells, bytes }) {
         Ok(layout) => Ok(layout),
-        Err(_) => Err(LowerFault::Memory),
+        Err(_) => Err(AllocError),
     }
 }
 
-/// The layout of an object of a shape. Refuses what is no integer, no pointer, no handle, no key and no union or struct of the program.
+/// The layout of an object of a shape: an integer, a pointer, a handle, a key, or a union or a struct of the program. Fails only where no host
+/// memory is left.
 pub fn object_layout(
     alloc: Global,
     program: &Table<'_>,
     shape: Shape<'_>,
-) -> Result<Rc<Layout>, LowerFault>
+) -> Result<Rc<Layout>, AllocError>
+    requires taken { IsObject (world_of program.now).unions (world_of program.now).structs (shape_tree shape) }
     ensures layout { IfOk result (λ layout. layout_tree layout.value ≡ layout_of (world_of program.now) (shape_tree shape.entry)) }
-    ensures taken { IsObject (world_of program.now).unions (world_of program.now).structs (shape_tree shape.entry) → NeverRefused result }
 {
     match shape {
         Shape::Char => cell_layout(alloc, Cell::Byte),
@@ -113,15 +114,16 @@ pub fn object_layout(
         Shape::Fat(_) => cell_layout(alloc, Cell::Fat),
         Shape::Handle | Shape::Key => cell_layout(alloc, Cell::Handle),
         Shape::Struct(tag) => struct_layout(program, tag),
-        Shape::Union(tag) => cell_layout(alloc, union_cell(program, tag)?),
-        _ => Err(LowerFault::NotTaken),
+        Shape::Union(tag) => cell_layout(alloc, union_cell(program, tag)),
+        _ => unreachable!(),
     }
 }
 
-/// An object of a shape as a local. Refuses what is no integer, no pointer, no handle, no key and no union or struct of the program.
-fn value_of(program: &Table<'_>, shape: Shape<'_>) -> Result<Local, LowerFault>
+/// An object of a shape as a local: an integer, a pointer, a handle, a key, or a union or a struct of the program. Fails only where no host
+/// memory is left.
+fn value_of(program: &Table<'_>, shape: Shape<'_>) -> Result<Local, AllocError>
+    requires taken { IsObject (world_of program.now).unions (world_of program.now).structs (shape_tree shape) }
     ensures local { IfOk result (λ local. local_tree local ≡ local_of (world_of program.now) (shape_tree shape.entry)) }
-    ensures taken { IsObject (world_of program.now).unions (world_of program.now).structs (shape_tree shape.entry) → NeverRefused result }
 {
     match shape {
         Shape::Char => Ok(Local::Scalar(Cell::Byte)),
@@ -130,21 +132,21 @@ fn value_of(program: &Table<'_>, shape: Shape<'_>) -> Result<Local, LowerFault>
         Shape::Fat(_) => Ok(Local::Scalar(Cell::Fat)),
         Shape::Handle | Shape::Key => Ok(Local::Scalar(Cell::Handle)),
         Shape::Struct(tag) => Ok(Local::Whole(struct_layout(program, tag)?, 1)),
-        Shape::Union(tag) => Ok(Local::Scalar(union_cell(program, tag)?)),
-        _ => Err(LowerFault::NotTaken),
+        Shape::Union(tag) => Ok(Local::Scalar(union_cell(program, tag))),
+        _ => unreachable!(),
     }
 }
 
-/// The layout of what a name stands for, and of how many elements it is. Refuses what is no integer, no pointer, no handle, no key, no union or
-/// struct of the program and no array of these.
+/// The layout of what a name stands for, an object or an array of objects, and of how many elements it is. Fails only where no host memory is
+/// left.
 pub fn stored_layout(
     alloc: Global,
     program: &Table<'_>,
     stored: Stored<'_>,
-) -> Result<(Rc<Layout>, u32), LowerFault>
+) -> Result<(Rc<Layout>, u32), AllocError>
+    requires taken { IsVariable (world_of program.now).unions (world_of program.now).structs (stored_tree stored) }
     ensures layout { IfOk result (λ found. layout_tree found.0.value ≡ (local_of (world_of program.now) (stored_tree stored.entry)).layout) }
     ensures count { IfOk result (λ found. found.1 ≡ (local_of (world_of program.now) (stored_tree stored.entry)).count) }
-    ensures taken { IsVariable (world_of program.now).unions (world_of program.now).structs (stored_tree stored.entry) → NeverRefused result }
 {
     match stored {
         Stored::One(shape) => Ok((object_layout(alloc, program, shape)?, 1)),
@@ -152,10 +154,10 @@ pub fn stored_layout(
     }
 }
 
-/// A local. Refuses what is no integer, no pointer, no handle, no key, no union or struct of the program and no array of these.
-fn local_of(alloc: Global, program: &Table<'_>, stored: Stored<'_>) -> Result<Local, LowerFault>
+/// A local, which is an object or an array of objects. Fails only where no host memory is left.
+fn local_of(alloc: Global, program: &Table<'_>, stored: Stored<'_>) -> Result<Local, AllocError>
+    requires taken { IsVariable (world_of program.now).unions (world_of program.now).structs (stored_tree stored) }
     ensures local { IfOk result (λ local. local_tree local ≡ local_of (world_of program.now) (stored_tree stored.entry)) }
-    ensures taken { IsVariable (world_of program.now).unions (world_of program.now).structs (stored_tree stored.entry) → NeverRefused result }
 {
     match stored {
         Stored::One(shape) => value_of(program, shape),
@@ -166,14 +168,14 @@ fn local_of(alloc: Global, program: &Table<'_>, stored: Stored<'_>) -> Result<Lo
     }
 }
 
-/// Unnamed values of these shapes. Refuses what is no integer, no pointer, no handle, no key and no union or struct of the program.
+/// Unnamed values of these shapes, which are those of objects. Fails only where no host memory is left.
 pub fn values_of(
     alloc: Global,
     program: &Table<'_>,
     shapes: &[Shape<'_>],
-) -> Result<Vec<Local>, LowerFault>
+) -> Result<Vec<Local>, AllocError>
+    requires taken { AreObjects (world_of program.now).unions (world_of program.now).structs (map shape_tree shapes.now) }
     ensures locals { IfOk result (λ locals. map local_tree locals.items ≡ locals_of (world_of program.now) (map shape_tree shapes.now)) }
-    ensures taken { AreObjects (world_of program.now).unions (world_of program.now).structs (map shape_tree shapes.now) → NeverRefused result }
 {
     let mut locals = Vec::new(alloc);
     'each: for shape in shapes {
@@ -183,14 +185,14 @@ pub fn values_of(
     Ok(locals)
 }
 
-/// Locals. Refuses what is no integer, no pointer, no handle, no key, no union or struct of the program and no array of these.
+/// Locals, each an object or an array of objects. Fails only where no host memory is left.
 pub fn locals_of(
     alloc: Global,
     program: &Table<'_>,
     all: &[Stored<'_>],
-) -> Result<Vec<Local>, LowerFault>
+) -> Result<Vec<Local>, AllocError>
+    requires taken { AreVariables (world_of program.now).unions (world_of program.now).structs (map stored_tree all.now) }
     ensures locals { IfOk result (λ locals. map local_tree locals.items ≡ locals_of (world_of program.now) (map stored_tree all.now)) }
-    ensures taken { AreVariables (world_of program.now).unions (world_of program.now).structs (map stored_tree all.now) → NeverRefused result }
 {
     let mut locals = Vec::new(alloc);
     'each: for stored in all {

@@ -198,8 +198,8 @@ pub fn lower_called<'p>(
             lower_call(scope.program, body, name, words, to, at);
             call_shape(scope.program, name)
         }
-        Err(fault) => {
-            body.note(fault);
+        Err(_) => {
+            body.fail();
             Shape::Void
         }
     }

@@ -10,11 +10,9 @@ ghost use Rattle.source_lowering.specs.Programs.{function_code, global_datum, da
 ghost use Rattle.source_lowering.specs.Lowerable.{HaveFewMembers, IsLowerable, IsObjectType, TakesGlobal, TakesProgram};
 ghost use Rattle.lower_checks.specs.Mains.{HasMain};
 ghost use Rattle.lower_checks.specs.Promise.{IsLoweringOf};
-ghost use Rattle.lower_checks.specs.Refusals.{NeverRefused};
 ghost use Rattle.lower_checks.specs.Roomy.{AreRoomy};
 
 use crate::datum::first_datum;
-use crate::fault::LowerFault;
 use crate::function::lower_function;
 use crate::objects::object_layout;
 use crate::stored::Stored;
@@ -27,12 +25,12 @@ use cyc_core::{Datum, Function, Program};
 use cyc_tree::{Global as Declared, Item, Program as Source};
 use std::alloc::{AllocError, Global};
 
-/// A global, with what it begins with. Refuses what is no integer, no pointer, no union or struct of the program and no array of these.
-fn lower_global(alloc: Global, program: &Table<'_>, global: &Declared) -> Result<Datum, LowerFault>
+/// A global, with what it begins with. Fails only where no host memory is left.
+fn lower_global(alloc: Global, program: &Table<'_>, global: &Declared) -> Result<Datum, AllocError>
+    requires object { IsObjectType (world_of program.now).unions (world_of program.now).structs (global_tree global.now).of }
+    requires taken { let g = global_tree global.now in TakesGlobal (settled (written g.of)) g.initial }
     ensures datum { let g = global_tree global.now in
         IfOk result (λ datum. datum_tree datum ≡ global_datum (world_of program.now) g.initial (global_shape g.initial (settled (written g.of)))) }
-    ensures taken { let g = global_tree global.now in
-        IsObjectType (world_of program.now).unions (world_of program.now).structs g.of → TakesGlobal (settled (written g.of)) g.initial → NeverRefused result }
 {
     match global_stored(global) {
         Stored::One(shape) => first_datum(alloc, program, shape, &global.initial),
@@ -43,10 +41,10 @@ fn lower_global(alloc: Global, program: &Table<'_>, global: &Declared) -> Result
     }
 }
 
-/// The globals, in their order. Refuses a global that is no integer, no pointer, no union or struct of the program and no array of these.
-fn lower_globals(alloc: Global, program: &Table<'_>) -> Result<Vec<Datum>, LowerFault>
+/// The globals, in their order. Fails only where no host memory is left.
+fn lower_globals(alloc: Global, program: &Table<'_>) -> Result<Vec<Datum>, AllocError>
+    requires taken { TakesProgram (world_of program.now) program.now }
     ensures globals { IfOk result (λ globals. map datum_tree globals.items ≡ data_of (world_of program.now) program.now) }
-    ensures taken { TakesProgram (world_of program.now) program.now → NeverRefused result }
 {
     let items = program.items();
     let mut globals = Vec::new(alloc);
@@ -59,12 +57,11 @@ fn lower_globals(alloc: Global, program: &Table<'_>) -> Result<Vec<Datum>, Lower
 }
 
 /// The functions, in their order.
-fn lower_functions(alloc: Global, program: &Table<'_>) -> Result<Vec<Function>, LowerFault>
+fn lower_functions(alloc: Global, program: &Table<'_>) -> Result<Vec<Function>, AllocError>
     requires room { AreRoomy program.now }
     requires taken { TakesProgram (world_of program.now) program.now }
     ensures functions { let w = world_of program.now in
         IfOk result (λ functions. map function_tree functions.items ≡ map (function_code w) (functions_of program.now)) }
-    ensures memory { NeverRefused result }
 {
     let items = program.items();
     let mut functions = Vec::new(alloc);
@@ -76,11 +73,11 @@ fn lower_functions(alloc: Global, program: &Table<'_>) -> Result<Vec<Function>, 
     Ok(functions)
 }
 
-/// The globals, and behind them the strings. Refuses what `lower_globals` does.
-fn lower_data(alloc: Global, program: &Table<'_>) -> Result<Vec<Datum>, LowerFault>
+/// The globals, and behind them the strings. Fails only where no host memory is left.
+fn lower_data(alloc: Global, program: &Table<'_>) -> Result<Vec<Datum>, AllocError>
+    requires taken { TakesProgram (world_of program.now) program.now }
     ensures objects { let w = world_of program.now in
         IfOk result (λ objects. map datum_tree objects.items ≡ data_of w program.now ++ map (string_datum w) (program_strings program.now)) }
-    ensures taken { TakesProgram (world_of program.now) program.now → NeverRefused result }
 {
     let mut objects = lower_globals(alloc, program)?;
     lower_strings(alloc, program, &mut objects)?;
@@ -89,12 +86,11 @@ fn lower_data(alloc: Global, program: &Table<'_>) -> Result<Vec<Datum>, LowerFau
 
 /// The Core of a program whose names are in tables.
 #[tactic(auto, using(crate::proofs::Mains::main_there))]
-fn lower_known(alloc: Global, program: &Table<'_>) -> Result<Program, LowerFault>
+fn lower_known(alloc: Global, program: &Table<'_>) -> Result<Program, AllocError>
     requires room { AreRoomy program.now }
     requires taken { TakesProgram (world_of program.now) program.now }
     requires main { HasMain program.now }
     ensures code { IfOk result (λ core. program_tree core ≡ program_code program.now) }
-    ensures memory { NeverRefused result }
 {
     let main = function_number(program.items(), b"main".as_slice());
     let globals = lower_data(alloc, program)?;
@@ -107,12 +103,11 @@ fn lower_known(alloc: Global, program: &Table<'_>) -> Result<Program, LowerFault
 }
 
 /// The Core of a program's tree.
-fn lower_tree(alloc: Global, program: &Source) -> Result<Program, LowerFault>
+fn lower_tree(alloc: Global, program: &Source) -> Result<Program, AllocError>
     requires room { AreRoomy program.now }
     requires taken { IsLowerable program.now }
     requires main { HasMain program.now }
     ensures code { IfOk result (λ core. program_tree core ≡ program_code program.now) }
-    ensures memory { NeverRefused result }
 {
     let arena = Bump::new(alloc);
     let table = Table::new(alloc, &arena, program.items())?;
@@ -131,10 +126,5 @@ pub fn lower(alloc: Global, checked: &Checked) -> Result<Program, AllocError>
     let program = checked.program();
     // a word counts its temporaries, and the members of each of its unions
     program.items();
-    match lower_tree(alloc, program) {
-        Ok(core) => Ok(core),
-        Err(LowerFault::Memory) => Err(AllocError),
-        // each form of a checked program is taken
-        Err(LowerFault::NotTaken) => unreachable!(),
-    }
+    lower_tree(alloc, program)
 }

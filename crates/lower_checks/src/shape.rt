@@ -13,16 +13,14 @@ ghost use Rattle.lower_checks.specs.Given.{owner_given};
 ghost use Rattle.lower_checks.specs.Signs.{around, signs_of};
 ghost use Rattle.lower_checks.specs.Room.{HasRoom};
 ghost use Rattle.lower_checks.specs.Views.{owner_tree, plain_tree, pointee_shape, reach_tree, shape_tree, written_shape, written_tree};
-ghost use Rattle.lower_checks.specs.Refusals.{NeverRefused};
 
-use crate::fault::LowerFault;
 use crate::given::Given;
 use crate::names::behind;
 use crate::signs::{Pointing, Signs};
 use bumpalo::Bump;
 use cyc_core::{Temporary, Width, Words};
 use cyc_tree::{Base, Pointer, RegionName, Sign, TypeName};
-use std::alloc::Global;
+use std::alloc::{AllocError, Global};
 
 /// To how many elements a thin pointer leads, from where it points on, and whether it may be NULL.
 #[derive(Clone, Copy)]
@@ -275,9 +273,8 @@ impl<'p> Shape<'p> {
     }
 
     /// It as pointers around each other.
-    fn pointers(self, alloc: Global, arena: &'p Bump) -> Result<Pointers<'p>, LowerFault>
+    fn pointers(self, alloc: Global, arena: &'p Bump) -> Result<Pointers<'p>, AllocError>
         ensures pointers { IfOk result (λ found. shape_tree self.entry ≡ around (signs_of found.signs) (plain_tree found.to)) }
-        ensures taken { NeverRefused result }
     {
         let to = match self {
             Shape::Address(owner, signs, to) => {
@@ -315,18 +312,16 @@ impl<'p> Shape<'p> {
         alloc: Global,
         arena: &'p Bump,
         owner: Owner,
-    ) -> Result<Shape<'p>, LowerFault>
+    ) -> Result<Shape<'p>, AllocError>
         ensures address { IfOk result (λ shape. shape_tree shape ≡ ThinShape (NeverNull 1) (owner_tree owner) (shape_tree self.entry)) }
-        ensures taken { NeverRefused result }
     {
         let pointers = self.pointers(alloc, arena)?;
         Ok(Shape::Address(owner, pointers.signs, pointers.to))
     }
 
     /// The shape of a fat pointer to objects of the shape, as `new` and `rnew` give it.
-    pub fn elements(self, alloc: Global, arena: &'p Bump) -> Result<Shape<'p>, LowerFault>
+    pub fn elements(self, alloc: Global, arena: &'p Bump) -> Result<Shape<'p>, AllocError>
         ensures elements { IfOk result (λ shape. shape_tree shape ≡ FatShape (shape_tree self.entry)) }
-        ensures taken { NeverRefused result }
     {
         let pointers = self.pointers(alloc, arena)?;
         Ok(Shape::Fat(Pointee::Made(pointers.signs, pointers.to)))

@@ -7,18 +7,17 @@ ghost use Rattle.source_meaning.specs.Calls.{number_type};
 ghost use Rattle.source_meaning.specs.Programs.{world_of, integer_shape};
 ghost use Rattle.source_lowering.specs.Lowered.{call_shape, element_names, linked_shape, makes_struct, member_shape, named_shape, new_shape};
 ghost use Rattle.source_lowering.specs.Lowered.{owner_in, prefix_shape, static_shape, suffixed_shape, valued};
-ghost use Rattle.lower_checks.specs.Refusals.{NeverRefused};
 ghost use Rattle.lower_checks.specs.Scoped.{names_in, world_in};
 ghost use Rattle.source_meaning.specs.Expressions.{is_unique_region};
 ghost use Rattle.lower_checks.specs.Views.{owner_tree, shape_tree};
 
-use crate::fault::LowerFault;
 use crate::numbers::with_number;
 use crate::operator::operator_shape;
 use crate::scope::Scope;
 use crate::shape::{Owner, Shape};
 use crate::table::Table;
 use cyc_tree::{Expression, Link, Made, Member, Name, Operator, Prefix, Suffix};
+use std::alloc::AllocError;
 
 /// Whether an expression is the unique region.
 #[cycle(unique)]
@@ -139,9 +138,8 @@ fn prefix_shape<'p>(
     scope: &Scope<'_, 'p>,
     operator: Prefix,
     operand: Shape<'p>,
-) -> Result<Shape<'p>, LowerFault>
+) -> Result<Shape<'p>, AllocError>
     ensures shape { IfOk result (λ shape. shape_tree shape ≡ prefix_shape operator (shape_tree operand.entry)) }
-    ensures taken { NeverRefused result }
 {
     match operator {
         Prefix::Negate => Ok(operator_shape(Operator::Subtract, Shape::Int, operand)),
@@ -158,11 +156,10 @@ fn linked_shape<'p>(
     scope: &Scope<'_, 'p>,
     links: &'p [Link],
     first: Shape<'p>,
-) -> Result<Shape<'p>, LowerFault>
+) -> Result<Shape<'p>, AllocError>
     ensures shape { IfOk result
         (λ shape.
         shape_tree shape ≡ linked_shape (world_in scope.now) (names_in scope.now) (links_of (map link_tree links.entry.now)) (shape_tree first.entry)) }
-    ensures taken { NeverRefused result }
 {
     let mut left = first;
     'each: for link in links {
@@ -178,13 +175,12 @@ fn elements_shape<'p>(
     scope: &Scope<'_, 'p>,
     index: &'p Name,
     element: &'p Expression,
-) -> Result<Shape<'p>, LowerFault>
+) -> Result<Shape<'p>, AllocError>
     ensures shape { IfOk result
         (λ shape.
         shape_tree shape ≡
         FatShape (static_shape (world_in scope.now) (element_names (name_tree index.entry.now).text (names_in scope.now))
         (expression_tree element.entry.now))) }
-    ensures taken { NeverRefused result }
 {
     let numbers = with_number(scope.alloc, scope.numbers, &index.text)?;
     let inside = Scope {
@@ -202,10 +198,9 @@ fn new_shape<'p>(
     scope: &Scope<'_, 'p>,
     owner: Owner,
     made: &'p Made,
-) -> Result<Shape<'p>, LowerFault>
+) -> Result<Shape<'p>, AllocError>
     ensures shape { IfOk result
         (λ shape. shape_tree shape ≡ new_shape (world_in scope.now) (names_in scope.now) (owner_tree owner) (made_tree made.entry.now)) }
-    ensures taken { NeverRefused result }
 {
     match made {
         Made::One(value) => shape_of(scope, value)?.address(
@@ -222,9 +217,8 @@ fn new_shape<'p>(
 pub fn shape_of<'p>(
     scope: &Scope<'_, 'p>,
     expression: &'p Expression,
-) -> Result<Shape<'p>, LowerFault>
+) -> Result<Shape<'p>, AllocError>
     ensures shape { IfOk result (λ shape. shape_tree shape ≡ static_shape (world_in scope.now) (names_in scope.now) (expression_tree expression.entry.now)) }
-    ensures taken { NeverRefused result }
 {
     match expression {
         Expression::Number(_, value, suffix) => Ok(number_shape(*value, *suffix)),

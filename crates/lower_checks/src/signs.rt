@@ -1,13 +1,11 @@
 // Pointers around each other, by their kinds.
 
 ghost use Rattle.std.specs.Prelude.{◌≡◌, ◌+◌, ◌*◌, ◌∷◌, [], None, IfOk, IfSome};
-ghost use Rattle.lower_checks.specs.Refusals.{NeverRefused};
 ghost use Rattle.lower_checks.specs.Signs.{alone_digit, digits_signs, fat_digit, pointing_of, signs_of};
 
-use crate::fault::LowerFault;
 use crate::vectors::append;
 use bumpalo::Bump;
-use std::alloc::Global;
+use std::alloc::{AllocError, Global};
 
 /// A pointer as `&`, `new` and `rnew` give it.
 #[derive(Clone, Copy)]
@@ -173,9 +171,8 @@ impl<'p> Signs<'p> {
         alloc: Global,
         arena: &'p Bump,
         pointing: Pointing,
-    ) -> Result<Signs<'p>, LowerFault>
+    ) -> Result<Signs<'p>, AllocError>
         ensures within { IfOk result (λ signs. signs_of signs ≡ pointing ∷ signs_of self.entry) }
-        ensures taken { NeverRefused result }
     {
         if let Some(digits) = self.digits.within(pointing) {
             return Ok(Signs {

@@ -148,8 +148,8 @@ pub fn enter(locals: &mut Locals<'_>, body: &mut Body<'_>)
     ensures stays { Stays body.old body.new }
     ensures entered { IsSound body.new → locals.new ≡ None ∷ locals.old }
 {
-    if let Err(fault) = locals.enter() {
-        body.note(fault);
+    if let Err(_) = locals.enter() {
+        body.fail();
     }
 }
 
@@ -164,9 +164,12 @@ pub fn lower_inside(
     ensures { Emits body.old body.new
         (core.Block (locals_of (world_of program.now) (map stored_tree all.now)) (all_of (map statement_tree inside.items)) ∷ []) }
 {
+    if body.failed {
+        return;
+    }
     match locals_of(body.alloc, program, all) {
         Ok(locals) => body.block(locals, inside),
-        Err(fault) => body.note(fault),
+        Err(_) => body.fail(),
     }
 }
 
@@ -218,8 +221,8 @@ fn add<'p>(declared_here: &mut Vec<Stored<'p>>, stored: Stored<'p>, body: &mut B
     ensures added { IsSound body.new → map stored_tree declared_here.new.items ≡ map stored_tree declared_here.old.items ++ stored_tree stored.entry ∷ [] }
     ensures grows { IsSound body.new → length declared_here.new.items ≡ suc (length declared_here.old.items) }
 {
-    if let Err(fault) = add_stored(declared_here, stored) {
-        body.note(fault);
+    if let Err(_) = add_stored(declared_here, stored) {
+        body.fail();
     }
 }
 
@@ -234,8 +237,8 @@ fn bind<'p>(
     ensures stays { Stays body.old body.new }
     ensures declared { IsSound body.new → locals.new ≡ Some (declared_as (name_tree name.entry.now).text stored.entry index) ∷ locals.old }
 {
-    if let Err(fault) = locals.declare(name, stored, index) {
-        body.note(fault);
+    if let Err(_) = locals.declare(name, stored, index) {
+        body.fail();
     }
 }
 

@@ -4,14 +4,13 @@ ghost use Rattle.std.specs.Prelude.{◌≡◌, ◌++◌, ◌∷◌, [], suc, len
 ghost use Rattle.cyc_tree.specs.View.{type_tree};
 ghost use Rattle.source_meaning.specs.Shapes.{ArrayShape, settled, written};
 ghost use Rattle.source_lowering.specs.Lowered.{valued};
-ghost use Rattle.lower_checks.specs.Refusals.{NeverRefused};
 ghost use Rattle.lower_checks.specs.Views.{shape_tree, stored_tree};
 
-use crate::fault::LowerFault;
 use crate::given::Given;
 use crate::shape::{Pointee, Shape, Written};
 use crate::vectors::append;
 use cyc_tree::TypeName;
+use std::alloc::AllocError;
 
 /// What a name stands for.
 #[derive(Clone, Copy)]
@@ -52,10 +51,9 @@ impl<'p> Stored<'p> {
 }
 
 /// Appends what a further name stands for.
-pub fn add_stored<'p>(all: &mut Vec<Stored<'p>>, stored: Stored<'p>) -> Result<(), LowerFault>
+pub fn add_stored<'p>(all: &mut Vec<Stored<'p>>, stored: Stored<'p>) -> Result<(), AllocError>
     ensures added { OnOk result (map stored_tree all.new.items ≡ map stored_tree all.old.items ++ stored_tree stored.entry ∷ []) }
     ensures grows { OnOk result (length all.new.items ≡ suc (length all.old.items)) }
-    ensures taken { NeverRefused result }
 {
     append(all, stored)
 }

@@ -19,9 +19,7 @@ ghost use Rattle.lower_checks.specs.Within.{AreSmall};
 ghost use Rattle.cyc_core.specs.Trees.{layout_tree, part_layout};
 ghost use Rattle.source_lowering.specs.Layouts.{layout_of};
 ghost use Rattle.source_lowering.specs.Lowerable.{AreStrings, AreStructs, AreUnions, AreValues};
-ghost use Rattle.lower_checks.specs.Refusals.{NeverRefused};
 
-use crate::fault::LowerFault;
 use crate::first::Firsts;
 use crate::layouts::{Known, Room, Structs};
 use crate::shape::Shape;
@@ -31,7 +29,7 @@ use bumpalo::Bump;
 use cyc_core::Width;
 use cyc_tree::{Function, Global as Declared, Initial, Item};
 use listed_strings::{Literal, Strings};
-use std::alloc::Global;
+use std::alloc::{AllocError, Global};
 use std::marker::Model;
 
 /// A global: what it is, and its number among the globals.
@@ -89,9 +87,8 @@ impl<'p> Model for Table<'p> {
 fn first_functions<'p>(
     alloc: Global,
     items: &'p [Item],
-) -> Result<Firsts<'p, Callee<'p>>, LowerFault>
+) -> Result<Firsts<'p, Callee<'p>>, AllocError>
     ensures first { IfOk result (λ functions. (name : List ℕ) → function_in functions name ≡ first_function (program_tree items.entry.now) 0 name) }
-    ensures taken { NeverRefused result }
 {
     let mut functions = Firsts::new(alloc);
     let mut number = 0;
@@ -132,11 +129,10 @@ fn add_global<'p>(
     globals: &mut Firsts<'p, Found<'p>>,
     global: &'p Declared,
     object: usize,
-) -> Result<(), LowerFault>
+) -> Result<(), AllocError>
     ensures added { OnOk result ((items : List tree.Item) (name : List ℕ) →
         or_else (global_in globals.new name) (bound_to (globals_from items (suc object)) name) ≡
         or_else (global_in globals.old name) (bound_to (globals_from (tree.GlobalItem (global_tree global.entry.now) ∷ items) object) name)) }
-    ensures taken { NeverRefused result }
 {
     let stored = global_stored(global);
     globals.add(&global.name.text, Found { stored, object })?;
@@ -144,9 +140,8 @@ fn add_global<'p>(
 }
 
 /// The first global of each name. Fails only where no host memory is left.
-fn first_globals<'p>(alloc: Global, items: &'p [Item]) -> Result<Firsts<'p, Found<'p>>, LowerFault>
+fn first_globals<'p>(alloc: Global, items: &'p [Item]) -> Result<Firsts<'p, Found<'p>>, AllocError>
     ensures first { IfOk result (λ globals. (name : List ℕ) → global_in globals name ≡ bound_to (globals_from (program_tree items.entry.now) 0) name) }
-    ensures taken { NeverRefused result }
 {
     let mut globals = Firsts::new(alloc);
     let mut object = 0;
@@ -159,13 +154,11 @@ fn first_globals<'p>(alloc: Global, items: &'p [Item]) -> Result<Firsts<'p, Foun
     Ok(globals)
 }
 
-/// The unions, and the structs, each behind those that its members are. Refuses unions with other members than integers, pointers,
-/// handles and keys, two structs of one tag, and structs with other members than these, unions and earlier structs.
-fn all_structs<'p>(alloc: Global, items: &'p [Item]) -> Result<Structs<'p>, LowerFault>
+/// The unions, and the structs, each behind those that its members are. Fails only where no host memory is left.
+fn all_structs<'p>(alloc: Global, items: &'p [Item]) -> Result<Structs<'p>, AllocError>
     requires unions { AreUnions (unions_of (program_tree items.now)) }
     requires structs { let w = world_of (program_tree items.now) in AreStructs w.unions w.structs }
     ensures structs { let p = program_tree items.entry.now in IfOk result (λ structs. Knows structs (unions_of p) (structs_from p [])) }
-    ensures taken { let w = world_of (program_tree items.entry.now) in AreUnions w.unions → AreStructs w.unions w.structs → NeverRefused result }
 {
     let mut structs = Structs::new(alloc, first_unions(alloc, items)?);
     'each: for item in items {
@@ -177,14 +170,12 @@ fn all_structs<'p>(alloc: Global, items: &'p [Item]) -> Result<Structs<'p>, Lowe
 }
 
 impl<'p> Table<'p> {
-    /// The tables of a program. Refuses a union with a member that is no integer, no pointer, no handle and no key, two structs of one tag, and a
-    /// struct with a member that is none of these, no union and no earlier struct.
-    pub fn new(alloc: Global, arena: &'p Bump, items: &'p [Item]) -> Result<Self, LowerFault>
+    /// The tables of a program. Fails only where no host memory is left.
+    pub fn new(alloc: Global, arena: &'p Bump, items: &'p [Item]) -> Result<Self, AllocError>
         requires unions { AreUnions (unions_of (program_tree items.now)) }
         requires structs { let w = world_of (program_tree items.now) in AreStructs w.unions w.structs }
         requires strings { AreStrings (program_strings (program_tree items.now)) }
         ensures program { IfOk result (λ table. table ≡ program_tree items.entry.now) }
-        ensures taken { let w = world_of (program_tree items.entry.now) in AreUnions w.unions → AreStructs w.unions w.structs → NeverRefused result }
     {
         let behind = globals_many(items);
         let functions = first_functions(alloc, items)?;

@@ -7,7 +7,6 @@ ghost use Rattle.source_meaning.specs.Programs.{world_of};
 ghost use Rattle.source_meaning.specs.Strings.{program_strings};
 ghost use Rattle.source_lowering.specs.Lowered.{text_code};
 ghost use Rattle.source_lowering.specs.Programs.{string_datum};
-ghost use Rattle.lower_checks.specs.Refusals.{NeverRefused};
 ghost use Rattle.lower_checks.specs.Room.{HasRoom};
 ghost use Rattle.lower_checks.specs.Scoped.{world_in};
 ghost use Rattle.lower_checks.specs.Writing.{Emits};
@@ -15,12 +14,11 @@ ghost use Rattle.lower_checks.specs.Writing.{Emits};
 use crate::body::Body;
 use crate::datum::literal_datum;
 use crate::fat::lower_bounds;
-use crate::fault::LowerFault;
 use crate::scope::Scope;
 use crate::table::Table;
 use crate::vectors::append;
 use cyc_core::{Datum, Operation, Temporary};
-use std::alloc::Global;
+use std::alloc::{AllocError, Global};
 
 /// Appends what leaves a pointer to the string of a place in a temporary, with its count and 0 behind it.
 pub fn lower_text(scope: &Scope<'_, '_>, body: &mut Body<'_>, at: u32, to: Temporary)
@@ -42,10 +40,9 @@ pub fn lower_strings(
     alloc: Global,
     program: &Table<'_>,
     data: &mut Vec<Datum>,
-) -> Result<(), LowerFault>
+) -> Result<(), AllocError>
     ensures data { OnOk result
         (map datum_tree data.new.items ≡ map datum_tree data.old.items ++ map (string_datum (world_of program.now)) (program_strings program.now)) }
-    ensures taken { NeverRefused result }
 {
     let strings = program.strings();
     'each: for literal in strings {

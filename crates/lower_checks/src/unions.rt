@@ -6,17 +6,15 @@ ghost use Rattle.source_meaning.specs.Shapes.{part_of, part_position, part_shape
 ghost use Rattle.source_meaning.specs.Programs.{unions_of};
 ghost use Rattle.source_lowering.specs.Layouts.{has_fat};
 ghost use Rattle.source_lowering.specs.Lowerable.{AreUnions, AreValues, HasMember};
-ghost use Rattle.lower_checks.specs.Refusals.{NeverRefused};
 ghost use Rattle.lower_checks.specs.Unions.{AreUnionsLaid, HaveCells, cell_by, first_union, union_in};
 ghost use Rattle.lower_checks.specs.Views.{shape_tree};
 
-use crate::fault::LowerFault;
 use crate::first::Firsts;
 use crate::layouts::cell_of;
 use crate::shape::Shape;
 use cyc_core::Cell;
 use cyc_tree::{Item, Member};
-use std::alloc::Global;
+use std::alloc::{AllocError, Global};
 
 /// A tagged union: its members, and what its one cell is made for.
 #[derive(Clone, Copy)]
@@ -32,38 +30,36 @@ pub struct Chosen<'p> {
     pub shape: Shape<'p>,
 }
 
-/// What the cell of a union with these members is made for. Refuses no members, and a member that is no integer, no pointer, no handle and no key.
-fn union_cell(members: &[Member]) -> Result<Cell, LowerFault>
-    ensures cell { IfOk result (λ cell. cell ≡ cell_by (has_fat (map part_of (map member_tree members.now)))) }
-    ensures laid { IfOk result (λ _. HaveCells (map part_of (map member_tree members.now))) }
-    ensures taken { let parts = map part_of (map member_tree members.now) in HasMember parts → AreValues (part_shapes parts) → NeverRefused result }
+/// What the cell of a union with these members is made for: integers, pointers, handles and keys, at least one.
+fn union_cell(members: &[Member]) -> Cell
+    requires some { HasMember (map part_of (map member_tree members.now)) }
+    requires values { AreValues (part_shapes (map part_of (map member_tree members.now))) }
+    ensures cell { result ≡ cell_by (has_fat (map part_of (map member_tree members.now))) }
+    ensures laid { HaveCells (map part_of (map member_tree members.now)) }
 {
-    if members.is_empty() {
-        return Err(LowerFault::NotTaken);
-    }
     let mut cell = Cell::Tagged;
     'each: for member in members {
-        if let Cell::Fat = cell_of(Shape::of(&member.of))? {
+        if let Cell::Fat = cell_of(Shape::of(&member.of)) {
             cell = Cell::TaggedFat;
         }
     }
-    Ok(cell)
+    cell
 }
 
-/// The first union of each tag. Refuses a union with a member that is no integer, no pointer, no handle and no key.
+/// The first union of each tag. Fails only where no host memory is left.
 pub fn first_unions<'p>(
     alloc: Global,
     items: &'p [Item],
-) -> Result<Firsts<'p, Union<'p>>, LowerFault>
+) -> Result<Firsts<'p, Union<'p>>, AllocError>
+    requires unions { AreUnions (unions_of (program_tree items.now)) }
     ensures first { IfOk result (λ unions. (tag : List ℕ) → union_in unions tag ≡ first_union (unions_of (program_tree items.entry.now)) tag) }
     ensures laid { IfOk result (λ _. AreUnionsLaid (unions_of (program_tree items.entry.now))) }
-    ensures taken { AreUnions (unions_of (program_tree items.entry.now)) → NeverRefused result }
 {
     let mut unions = Firsts::new(alloc);
     'each: for item in items {
         if let Item::Union(union) = item {
             let members = &union.members;
-            let cell = union_cell(members)?;
+            let cell = union_cell(members);
             unions.add(&union.tag.text, Union { members, cell })?;
         }
     }

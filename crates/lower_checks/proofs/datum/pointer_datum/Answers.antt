@@ -1,11 +1,15 @@
-use Rattle.std.proofs.Common.{subst}
+use Rattle.std.proofs.Common.{◌∙◌, ap, sym}
 use Rattle.cyc_tree.specs.View.{initial_tree}
 use Rattle.source_meaning.specs.Shapes.{ThinShape}
-use Rattle.source_lowering.specs.Lowerable.{TakesGlobal}
+use Rattle.source_meaning.specs.Programs.{world_of}
+use Rattle.source_lowering.specs.Programs.{datum_of, initial_content}
 use Rattle.lower_checks.proofs.datum.pointer_datum.Goals as goal
 
-pub returns-in-Constant-clause-taken : goal.returns-in-Constant-clause-taken
-returns-in-Constant-clause-taken c =
-    λ bound owner to takes.
-    c.constant_pointer.ensures.taken bound owner to
-    (subst (λ i. TakesGlobal (ThinShape bound owner to) (initial_tree i)) c.in-Constant.is takes)
+pub returns-in-Constant : goal.returns-in-Constant
+returns-in-Constant c = record {
+  datum =
+      λ bound owner to.
+      let w = world_of c.args.program.now in
+      let s = ThinShape bound owner to in
+      c.constant_pointer.ensures.datum bound owner to ∙ ap (λ i. datum_of w s (initial_content w (initial_tree i) s)) (sym c.in-Constant.is);
+}

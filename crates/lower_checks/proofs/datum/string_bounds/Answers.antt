@@ -6,7 +6,9 @@ use Rattle.lower_checks.specs.Views.{text_value}
 use Rattle.lower_checks.proofs.Bytes.{bounds_same}
 use Rattle.lower_checks.proofs.datum.string_bounds.Goals as goal
 
-pub returns-in-Some-clause-datum : goal.returns-in-Some-clause-datum
-returns-in-Some-clause-datum c =
-    λ w to.
-    bounds_same w to c.in-Some.text.object c.in-Some.text.count ∙ ap (λ f. text_datum w (FatShape to) (option_map text_value f)) (sym c.in-Some.is)
+pub returns-in-Some : goal.returns-in-Some
+returns-in-Some c = record {
+  datum =
+      λ w to.
+      bounds_same w to c.in-Some.text.object c.in-Some.text.count ∙ ap (λ f. text_datum w (FatShape to) (option_map text_value f)) (sym c.in-Some.is);
+}

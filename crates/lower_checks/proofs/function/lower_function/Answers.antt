@@ -1,4 +1,4 @@
-use Rattle.std.proofs.Common.{◌≡◌, ◌∙◌, ◌+◌, ◌*◌, arith, sym, ap, subst, rules, map, [], length}
+use Rattle.std.proofs.Common.{◌≡◌, ◌∙◌, ◌+◌, ◌*◌, arith, sym, ap, subst, map, [], length}
 use Rattle.std.proofs.lemmas.List.{length-map}
 use Rattle.cyc_tree.specs.View.{member_tree, function_tree as source_tree}
 use Rattle.cyc_core.specs.Trees.{body_tree}
@@ -51,13 +51,12 @@ word-passed-requires c =
     record { fits = omega (arith, room, passed_are, passed) }
 
 -- the unnamed values of a function that is taken are objects
-pub returns-in_err-own-clause-memory : goal.returns-in_err-own-clause-memory
-returns-in_err-own-clause-memory c =
+pub values_of-requires : goal.values_of-requires
+values_of-requires c =
     let w = world_of c.args.program.now in
     let f = routine_of (source_tree c.args.function.now) in
     let objects : AreObjects w.unions w.structs (routine_values w f) =
     item_objects w f.result (parameter_names f.parameters 0 []) (length f.parameters) f.body c.requires.taken.body in
     let values_are : map shape_tree c.deref-4.result.now ≡ routine_values w f =
     ap (map shape_tree) c.deref-4.ensures.value ∙ c.lower_body-code.ensures.values c.if-failed.false in
-    let values : AreObjects w.unions w.structs (map shape_tree c.deref-4.result.now) = subst (AreObjects w.unions w.structs) (sym values_are) objects in
-    search rules
+    record { taken = subst (AreObjects w.unions w.structs) (sym values_are) objects }

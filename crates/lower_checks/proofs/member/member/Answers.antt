@@ -18,13 +18,13 @@ among-requires c = record {
   within = members_within (world_of c.args.program.now) c.in-Struct.tag.now c.in-Some.known.now c.struct_of.ensures.small c.in-Some.ensures.found;
 }
 
-pub returns-in-None-clause-taken : goal.returns-in-None-clause-taken
-returns-in-None-clause-taken c =
-    λ object.
+-- where there is no such struct, it has no member that is an object
+pub unreachable-requires : goal.unreachable-requires
+unreachable-requires c =
     let w = world_of c.args.program.now in
     let tag = c.in-Struct.tag.now in
     let name = c.args.name.now in
     let none : has_tag w.structs tag ≡ false =
     subst (λ (o : Option (Bor Known)). IsFound w.unions w.structs tag (option_copied o)) c.in-None.is c.struct_of.ensures.found in
-    let here = subst (λ (s : Shape). IsObject w.unions w.structs (member_shape w (shape_tree s) name)) c.in-Struct.is object in
+    let here = subst (λ (s : Shape). IsObject w.unions w.structs (member_shape w (shape_tree s) name)) c.in-Struct.is c.requires.taken in
     absurd (no_members w.unions w.structs tag name none here)

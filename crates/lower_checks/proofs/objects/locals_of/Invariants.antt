@@ -10,6 +10,5 @@ abbrev pub invariant-each : goal.invariant-each
 invariant-each l = record {
   locals : map local_tree l.locals.items ++ locals_of (world_of l.program) (map stored_tree (drop l.stored-index l.all)) ≡
       locals_of (world_of l.program) (map stored_tree l.all);
-  taken : AreVariables (world_of l.program).unions (world_of l.program).structs (map stored_tree l.all) →
-      AreVariables (world_of l.program).unions (world_of l.program).structs (map stored_tree (drop l.stored-index l.all));
+  taken : AreVariables (world_of l.program).unions (world_of l.program).structs (map stored_tree (drop l.stored-index l.all));
 }

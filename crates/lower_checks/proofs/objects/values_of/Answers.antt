@@ -23,5 +23,5 @@ each-preserved c =
           mapped_more local_tree c.each.locals.items c.append.new.all.items c.in_ok-local.local (locals_of w others)
           (locals_of w (map shape_tree (drop k shapes))) (locals_of w (map shape_tree shapes)) c.in_ok-append.ensures.appended
           (ap (locals_of w) left_is ∙ ap (λ l. l ∷ locals_of w others) (sym c.in_ok-local.ensures.local)) c.each.invariant.locals;
-      taken = λ all. (subst (λ (ss : List Shape). AreObjects w.unions w.structs ss) left_is (c.each.invariant.taken all)).1;
+      taken = (subst (λ (ss : List Shape). AreObjects w.unions w.structs ss) left_is c.each.invariant.taken).1;
     }

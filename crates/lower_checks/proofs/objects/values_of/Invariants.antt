@@ -10,6 +10,5 @@ abbrev pub invariant-each : goal.invariant-each
 invariant-each l = record {
   locals : map local_tree l.locals.items ++ locals_of (world_of l.program) (map shape_tree (drop l.shape-index l.shapes)) ≡
       locals_of (world_of l.program) (map shape_tree l.shapes);
-  taken : AreObjects (world_of l.program).unions (world_of l.program).structs (map shape_tree l.shapes) →
-      AreObjects (world_of l.program).unions (world_of l.program).structs (map shape_tree (drop l.shape-index l.shapes));
+  taken : AreObjects (world_of l.program).unions (world_of l.program).structs (map shape_tree (drop l.shape-index l.shapes));
 }

@@ -1,4 +1,5 @@
 use Rattle.std.proofs.Common.{◌≡◌, ◌∙◌, ◌<◌, ◌^◌, sym, ap, subst}
+use Rattle.std.proofs.lemmas.Result.{IfOk-weaker}
 use Rattle.cyc_core.specs.Trees.{program_tree}
 use Rattle.cyc_tree.specs.Room.{program_room}
 use Rattle.cyc_tree.specs.Tree.{Program}
@@ -7,6 +8,7 @@ use Rattle.source_lowering.specs.Programs.{program_code}
 use Rattle.source_lowering.specs.Lowerable.{HaveFewMembers, IsLowerable}
 use Rattle.source_lowering.proofs.bounds.Rooms.{members_have_room}
 use Rattle.lower_checks.specs.Mains.{HasMain}
+use Rattle.lower_checks.specs.Promise.{IsLoweringOf}
 use Rattle.accepted_proof.proofs.Joined.{have_main, lowerable}
 use Rattle.lower_checks.proofs.Roomy.{are_roomy}
 use Rattle.lower_checks.proofs.Promised.{is_lowering}
@@ -25,19 +27,21 @@ lower_tree-requires c =
       main = subst HasMain (sym c.program-program.ensures.same) (have_main c.args.checked.now c.program-program.ensures.accepted);
     }
 
-pub returns-in-Ok-clause-code : goal.returns-in-Ok-clause-code
-returns-in-Ok-clause-code c = c.in-Ok.ensures.code ∙ ap program_code c.program-program.ensures.same
+pub returns-clause-code : goal.returns-clause-code
+returns-clause-code c =
+    IfOk-weaker c.lower_tree.result (λ core. program_tree core ≡ program_code c.program-program.result.now)
+    (λ core. program_tree core ≡ program_code c.args.checked.now) (λ core is. is ∙ ap program_code c.program-program.ensures.same) c.lower_tree.ensures.code
 
-pub returns-in-Ok-clause-few : goal.returns-in-Ok-clause-few
-returns-in-Ok-clause-few c = few_members c.program-program.result.now c.args.checked.now c.program-program.ensures.same c.items.ensures.room
-
-pub returns-in-Ok-clause-promised : goal.returns-in-Ok-clause-promised
-returns-in-Ok-clause-promised c =
-    let same : program_tree c.in-Ok.core ≡ program_code c.args.checked.now = c.in-Ok.ensures.code ∙ ap program_code c.program-program.ensures.same in
+pub returns-clause-few : goal.returns-clause-few
+returns-clause-few c =
     let few = few_members c.program-program.result.now c.args.checked.now c.program-program.ensures.same c.items.ensures.room in
-    is_lowering c.args.checked.now (program_tree c.in-Ok.core) c.program-program.ensures.accepted few same
+    IfOk-weaker c.lower_tree.result (λ core. program_tree core ≡ program_code c.program-program.result.now)
+    (λ _. HaveFewMembers (unions_of c.args.checked.now)) (λ core is. few) c.lower_tree.ensures.code
 
-pub unreachable-requires : goal.unreachable-requires
-unreachable-requires c =
-    let memory = c.in-Err-NotTaken.ensures.memory in
-    absurd cc
+pub returns-clause-promised : goal.returns-clause-promised
+returns-clause-promised c =
+    let few = few_members c.program-program.result.now c.args.checked.now c.program-program.ensures.same c.items.ensures.room in
+    IfOk-weaker c.lower_tree.result (λ core. program_tree core ≡ program_code c.program-program.result.now)
+    (λ core. IsLoweringOf c.args.checked.now (program_tree core))
+    (λ core is. is_lowering c.args.checked.now (program_tree core) c.program-program.ensures.accepted few (is ∙ ap program_code c.program-program.ensures.same))
+    c.lower_tree.ensures.code

@@ -10,5 +10,5 @@ abbrev pub invariant-each : goal.invariant-each
 invariant-each l = record {
   globals : map datum_tree l.globals.items ++ data_of (world_of l.program) (program_tree (drop l.item-index l.items)) ≡
       data_of (world_of l.program) (program_tree l.items);
-  taken : TakesProgram (world_of l.program) (program_tree l.items) → TakesProgram (world_of l.program) (program_tree (drop l.item-index l.items));
+  taken : TakesProgram (world_of l.program) (program_tree (drop l.item-index l.items));
 }

@@ -5,7 +5,9 @@ use Rattle.source_lowering.specs.Programs.{program_code}
 use Rattle.lower_checks.proofs.program.lower_tree.Goals as goal
 
 -- the tables are those of the program
-pub returns-clause-code : goal.returns-clause-code
-returns-clause-code c =
-    subst (λ (p : tree.Program). IfOk c.lower_known.result (λ core. program_tree core ≡ program_code p)) (c.in_ok-table.ensures.program ∙ c.items.ensures.same)
-    c.lower_known.ensures.code
+pub returns : goal.returns
+returns c = record {
+  code =
+      let same = c.in_ok-table.ensures.program ∙ c.items.ensures.same in
+      subst (λ (p : tree.Program). IfOk c.lower_known.result (λ core. program_tree core ≡ program_code p)) same c.lower_known.ensures.code;
+}

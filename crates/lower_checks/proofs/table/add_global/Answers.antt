@@ -9,13 +9,15 @@ use Rattle.lower_checks.specs.declared.table.Found.{Found}
 use Rattle.lower_checks.proofs.Tables.{global_kept}
 use Rattle.lower_checks.proofs.table.add_global.Goals as goal
 
-pub returns-clause-added : goal.returns-clause-added
-returns-clause-added c =
-    λ items name.
-    let value : Found = record { stored = c.global_stored-stored.result; object = c.args.object } in
-    let old = first_in c.args.globals.now name in
-    let new = first_in c.add.new.self name in
-    let is : new ≡ or_else old (if bytes_eq c.args.global.now.name.text.items name then Some value else None) =
-    c.in_ok-add.ensures name ∙ ap (λ (text : List ℕ). or_else old (if bytes_eq text name then Some value else None)) c.deref.ensures.value in
-    global_kept old new (bytes_eq c.args.global.now.name.text.items name) value _ (bound_to (globals_from items (suc c.args.object)) name) is
-    (ap (λ (s : Shape). Variable s (heap_spot c.args.object)) c.global_stored-stored.ensures)
+pub returns : goal.returns
+returns c = record {
+  added =
+      λ items name.
+      let value : Found = record { stored = c.global_stored-stored.result; object = c.args.object } in
+      let old = first_in c.args.globals.now name in
+      let new = first_in c.add.new.self name in
+      let is : new ≡ or_else old (if bytes_eq c.args.global.now.name.text.items name then Some value else None) =
+      c.in_ok-add.ensures name ∙ ap (λ (text : List ℕ). or_else old (if bytes_eq text name then Some value else None)) c.deref.ensures.value in
+      global_kept old new (bytes_eq c.args.global.now.name.text.items name) value _ (bound_to (globals_from items (suc c.args.object)) name) is
+      (ap (λ (s : Shape). Variable s (heap_spot c.args.object)) c.global_stored-stored.ensures);
+}

@@ -1,4 +1,4 @@
-use Rattle.std.proofs.Common.{◌≡◌, ◌∙◌, ◌+◌, [], ◌∷◌, List, ap, subst, sym, arith, drop, refl, rules}
+use Rattle.std.proofs.Common.{◌≡◌, ◌∙◌, ◌+◌, [], ◌∷◌, List, ap, subst, sym, arith, drop, refl}
 use Rattle.std.proofs.lemmas.Grind.{common_steps}
 use Rattle.std.proofs.lemmas.List.{drop_more}
 use Rattle.cyc_tree.specs.Tree as tree
@@ -69,15 +69,3 @@ add-requires c =
         next = next_struct (unions_of p) rest found (structs_from p []) s all c.requires.structs;
       };
     }
-
-pub returns-in_err-add-clause-taken : goal.returns-in_err-add-clause-taken
-returns-in_err-add-clause-taken c =
-    λ unions are.
-    let p = program_tree c.args.items.now in
-    let s = structure_tree c.in-Struct.structure in
-    let found = c.each.invariant.found in
-    let rest = program_tree (drop (c.each.item-index + 1) c.args.items.now) in
-    let next : structs_from (tree.StructItem s ∷ rest) found ≡ structs_from p [] = grind (arith, common_steps, c.each.invariant.all_are) in
-    let is = next_struct (unions_of p) rest found (structs_from p []) s next are in
-    let memory = c.in_err-add.ensures.taken (unions_of p) found c.each.invariant.knows is in
-    search rules

@@ -9,12 +9,14 @@ use Rattle.lower_checks.proofs.Tables.{nothing_more}
 use Rattle.lower_checks.proofs.table.first_globals.Goals as goal
 
 -- no item is left
-pub returns-clause-first : goal.returns-clause-first
-returns-clause-first c =
-    λ name.
-    let items = c.args.items.now in
-    let all = global_in c.each.globals name in
-    let done : drop c.each.item-index items ≡ [] = drop_all c.each.item-index items (omega (arith, c.each-test.false)) in
-    sym (nothing_more all)
-    ∙ ap (λ (rest : List code_item.Item). or_else all (bound_to (globals_from (program_tree rest) c.each.object) name)) (sym done)
-    ∙ c.each.invariant.first name
+pub returns : goal.returns
+returns c = record {
+  first =
+      λ name.
+      let items = c.args.items.now in
+      let all = global_in c.each.globals name in
+      let done : drop c.each.item-index items ≡ [] = drop_all c.each.item-index items (omega (arith, c.each-test.false)) in
+      sym (nothing_more all)
+      ∙ ap (λ (rest : List code_item.Item). or_else all (bound_to (globals_from (program_tree rest) c.each.object) name)) (sym done)
+      ∙ c.each.invariant.first name;
+}

@@ -13,5 +13,5 @@ invariant-each l = record {
       or_else (union_in l.unions tag) (first_union (unions_of (program_tree (drop l.item-index l.items))) tag) ≡
       first_union (unions_of (program_tree l.items)) tag;
   laid : AreUnionsLaid (unions_of (program_tree (drop l.item-index l.items))) → AreUnionsLaid (unions_of (program_tree l.items));
-  taken : AreUnions (unions_of (program_tree l.items)) → AreUnions (unions_of (program_tree (drop l.item-index l.items)));
+  taken : AreUnions (unions_of (program_tree (drop l.item-index l.items)));
 }

@@ -13,6 +13,5 @@ invariant-each l = record {
   cell : (if has_fat (map part_of (map member_tree (drop l.member-index l.members))) then cell.TaggedFat else l.cell) ≡
       cell_by (has_fat (map part_of (map member_tree l.members)));
   laid : AreCells (map part_of (map member_tree (drop l.member-index l.members))) → AreCells (map part_of (map member_tree l.members));
-  taken : AreValues (part_shapes (map part_of (map member_tree l.members))) →
-      AreValues (part_shapes (map part_of (map member_tree (drop l.member-index l.members))));
+  taken : AreValues (part_shapes (map part_of (map member_tree (drop l.member-index l.members))));
 }

@@ -16,11 +16,11 @@ pub overflow_add-laying : goal.overflow_add-laying
 overflow_add-laying c =
     let size = c.args.laying.now.room.size in
     let ends =
-    ap (λ n. n + c.in_ok-room.room.size) c.rounded-at.ensures.rounded ∙ ap (λ (e : Extent). rounded_up size e.align + e.size) c.in_ok-room.ensures.room in
+    ap (λ n. n + c.room-room.result.size) c.rounded-at.ensures.rounded ∙ ap (λ (e : Extent). rounded_up size e.align + e.size) c.room-room.ensures.room in
     omega (arith, ends, c.requires.small)
 
 pub push_shape-requires : goal.push_shape-requires
 push_shape-requires c =
     let size = c.args.laying.now.room.size in
-    let at_is = c.rounded-at.ensures.rounded ∙ ap (λ (e : Extent). rounded_up size e.align) c.in_ok-room.ensures.room in
-    record { at = omega (arith, at_is, c.requires.small); near = c.requires.near }
+    let at_is = c.rounded-at.ensures.rounded ∙ ap (λ (e : Extent). rounded_up size e.align) c.room-room.ensures.room in
+    record { at = omega (arith, at_is, c.requires.small); near = c.requires.near; taken = c.requires.taken }

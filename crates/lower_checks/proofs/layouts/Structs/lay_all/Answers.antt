@@ -4,7 +4,7 @@ use Rattle.source_meaning.specs.Shapes.{part_of}
 use Rattle.source_meaning.specs.Sizes.{rounded_up}
 use Rattle.source_lowering.specs.Layouts.{bytes_through}
 use Rattle.source_lowering.proofs.Sizes.{through_above}
-use Rattle.lower_checks.specs.Structs.{room_in}
+use Rattle.lower_checks.specs.Structs.{AreLaid, IsLaid, room_in}
 use Rattle.lower_checks.proofs.Bodies.{left_parameters}
 use Rattle.lower_checks.proofs.layouts.Structs.lay_all.Goals as goal
 
@@ -21,4 +21,5 @@ lay-requires c =
     record {
       small = subst (λ s. rounded_up c.each.laying.room.size (room s).align + (room s).size ≤ 4096) (sym c.of.ensures) here;
       near = c.requires.near;
+      taken = subst (λ s. IsLaid c.args.self.now s) (sym c.of.ensures) (subst (λ ps. AreLaid c.args.self.now ps) left c.each.invariant.taken).0;
     }

@@ -15,6 +15,5 @@ invariant-each l = record {
       laid_cells l.self l.laying.room.size (map part_of (map member_tree (drop l.member-index l.members))) ≡
       laid_cells l.self 0 (map part_of (map member_tree l.members));
   small : bytes_through (room_in l.self) l.laying.room.size (map part_of (map member_tree (drop l.member-index l.members))) ≤ 4096;
-  laid : AreLaid l.self (map part_of (map member_tree (drop l.member-index l.members))) → AreLaid l.self (map part_of (map member_tree l.members));
-  taken : AreLaid l.self (map part_of (map member_tree l.members)) → AreLaid l.self (map part_of (map member_tree (drop l.member-index l.members)));
+  taken : AreLaid l.self (map part_of (map member_tree (drop l.member-index l.members)));
 }

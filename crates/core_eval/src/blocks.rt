@@ -6,7 +6,7 @@ ghost use Rattle.core_eval.specs.Values.{value_of};
 ghost use Rattle.core_eval.specs.Whole.{fill_through};
 
 use crate::held::Held;
-use crate::value::{Object, Slot, Value, fill_in, put_in, slot_in, value_in, word_in};
+use crate::value::{Object, Part, Slot, Value, fill_in, put_in, slot_in, value_in, word_in};
 use cyc_core::Width;
 use std::alloc::{AllocError, Global};
 use std::collections::VecDeque;
@@ -41,20 +41,18 @@ fn slot_at(blocks: &VecDeque<Block>, position: usize, index: usize, cell: u64) -
     }
 }
 
-/// What a part of a cell of an object of the one that stands there holds, if there is one that lies so many bytes on and is so wide.
+/// What a part of an object of the one that stands there holds, if there is one that lies there and is so wide.
 pub fn value_at(
     blocks: &VecDeque<Block>,
     position: usize,
     index: usize,
-    cell: u64,
-    byte: u64,
-    part: u32,
-    width: Width,
+    part: Part,
 ) -> Option<Value>
-    ensures { result ≡ value_of byte part width (slot_through (map activation_of blocks.now.items) (Some position) index cell) }
+    ensures { result ≡ value_of part.byte part.number part.width
+        (slot_through (map activation_of blocks.now.items) (Some position) index part.cell) }
 {
     match blocks.get(position) {
-        Some(block) => value_in(&block.objects, index, cell, byte, part, width),
+        Some(block) => value_in(&block.objects, index, part),
         None => None,
     }
 }
@@ -80,47 +78,42 @@ pub fn slot_by(blocks: &VecDeque<Block>, number: u64, index: usize, cell: u64) -
     }
 }
 
-/// Stores a value to a part of a cell of an object of the one that stands there, if there is one that lies so many bytes on and is so wide, and
-/// answers whether there is.
+/// Stores a value to a part of an object of the one that stands there, if there is one that lies there and is so wide, and answers whether
+/// there is.
 pub fn set_at(
     blocks: &mut VecDeque<Block>,
     position: usize,
     index: usize,
-    cell: u64,
-    byte: u64,
-    part: u32,
-    width: Width,
+    part: Part,
     value: Value,
 ) -> bool
-    ensures put { put_through (map activation_of blocks.old.items) (Some position) index cell byte part width value
+    ensures put { put_through (map activation_of blocks.old.items) (Some position) index part.cell part.byte part.number part.width value
         ≡ (if result then Some (map activation_of blocks.new.items) else None) }
     ensures kept { result ≡ false → map activation_of blocks.new.items ≡ map activation_of blocks.old.items }
 {
     match blocks.get_mut(position) {
-        Some(block) => put_in(&mut block.objects, index, cell, byte, part, width, value),
+        Some(block) => put_in(&mut block.objects, index, part, value),
         None => false,
     }
 }
 
-/// Stores a value to a part of a cell of an object of the one with this number, if it isn't left yet and there is one that lies so many bytes on
-/// and is so wide, and answers whether there is.
+/// Stores a value to a part of an object of the one with this number, if it isn't left yet and there is one that lies there and is so wide,
+/// and answers whether there is.
 pub fn set_by(
     blocks: &mut VecDeque<Block>,
     number: u64,
     index: usize,
-    cell: u64,
-    byte: u64,
-    part: u32,
-    width: Width,
+    part: Part,
     value: Value,
 ) -> bool
     ensures put { (bound : ℕ) → Descends bound (map activation_of blocks.old.items)
-        → put_through (map activation_of blocks.old.items) (position_of (map activation_of blocks.old.items) number) index cell byte part width value
+        → put_through (map activation_of blocks.old.items) (position_of (map activation_of blocks.old.items) number)
+        index part.cell part.byte part.number part.width value
         ≡ (if result then Some (map activation_of blocks.new.items) else None) }
     ensures kept { result ≡ false → map activation_of blocks.new.items ≡ map activation_of blocks.old.items }
 {
     match position_of(blocks, number) {
-        Some(position) => set_at(blocks, position, index, cell, byte, part, width, value),
+        Some(position) => set_at(blocks, position, index, part, value),
         None => false,
     }
 }

@@ -9,9 +9,8 @@ ghost use Rattle.core_eval.specs.Standing.{IsCall, Stands, first_known, known_of
 
 use crate::enter::wait;
 use crate::frame::Frame;
-use crate::memory::Memory;
 use crate::object::blank_objects;
-use crate::pending::{Due, Now, Pending};
+use crate::pending::{Due, Now, Pending, Run};
 use crate::value::Value;
 use cyc_core::{Function, Local, Origin, Program, Words};
 use std::alloc::{AllocError, Global};
@@ -26,21 +25,27 @@ fn function_at<'p>(functions: &'p [Function], number: usize) -> Option<&'p Funct
     functions.get(number)
 }
 
+/// A call: the temporaries that get the result, the function's number, and what it is passed.
+#[derive(Drop)]
+pub struct Call {
+    pub to: Option<Words>,
+    pub function: usize,
+    pub arguments: Vec<Value>,
+}
+
 /// The move of a call whose unit is paid: the callee's statements are next, and the caller waits.
-pub fn enter_call<'p>(
-    alloc: Global,
-    functions: &'p [Function],
-    to: Option<Words>,
-    function: usize,
-    arguments: Vec<Value>,
-    stack: &mut Vec<Pending<'p>>,
-    frame: &mut Frame,
-    memory: &mut Memory,
-) -> Result<Due<'p>, AllocError>
-    ensures { IfOk result (λ due. IsCall (map function_tree functions.entry.now) (optional_tree to) function (map content_of arguments.items)
-        (waits_of stack.old.items) (known_of frame.old memory.old) (next_of due) (waits_of stack.new.items) (known_of frame.new memory.new)) }
+pub fn enter_call<'p>(alloc: Global, call: Call, run: &mut Run<'p>) -> Result<Due<'p>, AllocError>
+    ensures functions { run.new.functions ≡ run.old.functions }
+    ensures enters { IfOk result (λ due. IsCall (map function_tree run.old.functions.now) (optional_tree call.to) call.function
+        (map content_of call.arguments.items) (waits_of run.old.stack.items) (known_of run.old.frame run.old.memory)
+        (next_of due) (waits_of run.new.stack.items) (known_of run.new.frame run.new.memory)) }
 {
-    let Some(callee) = function_at(functions, function) else {
+    let Call {
+        to,
+        function,
+        arguments,
+    } = call;
+    let Some(callee) = function_at(run.functions, function) else {
         return Ok(Due::Wrong);
     };
     if callee.parameters as usize != arguments.len() {
@@ -48,13 +53,13 @@ pub fn enter_call<'p>(
     }
     let begun = Frame {
         temps: arguments,
-        base: memory.blocks.len(),
+        base: run.memory.blocks.len(),
         at: Origin(0),
     };
-    let saved = mem::replace(frame, begun);
-    wait(stack, Pending::Caller(to, function, saved))?;
+    let saved = mem::replace(&mut run.frame, begun);
+    wait(&mut run.stack, Pending::Caller(to, function, saved))?;
     let own = blank_objects(alloc, &callee.own)?;
-    memory.enter_call(own)?;
+    run.memory.enter_call(own)?;
     Ok(Due::Go(Now::Follow(&callee.body)))
 }
 

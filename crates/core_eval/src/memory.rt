@@ -26,7 +26,7 @@ use crate::long_block::LongBlock;
 use crate::object::{blank_objects, first_objects};
 use crate::region::{self, Region};
 use crate::spare::Spare;
-use crate::value::{Area, Object, Place, Slot, Value, fill_in, put_in, slot_in};
+use crate::value::{Area, Object, Part, Place, Slot, Value, fill_in, put_in, slot_in};
 use cyc_core::{Datum, Local, Variable, Width};
 use std::alloc::{AllocError, Global};
 use std::collections::VecDeque;
@@ -162,7 +162,9 @@ impl Memory {
         ensures { result ≡ value_of 0 0 width (local_slot base (map activation_of self.now.blocks.items) variable.out variable.index) }
     {
         match self.own_position(base, variable.out) {
-            Some(position) => value_at(&self.blocks, position, variable.index, 0, 0, 0, width),
+            Some(position) => {
+                value_at(&self.blocks, position, variable.index, Part::first(width))
+            }
             None => None,
         }
     }
@@ -263,57 +265,28 @@ impl Memory {
                 &mut self.blocks,
                 position,
                 variable.index,
-                0,
-                0,
-                0,
-                width,
+                Part::first(width),
                 value,
             ),
             None => false,
         }
     }
 
-    /// Stores a value to a part of a cell of an object of an area, if there is one that lies so many bytes on and is so wide, and answers whether
-    /// there is.
-    pub fn put_to(
-        &mut self,
-        place: Place,
-        cell: u64,
-        byte: u64,
-        part: u32,
-        width: Width,
-        value: Value,
-    ) -> bool
+    /// Stores a value to a part of the object to which a place leads, if there is one that lies there and is so wide, and answers whether there is.
+    pub fn put_to(&mut self, place: Place, part: Part, value: Value) -> bool
         ensures put { AreOrdered self.old
-            → put_to (stored_of self.old) place.area place.object cell byte part width value ≡ (if result then Some (stored_of self.new) else None) }
+            → put_to (stored_of self.old) place.area place.object part.cell part.byte part.number part.width value
+            ≡ (if result then Some (stored_of self.new) else None) }
         ensures kept { result ≡ false → stored_of self.new ≡ stored_of self.old }
         ensures entered { self.new.entered ≡ self.old.entered }
         ensures called { self.new.called ≡ self.old.called }
     {
         let object = place.object;
         match place.area {
-            Area::Globals => put_in(&mut self.globals, object, cell, byte, part, width, value),
-            Area::Region(number) => region::put_to(
-                &mut self.regions,
-                number,
-                object,
-                cell,
-                byte,
-                part,
-                width,
-                value,
-            ),
-            Area::Block(block) => set_by(
-                &mut self.blocks,
-                block,
-                object,
-                cell,
-                byte,
-                part,
-                width,
-                value,
-            ),
-            Area::Own(call) => set_by(&mut self.owns, call, object, cell, byte, part, width, value),
+            Area::Globals => put_in(&mut self.globals, object, part, value),
+            Area::Region(number) => region::put_to(&mut self.regions, number, object, part, value),
+            Area::Block(block) => set_by(&mut self.blocks, block, object, part, value),
+            Area::Own(call) => set_by(&mut self.owns, call, object, part, value),
         }
     }
 

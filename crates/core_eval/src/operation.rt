@@ -18,7 +18,7 @@ use crate::pointer::{is_null, lead_on, same_place};
 use crate::request::{
     close_key, free_key, free_region, free_unique, make_key, make_region, open_key,
 };
-use crate::value::{Area, Place, Value, further, is_kept, value_of};
+use crate::value::{Area, Part, Place, Value, further, is_kept, value_of};
 use cyc_core::{Binary, Distance, Operation, Temporary, Variable, Width};
 use std::alloc::{AllocError, Global};
 
@@ -261,7 +261,13 @@ fn store<'p>(
     }
     let cell = further(place.cell, distance.cells)?;
     let byte = further(place.byte, distance.bytes)?;
-    if memory.put_to(place, cell, byte, distance.part, distance.width, value) {
+    let part = Part {
+        cell,
+        byte,
+        number: distance.part,
+        width: distance.width,
+    };
+    if memory.put_to(place, part, value) {
         return Ok(Due::Go(Now::Leave(Flow::Falls)));
     }
     match value_of(

@@ -2,8 +2,9 @@
 
 use crate::frame::Frame;
 use crate::held::Bound;
+use crate::memory::Memory;
 use crate::value::Value;
-use cyc_core::{Statement, Temporary, Words};
+use cyc_core::{Function, Statement, Temporary, Words};
 use cyc_words::Kind;
 
 /// What a function returns: a word, or the three of a fat pointer, which are its first element, how many it has, and its index.
@@ -65,4 +66,17 @@ pub enum Due<'p> {
     Raised(Kind),
     /// What no rule gives a meaning.
     Wrong,
+}
+
+/// A run of a program, between two moves.
+#[derive(Drop)]
+pub struct Run<'p> {
+    /// The program's functions.
+    pub functions: &'p [Function],
+    /// What waits, the outermost first.
+    pub stack: Vec<Pending<'p>>,
+    /// The activation of the innermost function.
+    pub frame: Frame,
+    /// What is stored.
+    pub memory: Memory,
 }

@@ -21,8 +21,8 @@ ghost use Rattle.core_eval.specs.Whole.{fill_held, fill_region, is_still};
 
 use crate::held::Held;
 use crate::object::block_cells;
-use crate::value::{Object, Slot, Value, fill_in, put_in, slot_in};
-use cyc_core::{Layout, Width};
+use crate::value::{Object, Part, Slot, Value, fill_in, put_in, slot_in};
+use cyc_core::Layout;
 use std::alloc::{AllocError, Global};
 
 /// What a region is that isn't freed.
@@ -89,23 +89,16 @@ pub fn push_block(
 }
 
 impl Region {
-    /// Stores a value to a part of a cell of a block, if it isn't freed or closed and there is one that lies so many bytes on and is so wide, and
-    /// answers whether there is.
-    fn put(
-        &mut self,
-        index: usize,
-        cell: u64,
-        byte: u64,
-        part: u32,
-        width: Width,
-        value: Value,
-    ) -> bool
-        ensures put { put_held index cell byte part width value (held_region self.old) ≡ (if result then Some (held_region self.new) else None) }
+    /// Stores a value to a part of a block, if it isn't freed or closed and there is one that lies there and is so wide, and answers whether there
+    /// is.
+    fn put(&mut self, index: usize, part: Part, value: Value) -> bool
+        ensures put { put_held index part.cell part.byte part.number part.width value (held_region self.old)
+            ≡ (if result then Some (held_region self.new) else None) }
         ensures kept { result ≡ false → held_region self.new ≡ held_region self.old }
     {
         match self {
             Region::Held(standing, objects) => {
-                standing.is_open() && put_in(objects, index, cell, byte, part, width, value)
+                standing.is_open() && put_in(objects, index, part, value)
             }
             Region::Freed => false,
         }
@@ -187,24 +180,21 @@ pub fn is_held(regions: &[Region], number: u64) -> bool
     }
 }
 
-/// Stores a value to a part of a cell of a block of the region with this number, if it isn't freed or closed and there is one that lies so many
-/// bytes on and is so wide, and answers whether there is.
+/// Stores a value to a part of a block of the region with this number, if it isn't freed or closed and there is one that lies there and is so
+/// wide, and answers whether there is.
 pub fn put_to(
     regions: &mut Vec<Region>,
     number: u64,
     index: usize,
-    cell: u64,
-    byte: u64,
-    part: u32,
-    width: Width,
+    part: Part,
     value: Value,
 ) -> bool
-    ensures put { put_region (map held_region regions.old.items) number index cell byte part width value
+    ensures put { put_region (map held_region regions.old.items) number index part.cell part.byte part.number part.width value
         ≡ (if result then Some (map held_region regions.new.items) else None) }
     ensures kept { result ≡ false → map held_region regions.new.items ≡ map held_region regions.old.items }
 {
     match regions.get_mut(number as usize) {
-        Some(region) => region.put(index, cell, byte, part, width, value),
+        Some(region) => region.put(index, part, value),
         None => false,
     }
 }

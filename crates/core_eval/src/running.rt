@@ -14,13 +14,13 @@ ghost use Rattle.core_eval.specs.Evaluated.{IsEvaluated, IsNeverStuck, Wrote, re
 ghost use Rattle.core_eval.specs.Fetched.{FetchFault, fetch_reads_failed, fetch_writes_failed};
 ghost use Rattle.core_eval.specs.Stages.{Stage};
 
-use crate::call::{enter_call, start};
+use crate::call::{Call, enter_call, start};
 use crate::ending::EvalEnding;
 use crate::enter::{follow, follow_statements};
 use crate::frame::Frame;
 use crate::memory::Memory;
 use crate::operation::give;
-use crate::pending::{Due, Now, Pending};
+use crate::pending::{Due, Now, Pending, Run};
 use crate::stop::{Stop, stop_of};
 use crate::take::take_flow;
 use crate::value::Value;
@@ -148,61 +148,79 @@ fn finish<W: Output>(gathered: &mut Gathered, writer: &mut W, ending: EvalEnding
     }
 }
 
+/// What a run knows of its reader and its writer.
+#[derive(Drop)]
+struct Streams {
+    /// The output that isn't written yet.
+    gathered: Gathered,
+    /// Whether the input's end was met.
+    is_over: bool,
+}
+
 /// Moves until a unit is due, and pays it: what is due then. The `Err` is the ending of the run, and all that it writes is written.
 fn pay_unit<'p, R: Input, W: Output>(
     alloc: Global,
-    functions: &'p [Function],
     start: Due<'p>,
-    stack: &mut Vec<Pending<'p>>,
-    frame: &mut Frame,
-    memory: &mut Memory,
-    gathered: &mut Gathered,
+    run: &mut Run<'p>,
+    streams: &mut Streams,
     reader: &mut R,
     writer: &mut W,
-    is_over: &mut bool,
     left: u64,
 ) -> Result<Due<'p>, EvalEnding>
     ensures some { IfOk result (λ due. 0 < left) }
-    ensures goes_on { IfOk result (λ due. (p : CoreProgram) (fuel : ℕ) (read written : Option (List ℕ)) → map function_tree functions.entry.now ≡ p.functions
-        → Stage p fuel left is_over.old (next_of start.entry) (waits_of stack.old.items) (known_of frame.old memory.old)
-        read (R.remaining reader.old) written (W.contents writer.old) gathered.old
-        → Stage p fuel (left - 1) is_over.new (next_of due) (waits_of stack.new.items) (known_of frame.new memory.new)
-        read (R.remaining reader.new) written (W.contents writer.new) gathered.new) }
+    ensures functions { run.new.functions ≡ run.old.functions }
+    ensures goes_on { IfOk result (λ due. (p : CoreProgram) (fuel : ℕ) (read written : Option (List ℕ))
+        → map function_tree run.old.functions.now ≡ p.functions
+        → Stage p fuel left streams.old.is_over (next_of start.entry) (waits_of run.old.stack.items) (known_of run.old.frame run.old.memory)
+        read (R.remaining reader.old) written (W.contents writer.old) streams.old.gathered
+        → Stage p fuel (left - 1) streams.new.is_over (next_of due) (waits_of run.new.stack.items) (known_of run.new.frame run.new.memory)
+        read (R.remaining reader.new) written (W.contents writer.new) streams.new.gathered) }
     ensures ends { IfErr result (λ ending. (p : CoreProgram) (fuel : ℕ) (read written : Option (List ℕ))
-        → Stage p fuel left is_over.old (next_of start.entry) (waits_of stack.old.items) (known_of frame.old memory.old)
-        read (R.remaining reader.old) written (W.contents writer.old) gathered.old
+        → Stage p fuel left streams.old.is_over (next_of start.entry) (waits_of run.old.stack.items) (known_of run.old.frame run.old.memory)
+        read (R.remaining reader.old) written (W.contents writer.old) streams.old.gathered
         → IsEvaluated ending p fuel read (R.remaining reader.new) written (W.contents writer.new)) }
     ensures reads { R.fault_count reader.new ≡ fetch_reads_failed result (R.fault_count reader.old) }
     ensures writes { W.fault_count writer.new ≡ fetch_writes_failed result (W.fault_count writer.old) }
 {
-    let Ok(rest) = advance(alloc, start, stack, frame, memory) else {
-        return Err(finish(gathered, writer, EvalEnding::HostMemory));
+    let Ok(rest) = advance(
+        alloc,
+        start,
+        &mut run.stack,
+        &mut run.frame,
+        &mut run.memory,
+    ) else {
+        return Err(finish(&mut streams.gathered, writer, EvalEnding::HostMemory));
     };
     if let Some(ending) = ending_of(&rest, left) {
-        return Err(finish(gathered, writer, ending));
+        return Err(finish(&mut streams.gathered, writer, ending));
     }
     let paid = match rest {
-        Due::Getchar(to) => match fetch(gathered, reader, writer, is_over) {
-            Ok(answer) => give(frame, to, Value::Word(byte_word(answer))),
-            Err(ending) => return Err(ending),
-        },
+        Due::Getchar(to) => {
+            match fetch(&mut streams.gathered, reader, writer, &mut streams.is_over) {
+                Ok(answer) => give(&mut run.frame, to, Value::Word(byte_word(answer))),
+                Err(ending) => return Err(ending),
+            }
+        }
         Due::Putchar(to, byte) => {
-            if gathered.put(writer, byte).is_err() {
+            if streams.gathered.put(writer, byte).is_err() {
                 return Err(EvalEnding::WriteFault);
             }
-            give(frame, to, Value::Word(byte as u32))
+            give(&mut run.frame, to, Value::Word(byte as u32))
         }
-        Due::Turn(test, flag, body) => enter_turn(test, flag, body, stack),
+        Due::Turn(test, flag, body) => enter_turn(test, flag, body, &mut run.stack),
         Due::Call(to, function, arguments) => {
-            enter_call(
-                alloc, functions, to, function, arguments, stack, frame, memory,
-            )
+            let call = Call {
+                to,
+                function,
+                arguments,
+            };
+            enter_call(alloc, call, run)
         }
         Due::Go(_) | Due::Over(_) | Due::Raised(_) | Due::Wrong => unreachable!(),
     };
     match paid {
         Ok(next) => Ok(next),
-        Err(_) => Err(finish(gathered, writer, EvalEnding::HostMemory)),
+        Err(_) => Err(finish(&mut streams.gathered, writer, EvalEnding::HostMemory)),
     }
 }
 
@@ -235,33 +253,26 @@ pub fn evaluate_core<R: Input, W: Output>(
     ensures writes { W.fault_count writer.new ≡ writes_failed result (W.fault_count writer.old) }
 {
     let begin = start(program);
-    let Ok(mut memory) = Memory::first(alloc, &program.globals, begin.own) else {
+    let Ok(memory) = Memory::first(alloc, &program.globals, begin.own) else {
         return EvalEnding::HostMemory;
     };
-    let mut gathered = Gathered::new();
-    let mut is_over = false;
-    let mut stack = Vec::new(alloc);
-    let mut frame = Frame::new(alloc);
+    let mut run = Run {
+        functions: &program.functions,
+        stack: Vec::new(alloc),
+        frame: Frame::new(alloc),
+        memory,
+    };
+    let mut streams = Streams {
+        gathered: Gathered::new(),
+        is_over: false,
+    };
     let mut due = begin.due;
     let mut left = fuel;
     'units: loop {
-        let functions: &[Function] = &program.functions;
-        match pay_unit(
-            alloc,
-            functions,
-            due,
-            &mut stack,
-            &mut frame,
-            &mut memory,
-            &mut gathered,
-            reader,
-            writer,
-            &mut is_over,
-            left,
-        ) {
+        match pay_unit(alloc, due, &mut run, &mut streams, reader, writer, left) {
             Ok(next) => due = next,
             Err(ending) => {
-                *stop = stop_of(alloc, program.main, &stack, &frame).ok();
+                *stop = stop_of(alloc, program.main, &run.stack, &run.frame).ok();
                 return ending;
             }
         }

@@ -35,6 +35,33 @@ pub struct Place {
     pub cell: u64,
 }
 
+/// A part of an object.
+#[derive(Clone, Copy)]
+pub struct Part {
+    /// The number of its cell.
+    pub cell: u64,
+    /// How many bytes of the object lie before it.
+    pub byte: u64,
+    /// Its number in the cell.
+    pub number: u32,
+    /// How wide it is.
+    pub width: Width,
+}
+
+impl Part {
+    /// The first part of an object.
+    pub fn first(width: Width) -> Self
+        ensures { result ≡ record { cell = 0; byte = 0; number = 0; width = width } }
+    {
+        Part {
+            cell: 0,
+            byte: 0,
+            number: 0,
+            width,
+        }
+    }
+}
+
 /// What a temporary or a cell holds.
 #[derive(Clone, Copy)]
 pub enum Value {
@@ -119,20 +146,20 @@ impl Object {
         }
     }
 
-    /// What a part of the cell with this number holds, if there is one that lies so many bytes on and is so wide.
-    fn value(&self, cell: u64, byte: u64, part: u32, width: Width) -> Option<Value>
-        ensures { result ≡ value_of byte part width (slice_get (cells_of self.now) cell) }
+    /// What a part of it holds, if there is one that lies there and is so wide.
+    fn value(&self, part: Part) -> Option<Value>
+        ensures { result ≡ value_of part.byte part.number part.width (slice_get (cells_of self.now) part.cell) }
     {
         match self {
             Object::Scalar(slot) => {
-                if cell == 0 {
-                    slot.value(byte, part, width)
+                if part.cell == 0 {
+                    slot.value(part.byte, part.number, part.width)
                 } else {
                     None
                 }
             }
-            Object::Whole(slots) => match slots.get(cell as usize) {
-                Some(slot) => slot.value(byte, part, width),
+            Object::Whole(slots) => match slots.get(part.cell as usize) {
+                Some(slot) => slot.value(part.byte, part.number, part.width),
                 None => None,
             },
         }
@@ -193,22 +220,23 @@ impl Object {
         Ok(())
     }
 
-    /// Stores a value to a part of the cell with this number, if there is one that lies so many bytes on and is so wide, and answers
-    /// whether there is.
-    fn put(&mut self, cell: u64, byte: u64, part: u32, width: Width, value: Value) -> bool
-        ensures put { put_cell (cells_of self.old) cell byte part width value ≡ (if result then Some (cells_of self.new) else None) }
+    /// Stores a value to a part of it, if there is one that lies there and is so wide, and answers whether there is.
+    fn put(&mut self, part: Part, value: Value) -> bool
+        ensures put { put_cell (cells_of self.old) part.cell part.byte part.number part.width value ≡ (if result then Some (cells_of self.new) else None) }
         ensures kept { result ≡ false → self.new ≡ self.old }
     {
         match self {
-            Object::Scalar(slot) => cell == 0 && slot.put(byte, part, width, value),
+            Object::Scalar(slot) => {
+                part.cell == 0 && slot.put(part.byte, part.number, part.width, value)
+            }
             Object::Whole(slots) => {
-                let Some(slot) = slots.get(cell as usize) else {
+                let Some(slot) = slots.get(part.cell as usize) else {
                     return false;
                 };
                 let mut changed = *slot;
-                let is_put = changed.put(byte, part, width, value);
+                let is_put = changed.put(part.byte, part.number, part.width, value);
                 if is_put {
-                    slots[cell as usize] = changed;
+                    slots[part.cell as usize] = changed;
                 }
                 is_put
             }
@@ -247,19 +275,12 @@ pub fn slot_in(objects: &[Object], index: usize, cell: u64) -> Option<Slot>
     }
 }
 
-/// What a part of a cell of the object with this number holds, if there is one that lies so many bytes on and is so wide.
-pub fn value_in(
-    objects: &[Object],
-    index: usize,
-    cell: u64,
-    byte: u64,
-    part: u32,
-    width: Width,
-) -> Option<Value>
-    ensures { result ≡ value_of byte part width (slot_at (map cells_of objects.now) index cell) }
+/// What a part of the object with this number holds, if there is one that lies there and is so wide.
+pub fn value_in(objects: &[Object], index: usize, part: Part) -> Option<Value>
+    ensures { result ≡ value_of part.byte part.number part.width (slot_at (map cells_of objects.now) index part.cell) }
 {
     match objects.get(index) {
-        Some(object) => object.value(cell, byte, part, width),
+        Some(object) => object.value(part),
         None => None,
     }
 }
@@ -311,23 +332,14 @@ pub fn value_of(slot: Option<Slot>, byte: u64, part: u32, width: Width) -> Optio
     }
 }
 
-/// Stores a value to a part of a cell of the object with this number, if there is one that lies so many bytes on and is so wide, and
-/// answers whether there is.
-pub fn put_in(
-    objects: &mut Vec<Object>,
-    index: usize,
-    cell: u64,
-    byte: u64,
-    part: u32,
-    width: Width,
-    value: Value,
-) -> bool
-    ensures put { put_in (map cells_of objects.old.items) index cell byte part width value
+/// Stores a value to a part of the object with this number, if there is one that lies there and is so wide, and answers whether there is.
+pub fn put_in(objects: &mut Vec<Object>, index: usize, part: Part, value: Value) -> bool
+    ensures put { put_in (map cells_of objects.old.items) index part.cell part.byte part.number part.width value
         ≡ (if result then Some (map cells_of objects.new.items) else None) }
     ensures kept { result ≡ false → objects.new.items ≡ objects.old.items }
 {
     match objects.get_mut(index) {
-        Some(object) => object.put(cell, byte, part, width, value),
+        Some(object) => object.put(part, value),
         None => false,
     }
 }

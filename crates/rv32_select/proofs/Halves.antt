@@ -1,5 +1,5 @@
 -- A list of statements in two parts, from its end backwards: the second part, and then the first.
-use Rattle.std.proofs.Common.{◌≡◌, ℕ, ◌+◌, ◌≤◌, Bool, List, [], ◌∷◌, ◌++◌, length, reverse, refl, sym, ap, ◌∙◌, arith}
+use Rattle.std.proofs.Common.{◌≡◌, ℕ, ◌+◌, ◌≤◌, ◌/◌, Bool, List, [], ◌∷◌, ◌++◌, length, reverse, refl, sym, ap, ◌∙◌, arith}
 use Rattle.std.proofs.lemmas.List.{append_assoc, append-nil, reverse-append}
 use Rattle.cyc_core.specs.declared.statement.Statement.{Statement}
 use Rattle.cyc_core.specs.Trees.{statement_tree, body_tree}
@@ -17,6 +17,16 @@ size_parts (x ∷ xs) ys = let rest = size_parts xs ys in omega (arith, rest)
 pub size_some : (xs : List Statement) → length xs ≤ statements_size (body_tree xs)
 size_some [] = omega arith
 size_some (x ∷ xs) = let rest = size_some xs in omega (arith, rest)
+
+-- both halves have statements, so that each is less than both
+pub halves_less : (xs ys all : List Statement) (mid : ℕ) → all ≡ xs ++ ys → length xs ≡ mid → length ys + mid ≡ length all → 2 ≤ length all
+    → mid ≡ length all / 2
+    → (statements_size (body_tree xs) + 1 ≤ statements_size (body_tree all)) × (statements_size (body_tree ys) + 1 ≤ statements_size (body_tree all))
+halves_less xs ys all mid is front back many half =
+    let parts = ap (λ ss. statements_size (body_tree ss)) is ∙ size_parts xs ys in
+    let first = size_some xs in
+    let second = size_some ys in
+    (omega (arith, parts, first, second, front, back, many, half), omega (arith, parts, first, second, front, back, many, half))
 
 module _ (homes : List (List ℕ)) (statics : List ℕ) (out again : List Bool) where
   -- a statement alone

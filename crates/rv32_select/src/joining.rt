@@ -13,6 +13,15 @@ use crate::place::Place;
 use cyc_core::{Statement, Temporary};
 use std::alloc::{AllocError, Global};
 
+/// What is loaded where a `Break` and a `Continue` go.
+#[derive(Clone, Copy)]
+pub struct Exits<'l> {
+    /// Where a `Break` goes.
+    pub out: &'l [bool],
+    /// Where a `Continue` goes.
+    pub again: &'l [bool],
+}
+
 /// What is loaded where one way or another goes on, and a temporary, if there is one.
 pub fn joined(
     alloc: Global,
@@ -32,18 +41,17 @@ pub fn joined(
 pub fn loop_head(
     place: &mut Place,
     after: &[bool],
-    out: &[bool],
-    again: &[bool],
+    exits: Exits<'_>,
     test: &[Statement],
     flag: Temporary,
     body: &[Statement],
 ) -> Result<Vec<bool>, AllocError>
     ensures head { let u = surroundings place.old in IfOk result (λ head. head.items ≡ at_loop u.homes u.statics u.names
-        after.now out.now again.now (core.While (body_tree test.now) flag.0 (body_tree body.now))) }
+        after.now exits.entry.out.now exits.entry.again.now (core.While (body_tree test.now) flag.0 (body_tree body.now))) }
     ensures same { OnOk result (surroundings place.new ≡ holding place.new.held (naming (surroundings place.new).names (surroundings place.old))) }
     ensures homes { OnOk result (place.new.homes.items ≡ place.old.homes.items) }
 {
-    let ways = either(place.alloc, out, again)?;
+    let ways = either(place.alloc, exits.out, exits.again)?;
     let mut head = joined(place.alloc, after, ways, None)?;
     flag_while(&mut head, place, test, flag, body)?;
     Ok(head)

@@ -11,7 +11,7 @@ ghost use Rattle.cyc_core.specs.Trees.{local_tree, statement_tree, body_tree};
 ghost use Rattle.rv32_select.specs.Places.{surroundings};
 
 use crate::flags::{copied, either, set_flag};
-use crate::joining::{joined, loop_head};
+use crate::joining::{Exits, joined, loop_head};
 use crate::live_leaves::{
     live_call, live_end, live_jump, live_operation, live_request, live_return,
 };
@@ -26,21 +26,20 @@ use std::alloc::AllocError;
 /// Of how many statements of a list, at most, it is known at once where they begin. Each knows up to 32 temporaries there.
 const FEW: usize = 4096;
 
-/// Goes back over a statement, before which the place is, behind which `live` are loaded, and where a `Break` and a `Continue` go `out` and `again`.
+/// Goes back over a statement, before which the place is, behind which `live` are loaded, and where a `Break` and a `Continue` go those of `exits`.
 /// Appends which of its results are saved, the last one first. The place is somewhere in the same block then.
 #[cycle(live)]
 fn live_statement(
     saves: &mut Vec<bool>,
     place: &mut Place,
     live: &mut Vec<bool>,
-    out: &[bool],
-    again: &[bool],
+    exits: Exits<'_>,
     statement: &Statement,
 ) -> Result<(), AllocError>
     ensures saves { let u = surroundings place.old in OnOk result (saves.new.items ≡ saves.old.items
-        ++ reverse (saves_in u.homes u.statics u.names u.held live.old.items out.now again.now (statement_tree statement.now))) }
+        ++ reverse (saves_in u.homes u.statics u.names u.held live.old.items exits.entry.out.now exits.entry.again.now (statement_tree statement.now))) }
     ensures live { let u = surroundings place.old in OnOk result (live.new.items
-        ≡ live_in u.homes u.statics u.names u.held live.old.items out.now again.now (statement_tree statement.now)) }
+        ≡ live_in u.homes u.statics u.names u.held live.old.items exits.entry.out.now exits.entry.again.now (statement_tree statement.now)) }
     ensures same { OnOk result (surroundings place.new ≡ holding place.new.held (naming (surroundings place.new).names (surroundings place.old))) }
     ensures homes { OnOk result (place.new.homes.items ≡ place.old.homes.items) }
 {
@@ -60,15 +59,15 @@ fn live_statement(
         }
         Statement::UniqueAlloc(to, _) => settle(saves, live, *to),
         Statement::If(test, these, those) => {
-            live_if(saves, place, live, out, again, *test, these, those)
+            live_if(saves, place, live, exits, *test, these, those)
         }
         Statement::While(test, flag, body) => {
-            live_while(saves, place, live, out, again, test, *flag, body)
+            live_while(saves, place, live, exits, test, *flag, body)
         }
-        Statement::Block(locals, body) => live_block(saves, place, live, out, again, locals, body),
-        Statement::Leave(body) => live_leavable(saves, place, live, again, body),
-        Statement::Break => live_jump(live, out),
-        Statement::Continue => live_jump(live, again),
+        Statement::Block(locals, body) => live_block(saves, place, live, exits, locals, body),
+        Statement::Leave(body) => live_leavable(saves, place, live, exits.again, body),
+        Statement::Break => live_jump(live, exits.out),
+        Statement::Continue => live_jump(live, exits.again),
         Statement::Call(results, _, arguments, _) => {
             live_call(saves, &place.held, live, *results, arguments)
         }
@@ -83,19 +82,18 @@ fn live_before(
     saves: &mut Vec<bool>,
     place: &mut Place,
     after: &[bool],
-    out: &[bool],
-    again: &[bool],
+    exits: Exits<'_>,
     statements: &[Statement],
 ) -> Result<Vec<bool>, AllocError>
     ensures saves { let u = surroundings place.old in OnOk result (saves.new.items ≡ saves.old.items
-        ++ reverse (saves_of u.homes u.statics u.names u.held after.now out.now again.now (body_tree statements.now))) }
+        ++ reverse (saves_of u.homes u.statics u.names u.held after.now exits.entry.out.now exits.entry.again.now (body_tree statements.now))) }
     ensures live { let u = surroundings place.old in IfOk result (λ live. live.items
-        ≡ live_of u.homes u.statics u.names u.held after.now out.now again.now (body_tree statements.now)) }
+        ≡ live_of u.homes u.statics u.names u.held after.now exits.entry.out.now exits.entry.again.now (body_tree statements.now)) }
     ensures same { OnOk result (surroundings place.new ≡ holding place.new.held (naming (surroundings place.new).names (surroundings place.old))) }
     ensures homes { OnOk result (place.new.homes.items ≡ place.old.homes.items) }
 {
     let mut live = copied(place.alloc, after)?;
-    live_statements(saves, place, &mut live, out, again, statements)?;
+    live_statements(saves, place, &mut live, exits, statements)?;
     Ok(live)
 }
 
@@ -105,23 +103,22 @@ fn live_check(
     saves: &mut Vec<bool>,
     place: &mut Place,
     live: &mut Vec<bool>,
-    out: &[bool],
-    again: &[bool],
+    exits: Exits<'_>,
     these: &[Statement],
     those: &[Statement],
 ) -> Result<(), AllocError>
     ensures saves { let u = surroundings place.old in OnOk result (saves.new.items ≡ saves.old.items
-        ++ reverse (saves_of u.homes u.statics u.names u.held live.old.items out.now again.now (body_tree these.now))) }
+        ++ reverse (saves_of u.homes u.statics u.names u.held live.old.items exits.entry.out.now exits.entry.again.now (body_tree these.now))) }
     ensures live { let u = surroundings place.old in let behind = names_after_all (body_tree these.now) u.names in
         OnOk result (live.new.items ≡ all_flagged true (loads_of u.homes u.statics behind u.held (body_tree those.now))
-        (live_of u.homes u.statics u.names u.held live.old.items out.now again.now (body_tree these.now))) }
+        (live_of u.homes u.statics u.names u.held live.old.items exits.entry.out.now exits.entry.again.now (body_tree these.now))) }
     ensures same { OnOk result (surroundings place.new ≡ holding place.new.held (naming (surroundings place.new).names (surroundings place.old))) }
     ensures homes { OnOk result (place.new.homes.items ≡ place.old.homes.items) }
 {
     let first = place.point()?;
     let second = point_behind(place, these)?;
     place.go_to(first);
-    live_statements(saves, place, live, out, again, these)?;
+    live_statements(saves, place, live, exits, these)?;
     place.go_to(second);
     flag_all(live, place, those)?;
     Ok(())
@@ -133,28 +130,27 @@ fn live_both(
     saves: &mut Vec<bool>,
     place: &mut Place,
     live: &mut Vec<bool>,
-    out: &[bool],
-    again: &[bool],
+    exits: Exits<'_>,
     these: &[Statement],
     those: &[Statement],
 ) -> Result<(), AllocError>
     ensures saves { let u = surroundings place.old in let behind = names_after_all (body_tree these.now) u.names in
         OnOk result (saves.new.items ≡ saves.old.items
-        ++ reverse (saves_of u.homes u.statics u.names u.held live.old.items out.now again.now (body_tree these.now)
-        ++ saves_of u.homes u.statics behind u.held live.old.items out.now again.now (body_tree those.now))) }
+        ++ reverse (saves_of u.homes u.statics u.names u.held live.old.items exits.entry.out.now exits.entry.again.now (body_tree these.now)
+        ++ saves_of u.homes u.statics behind u.held live.old.items exits.entry.out.now exits.entry.again.now (body_tree those.now))) }
     ensures live { let u = surroundings place.old in let behind = names_after_all (body_tree these.now) u.names in
         OnOk result (live.new.items ≡ either_flagged
-        (live_of u.homes u.statics u.names u.held live.old.items out.now again.now (body_tree these.now))
-        (live_of u.homes u.statics behind u.held live.old.items out.now again.now (body_tree those.now))) }
+        (live_of u.homes u.statics u.names u.held live.old.items exits.entry.out.now exits.entry.again.now (body_tree these.now))
+        (live_of u.homes u.statics behind u.held live.old.items exits.entry.out.now exits.entry.again.now (body_tree those.now))) }
     ensures same { OnOk result (surroundings place.new ≡ holding place.new.held (naming (surroundings place.new).names (surroundings place.old))) }
     ensures homes { OnOk result (place.new.homes.items ≡ place.old.homes.items) }
 {
     let first = place.point()?;
     let second = point_behind(place, these)?;
     place.go_to(second);
-    let other = live_before(saves, place, live, out, again, those)?;
+    let other = live_before(saves, place, live, exits, those)?;
     place.go_to(first);
-    live_statements(saves, place, live, out, again, these)?;
+    live_statements(saves, place, live, exits, these)?;
     *live = either(place.alloc, live, &other)?;
     Ok(())
 }
@@ -165,27 +161,26 @@ fn live_ways(
     saves: &mut Vec<bool>,
     place: &mut Place,
     live: &mut Vec<bool>,
-    out: &[bool],
-    again: &[bool],
+    exits: Exits<'_>,
     these: &[Statement],
     those: &[Statement],
 ) -> Result<(), AllocError>
     ensures saves { let u = surroundings place.old in let behind = names_after_all (body_tree these.now) u.names in
         OnOk result (saves.new.items ≡ saves.old.items
-        ++ reverse (saves_of u.homes u.statics u.names u.held live.old.items out.now again.now (body_tree these.now)
-        ++ saves_of u.homes u.statics behind u.held live.old.items out.now again.now (body_tree those.now))) }
+        ++ reverse (saves_of u.homes u.statics u.names u.held live.old.items exits.entry.out.now exits.entry.again.now (body_tree these.now)
+        ++ saves_of u.homes u.statics behind u.held live.old.items exits.entry.out.now exits.entry.again.now (body_tree those.now))) }
     ensures live { let u = surroundings place.old in let behind = names_after_all (body_tree these.now) u.names in
         OnOk result (live.new.items
         ≡ either_way (raises_only (body_tree those.now)) (loads_of u.homes u.statics behind u.held (body_tree those.now))
-        (live_of u.homes u.statics u.names u.held live.old.items out.now again.now (body_tree these.now))
-        (live_of u.homes u.statics behind u.held live.old.items out.now again.now (body_tree those.now))) }
+        (live_of u.homes u.statics u.names u.held live.old.items exits.entry.out.now exits.entry.again.now (body_tree these.now))
+        (live_of u.homes u.statics behind u.held live.old.items exits.entry.out.now exits.entry.again.now (body_tree those.now))) }
     ensures same { OnOk result (surroundings place.new ≡ holding place.new.held (naming (surroundings place.new).names (surroundings place.old))) }
     ensures homes { OnOk result (place.new.homes.items ≡ place.old.homes.items) }
 {
     if raises_only(those) {
-        live_check(saves, place, live, out, again, these, those)?;
+        live_check(saves, place, live, exits, these, those)?;
     } else {
-        live_both(saves, place, live, out, again, these, those)?;
+        live_both(saves, place, live, exits, these, those)?;
     }
     Ok(())
 }
@@ -196,21 +191,20 @@ fn live_if(
     saves: &mut Vec<bool>,
     place: &mut Place,
     live: &mut Vec<bool>,
-    out: &[bool],
-    again: &[bool],
+    exits: Exits<'_>,
     test: Temporary,
     these: &[Statement],
     those: &[Statement],
 ) -> Result<(), AllocError>
     ensures saves { let u = surroundings place.old in OnOk result (saves.new.items ≡ saves.old.items ++ reverse (saves_in u.homes u.statics u.names u.held
-        live.old.items out.now again.now (core.If test.0 (body_tree these.now) (body_tree those.now)))) }
+        live.old.items exits.entry.out.now exits.entry.again.now (core.If test.0 (body_tree these.now) (body_tree those.now)))) }
     ensures live { let u = surroundings place.old in OnOk result (live.new.items ≡ live_in u.homes u.statics u.names u.held
-        live.old.items out.now again.now (core.If test.0 (body_tree these.now) (body_tree those.now))) }
+        live.old.items exits.entry.out.now exits.entry.again.now (core.If test.0 (body_tree these.now) (body_tree those.now))) }
     ensures same { OnOk result (surroundings place.new ≡ holding place.new.held (naming (surroundings place.new).names (surroundings place.old))) }
     ensures homes { OnOk result (place.new.homes.items ≡ place.old.homes.items) }
 {
     let tested = if_unknown(&place.held, test);
-    live_ways(saves, place, live, out, again, these, those)?;
+    live_ways(saves, place, live, exits, these, those)?;
     flag_some(live, tested);
     Ok(())
 }
@@ -237,7 +231,11 @@ fn live_body(
     pass(place, test)?;
     let tested = if_unknown(&place.held, flag);
     place.held.forget();
-    let inside = live_before(saves, place, head, after, head, body)?;
+    let exits = Exits {
+        out: after,
+        again: head,
+    };
+    let inside = live_before(saves, place, head, exits, body)?;
     joined(place.alloc, after, inside, tested)
 }
 
@@ -247,25 +245,24 @@ fn live_while(
     saves: &mut Vec<bool>,
     place: &mut Place,
     live: &mut Vec<bool>,
-    out: &[bool],
-    again: &[bool],
+    exits: Exits<'_>,
     test: &[Statement],
     flag: Temporary,
     body: &[Statement],
 ) -> Result<(), AllocError>
     ensures saves { let u = surroundings place.old in OnOk result (saves.new.items ≡ saves.old.items ++ reverse (saves_in u.homes u.statics u.names u.held
-        live.old.items out.now again.now (core.While (body_tree test.now) flag.0 (body_tree body.now)))) }
+        live.old.items exits.entry.out.now exits.entry.again.now (core.While (body_tree test.now) flag.0 (body_tree body.now)))) }
     ensures live { let u = surroundings place.old in OnOk result (live.new.items ≡ live_in u.homes u.statics u.names u.held
-        live.old.items out.now again.now (core.While (body_tree test.now) flag.0 (body_tree body.now))) }
+        live.old.items exits.entry.out.now exits.entry.again.now (core.While (body_tree test.now) flag.0 (body_tree body.now))) }
     ensures same { OnOk result (surroundings place.new ≡ holding place.new.held (naming (surroundings place.new).names (surroundings place.old))) }
     ensures homes { OnOk result (place.new.homes.items ≡ place.old.homes.items) }
 {
     let start = place.named;
-    let head = loop_head(place, live, out, again, test, flag, body)?;
+    let head = loop_head(place, live, exits, test, flag, body)?;
     place.go_back(start);
     let mut behind = live_body(saves, place, live, &head, test, flag, body)?;
     place.go_back(start);
-    live_statements(saves, place, &mut behind, out, again, test)?;
+    live_statements(saves, place, &mut behind, exits, test)?;
     *live = head;
     Ok(())
 }
@@ -276,20 +273,19 @@ fn live_block(
     saves: &mut Vec<bool>,
     place: &mut Place,
     live: &mut Vec<bool>,
-    out: &[bool],
-    again: &[bool],
+    exits: Exits<'_>,
     locals: &[Local],
     body: &[Statement],
 ) -> Result<(), AllocError>
     ensures saves { let u = surroundings place.old in OnOk result (saves.new.items ≡ saves.old.items ++ reverse (saves_in u.homes u.statics u.names u.held
-        live.old.items out.now again.now (core.Block (map local_tree locals.now) (body_tree body.now)))) }
+        live.old.items exits.entry.out.now exits.entry.again.now (core.Block (map local_tree locals.now) (body_tree body.now)))) }
     ensures live { let u = surroundings place.old in OnOk result (live.new.items ≡ live_in u.homes u.statics u.names u.held
-        live.old.items out.now again.now (core.Block (map local_tree locals.now) (body_tree body.now))) }
+        live.old.items exits.entry.out.now exits.entry.again.now (core.Block (map local_tree locals.now) (body_tree body.now))) }
     ensures same { OnOk result (surroundings place.new ≡ holding place.new.held (naming (surroundings place.new).names (surroundings place.old))) }
     ensures homes { OnOk result (place.new.homes.items ≡ place.old.homes.items) }
 {
     let low = place.enter(locals)?;
-    live_statements(saves, place, live, out, again, body)?;
+    live_statements(saves, place, live, exits, body)?;
     place.leave(low);
     Ok(())
 }
@@ -311,7 +307,11 @@ fn live_leavable(
     ensures homes { OnOk result (place.new.homes.items ≡ place.old.homes.items) }
 {
     let behind = copied(place.alloc, live)?;
-    live_statements(saves, place, live, &behind, again, body)
+    let exits = Exits {
+        out: &behind,
+        again,
+    };
+    live_statements(saves, place, live, exits, body)
 }
 
 /// Goes back over statements, the last one first. The place is somewhere in the same block then.
@@ -320,21 +320,20 @@ pub fn live_statements(
     saves: &mut Vec<bool>,
     place: &mut Place,
     live: &mut Vec<bool>,
-    out: &[bool],
-    again: &[bool],
+    exits: Exits<'_>,
     statements: &[Statement],
 ) -> Result<(), AllocError>
     ensures saves { let u = surroundings place.old in OnOk result (saves.new.items ≡ saves.old.items
-        ++ reverse (saves_of u.homes u.statics u.names u.held live.old.items out.now again.now (body_tree statements.now))) }
+        ++ reverse (saves_of u.homes u.statics u.names u.held live.old.items exits.entry.out.now exits.entry.again.now (body_tree statements.now))) }
     ensures live { let u = surroundings place.old in OnOk result (live.new.items
-        ≡ live_of u.homes u.statics u.names u.held live.old.items out.now again.now (body_tree statements.now)) }
+        ≡ live_of u.homes u.statics u.names u.held live.old.items exits.entry.out.now exits.entry.again.now (body_tree statements.now)) }
     ensures same { OnOk result (surroundings place.new ≡ holding place.new.held (naming (surroundings place.new).names (surroundings place.old))) }
     ensures homes { OnOk result (place.new.homes.items ≡ place.old.homes.items) }
 {
     match statements {
-        [only] => live_statement(saves, place, live, out, again, only),
-        _ if statements.len() <= FEW => live_few(saves, place, live, out, again, statements),
-        _ => live_halves(saves, place, live, out, again, statements),
+        [only] => live_statement(saves, place, live, exits, only),
+        _ if statements.len() <= FEW => live_few(saves, place, live, exits, statements),
+        _ => live_halves(saves, place, live, exits, statements),
     }
 }
 
@@ -344,14 +343,13 @@ fn live_few(
     saves: &mut Vec<bool>,
     place: &mut Place,
     live: &mut Vec<bool>,
-    out: &[bool],
-    again: &[bool],
+    exits: Exits<'_>,
     statements: &[Statement],
 ) -> Result<(), AllocError>
     ensures saves { let u = surroundings place.old in OnOk result (saves.new.items ≡ saves.old.items
-        ++ reverse (saves_of u.homes u.statics u.names u.held live.old.items out.now again.now (body_tree statements.now))) }
+        ++ reverse (saves_of u.homes u.statics u.names u.held live.old.items exits.entry.out.now exits.entry.again.now (body_tree statements.now))) }
     ensures live { let u = surroundings place.old in OnOk result (live.new.items
-        ≡ live_of u.homes u.statics u.names u.held live.old.items out.now again.now (body_tree statements.now)) }
+        ≡ live_of u.homes u.statics u.names u.held live.old.items exits.entry.out.now exits.entry.again.now (body_tree statements.now)) }
     ensures same { OnOk result (surroundings place.new ≡ holding place.new.held (naming (surroundings place.new).names (surroundings place.old))) }
     ensures homes { OnOk result (place.new.homes.items ≡ place.old.homes.items) }
 {
@@ -359,7 +357,7 @@ fn live_few(
     'each: while let Some(point) = points.pop() {
         place.go_to(point);
         let statement = &statements[points.len()];
-        live_statement(saves, place, live, out, again, statement)?;
+        live_statement(saves, place, live, exits, statement)?;
     }
     Ok(())
 }
@@ -370,23 +368,22 @@ fn live_halves(
     saves: &mut Vec<bool>,
     place: &mut Place,
     live: &mut Vec<bool>,
-    out: &[bool],
-    again: &[bool],
+    exits: Exits<'_>,
     statements: &[Statement],
 ) -> Result<(), AllocError>
     requires { 2 ≤ length statements.now }
     ensures saves { let u = surroundings place.old in OnOk result (saves.new.items ≡ saves.old.items
-        ++ reverse (saves_of u.homes u.statics u.names u.held live.old.items out.now again.now (body_tree statements.now))) }
+        ++ reverse (saves_of u.homes u.statics u.names u.held live.old.items exits.entry.out.now exits.entry.again.now (body_tree statements.now))) }
     ensures live { let u = surroundings place.old in OnOk result (live.new.items
-        ≡ live_of u.homes u.statics u.names u.held live.old.items out.now again.now (body_tree statements.now)) }
+        ≡ live_of u.homes u.statics u.names u.held live.old.items exits.entry.out.now exits.entry.again.now (body_tree statements.now)) }
     ensures same { OnOk result (surroundings place.new ≡ holding place.new.held (naming (surroundings place.new).names (surroundings place.old))) }
     ensures homes { OnOk result (place.new.homes.items ≡ place.old.homes.items) }
 {
     let (first, second) = statements.split_at(statements.len() / 2);
     let start = place.point()?;
     pass(place, first)?;
-    live_statements(saves, place, live, out, again, second)?;
+    live_statements(saves, place, live, exits, second)?;
     place.go_to(start);
-    live_statements(saves, place, live, out, again, first)?;
+    live_statements(saves, place, live, exits, first)?;
     Ok(())
 }

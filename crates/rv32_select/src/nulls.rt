@@ -1,8 +1,7 @@
 // Whether a pointer is NULL: what is known of that, and instructions for it.
 
-ghost use Rattle.std.specs.Prelude.{◌≡◌, ◌++◌, ℕ, None, Some, OnOk, option_map};
+ghost use Rattle.std.specs.Prelude.{◌≡◌, ◌++◌, None, OnOk, option_map};
 ghost use Rattle.core_lines.specs.Held.{source_of, with_moved, null_source};
-ghost use Rattle.core_lines.specs.Operands.{move_kept};
 ghost use Rattle.core_lines.specs.Selected.{null_kept, operation_code};
 ghost use Rattle.core_meaning.specs.Core as core;
 ghost use Rattle.rv32_select.specs.Known.{source_tree};
@@ -10,9 +9,7 @@ ghost use Rattle.rv32_select.specs.Places.{surroundings};
 
 use crate::emit::{FIRST, put};
 use crate::held::{Known, Source, result_register};
-use crate::operands::{
-    put_kept, put_number_kept, put_numbered_kept, put_operand, put_result, put_verdict_kept,
-};
+use crate::operands::{put_operand, put_result, put_source_kept};
 use crate::place::Place;
 use core_lines::{Comparison, Condition, Line};
 use cyc_core::Temporary;
@@ -56,24 +53,6 @@ pub fn hold_null(
     match null_source(known.source(pointer)) {
         Some(source) => known.hold(temporary, source),
         None => known.hold_result(temporary),
-    }
-}
-
-/// Appends the save of a word that is elsewhere too into a temporary's slot, if it is to be saved.
-fn put_source_kept(
-    lines: &mut Vec<Line>,
-    place: &Place,
-    keeps: bool,
-    to: Temporary,
-    source: Source,
-) -> Result<(), AllocError>
-    ensures { (own x : ℕ) → OnOk result (lines.new.items ≡ lines.old.items ++ move_kept keeps place.now.passed own to.0 x (Some (source_tree source))) }
-{
-    match source {
-        Source::Register(register) => put_kept(lines, place, keeps, register, to),
-        Source::Number(word) => put_number_kept(lines, place, keeps, to, word),
-        Source::Compared(comparison) => put_verdict_kept(lines, place, keeps, to, comparison),
-        Source::ComparedWith(numbered) => put_numbered_kept(lines, place, keeps, to, numbered),
     }
 }
 

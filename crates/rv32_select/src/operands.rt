@@ -1,10 +1,11 @@
 // How code comes by the words of temporaries, and which it saves.
 
-ghost use Rattle.std.specs.Prelude.{◌≡◌, ◌++◌, IfOk, OnOk};
+ghost use Rattle.std.specs.Prelude.{◌≡◌, ◌++◌, ℕ, Some, IfOk, OnOk};
 ghost use Rattle.core_lines.specs.Held.{result_register, source_of};
 ghost use Rattle.core_lines.specs.Operands.{into_code, keep_code, number_kept, verdict_kept, numbered_kept, move_kept, test_in, test_ready};
 ghost use Rattle.core_lines.specs.Operands.{stored_in, stored_code};
 ghost use Rattle.core_lines.specs.Selected.{from_temp, to_temp, operand, has_operand, keep_result};
+ghost use Rattle.rv32_select.specs.Known.{source_tree};
 ghost use Rattle.rv32_select.specs.Places.{surroundings};
 
 use crate::comparing::{is_some, put_verdict};
@@ -223,6 +224,24 @@ pub fn put_numbered_kept(
     }
 }
 
+/// Appends the save of a word that is elsewhere too into a temporary's slot, if it is to be saved.
+pub fn put_source_kept(
+    lines: &mut Vec<Line>,
+    place: &Place,
+    keeps: bool,
+    to: Temporary,
+    source: Source,
+) -> Result<(), AllocError>
+    ensures { (own x : ℕ) → OnOk result (lines.new.items ≡ lines.old.items ++ move_kept keeps place.now.passed own to.0 x (Some (source_tree source))) }
+{
+    match source {
+        Source::Register(register) => put_kept(lines, place, keeps, register, to),
+        Source::Number(word) => put_number_kept(lines, place, keeps, to, word),
+        Source::Compared(comparison) => put_verdict_kept(lines, place, keeps, to, comparison),
+        Source::ComparedWith(numbered) => put_numbered_kept(lines, place, keeps, to, numbered),
+    }
+}
+
 /// Appends what gives a temporary the word of another one.
 pub fn put_moved(
     lines: &mut Vec<Line>,
@@ -235,12 +254,7 @@ pub fn put_moved(
         ++ move_kept keeps place.now.passed (result_register to.0) to.0 from.0 (source_of place.now.held from.0)) }
 {
     match place.held.source(from) {
-        Some(source) => match source {
-            Source::Register(register) => put_kept(lines, place, keeps, register, to),
-            Source::Number(word) => put_number_kept(lines, place, keeps, to, word),
-            Source::Compared(comparison) => put_verdict_kept(lines, place, keeps, to, comparison),
-            Source::ComparedWith(numbered) => put_numbered_kept(lines, place, keeps, to, numbered),
-        },
+        Some(source) => put_source_kept(lines, place, keeps, to, source),
         None => {
             put_from(lines, place, result_register(to), from)?;
             put_result(lines, place, keeps, to)

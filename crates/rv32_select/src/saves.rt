@@ -9,6 +9,7 @@ ghost use Rattle.cyc_core.specs.Trees.{function_tree};
 ghost use Rattle.rv32_select.specs.Places.{surroundings, saves_left};
 
 use crate::flags::no_flags;
+use crate::joining::Exits;
 use crate::live::live_statements;
 use crate::place::Place;
 use cyc_core::Function;
@@ -32,7 +33,11 @@ pub fn find_saves(
     let mut saves = Vec::new(place.alloc);
     let mut live = no_flags(place.alloc, count)?;
     let none = no_flags(place.alloc, count)?;
-    live_statements(&mut saves, place, &mut live, &none, &none, &function.body)?;
+    let exits = Exits {
+        out: &none,
+        again: &none,
+    };
+    live_statements(&mut saves, place, &mut live, exits, &function.body)?;
     place.begin_again(function, saves)?;
     Ok(live)
 }

@@ -6,14 +6,14 @@ pub returns-in-Some-clause-put : goal.returns-in-Some-clause-put
 returns-in-Some-clause-put c =
     let bs = c.args.blocks.now.items in
     let within : c.args.position < length bs = search rules in
-    put_some bs c.args.position c.args.index c.args.cell c.args.byte c.args.part c.args.width c.args.value c.in-Some.block.now
+    put_some bs c.args.position c.args.index c.args.part.cell c.args.part.byte c.args.part.number c.args.part.width c.args.value c.in-Some.block.now
     (record { number = c.in-Some.block.now.number; objects = c.put_in.new.objects }) c.put_in.result within c.in-Some.ensures.value refl c.put_in.ensures.put
 
 pub returns-in-None-clause-put : goal.returns-in-None-clause-put
 returns-in-None-clause-put c =
     let bs = c.args.blocks.now.items in
     let past : length bs ≤ c.args.position = search rules in
-    put_none bs c.args.position c.args.index c.args.cell c.args.byte c.args.part c.args.width c.args.value past
+    put_none bs c.args.position c.args.index c.args.part.cell c.args.part.byte c.args.part.number c.args.part.width c.args.value past
 
 pub returns-in-Some-clause-kept : goal.returns-in-Some-clause-kept
 returns-in-Some-clause-kept c =

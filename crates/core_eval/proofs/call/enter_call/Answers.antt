@@ -10,40 +10,40 @@ use Rattle.core_eval.proofs.Calls.{call_enters, call_missing, call_unfit}
 use Rattle.core_eval.proofs.CalledAs.{called_known, call_as}
 use Rattle.core_eval.proofs.call.enter_call.Goals as goal
 
-pub returns-in_default : goal.returns-in_default
-returns-in_default c =
-    let m = c.args.memory.now in
-    call_missing c.args.functions.now (optional_tree c.args.to) c.args.function c.args.arguments.items (known_of c.args.frame.now m)
-    (waits_of c.args.stack.now.items)
+pub returns-in_default-clause-enters : goal.returns-in_default-clause-enters
+returns-in_default-clause-enters c =
+    let m = c.args.run.now.memory in
+    call_missing c.args.run.now.functions.now (optional_tree c.args.call.to) c.args.call.function c.args.call.arguments.items (known_of c.args.run.now.frame m)
+    (waits_of c.args.run.now.stack.items)
     c.in_default.ensures.none
 
-pub returns-then-callee-len : goal.returns-then-callee-len
-returns-then-callee-len c =
-    let m = c.args.memory.now in
-    let unfit : c.in-Some.callee.now.parameters ≢ length c.args.arguments.items = search rules in
-    call_unfit c.args.functions.now (optional_tree c.args.to) c.args.function c.args.arguments.items (known_of c.args.frame.now m)
-    (waits_of c.args.stack.now.items)
+pub returns-then-callee-len-clause-enters : goal.returns-then-callee-len-clause-enters
+returns-then-callee-len-clause-enters c =
+    let m = c.args.run.now.memory in
+    let unfit : c.in-Some.callee.now.parameters ≢ length c.args.call.arguments.items = search rules in
+    call_unfit c.args.run.now.functions.now (optional_tree c.args.call.to) c.args.call.function c.args.call.arguments.items (known_of c.args.run.now.frame m)
+    (waits_of c.args.run.now.stack.items)
     c.in-Some.callee.now c.in-Some.ensures.some unfit
 
-pub returns : goal.returns
-returns c =
-    let fits : c.in-Some.callee.now.parameters ≡ length c.args.arguments.items = search rules in
-    let ws = waits_of c.args.stack.now.items in
-    let f = c.args.frame.now in
-    let m = c.args.memory.now in
+pub returns-clause-enters : goal.returns-clause-enters
+returns-clause-enters c =
+    let fits : c.in-Some.callee.now.parameters ≡ length c.args.call.arguments.items = search rules in
+    let ws = waits_of c.args.run.now.stack.items in
+    let f = c.args.run.now.frame in
+    let m = c.args.run.now.memory in
     let m' = c.enter_call.new.self in
     let counted : c.len-2.result ≡ length m.blocks.items = search rules in
     let outside : c.len-2.result ≡ length (map activation_of m.blocks.items) = counted ∙ sym (length-map m.blocks.items activation_of) in
-    call_as (map function_tree c.args.functions.now) (optional_tree c.args.to) c.args.function (map content_of c.args.arguments.items) ws
+    call_as (map function_tree c.args.run.now.functions.now) (optional_tree c.args.call.to) c.args.call.function (map content_of c.args.call.arguments.items) ws
     (known_of f m) _ _ _ _ _ _
     (ap (λ b. Go (Follow (body_tree b))) c.deref-2.ensures.value)
-    (c.in_ok-wait.ensures ∙ ap (λ f. Caller (optional_tree c.args.to) c.args.function (saved_of f) ∷ ws) c.replace-saved.ensures.value)
+    (c.in_ok-wait.ensures ∙ ap (λ f. Caller (optional_tree c.args.call.to) c.args.call.function (saved_of f) ∷ ws) c.replace-saved.ensures.value)
     (ap (λ f. known_of f m') c.replace-saved.ensures.after
-    ∙ called_known f m m' (record { temps = c.args.arguments; base = c.len-2.result; at = record { 0 = 0 } }) c.in-Some.callee.now.own.items outside
+    ∙ called_known f m m' (record { temps = c.args.call.arguments; base = c.len-2.result; at = record { 0 = 0 } }) c.in-Some.callee.now.own.items outside
     c.in_ok-enter_call.ensures.blocks c.in_ok-enter_call.ensures.entered
     (c.in_ok-enter_call.ensures.owns
     ∙ ap (λ os. record { number = m.called; objects = os } ∷ map activation_of m.owns.items)
     (c.in_ok-own.ensures ∙ ap (map blank_object) c.deref.ensures.value))
     c.in_ok-enter_call.ensures.called c.in_ok-enter_call.ensures.globals c.in_ok-enter_call.ensures.regions c.in_ok-enter_call.ensures.long_blocks)
-    (call_enters c.args.functions.now (optional_tree c.args.to) c.args.function c.args.arguments.items
+    (call_enters c.args.run.now.functions.now (optional_tree c.args.call.to) c.args.call.function c.args.call.arguments.items
     (known_of f m) ws c.in-Some.callee.now c.in-Some.ensures.some fits)

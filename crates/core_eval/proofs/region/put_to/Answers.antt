@@ -7,8 +7,8 @@ pub returns-in-Some-clause-put : goal.returns-in-Some-clause-put
 returns-in-Some-clause-put c =
     let rs = c.args.regions.now.items in
     let within : c.args.number < length rs = search rules in
-    change_some rs c.args.number (put_held c.args.index c.args.cell c.args.byte c.args.part c.args.width c.args.value) c.in-Some.region.now c.put.new.self c.put.result
-    within c.in-Some.ensures.value c.put.ensures.put
+    change_some rs c.args.number (put_held c.args.index c.args.part.cell c.args.part.byte c.args.part.number c.args.part.width c.args.value)
+    c.in-Some.region.now c.put.new.self c.put.result within c.in-Some.ensures.value c.put.ensures.put
 
 pub returns-in-Some-clause-kept : goal.returns-in-Some-clause-kept
 returns-in-Some-clause-kept c =
@@ -20,4 +20,4 @@ pub returns-in-None-clause-put : goal.returns-in-None-clause-put
 returns-in-None-clause-put c =
     let rs = c.args.regions.now.items in
     let past : length rs ≤ c.args.number = search rules in
-    change_none rs c.args.number (put_held c.args.index c.args.cell c.args.byte c.args.part c.args.width c.args.value) past refl
+    change_none rs c.args.number (put_held c.args.index c.args.part.cell c.args.part.byte c.args.part.number c.args.part.width c.args.value) past refl

@@ -21,12 +21,13 @@ units-init g c =
     record {
       reads = refl;
       writes = refl;
+      functions = ap (map function_tree) c.deref-2.ensures.value;
       stage = stage_as _ (begun (program_tree p) c.args.fuel (next_of c.start-begin.result.due) (first_known p.globals.items own)
           (g.R.Read.remaining c.args.reader.now) (g.W.Write.contents c.args.writer.now) c.start-begin.ensures) _ _ _ _ refl
-          (ap waits_of c.new-stack.ensures.items)
-          (c.in-Ok.ensures c.new-frame.result c.new-frame.ensures.temps c.new-frame.ensures.base
+          (ap waits_of c.new.ensures.items)
+          (c.in-Ok.ensures c.new-2.result c.new-2.ensures.temps c.new-2.ensures.base
           ∙ ap (λ ds. first_known ds own) c.deref.ensures.value)
-          c.new-gathered.ensures;
+          c.new-3.ensures;
     }
 
 pub units-preserved : goal.units-preserved
@@ -36,7 +37,8 @@ units-preserved g c =
     record {
       reads = r.ensures.reads ∙ i.reads;
       writes = r.ensures.writes ∙ i.writes;
-      stage = r.ensures.goes_on (program_tree c.args.program.now) c.args.fuel _ _ (ap (map function_tree) c.deref-functions.ensures.value) i.stage;
+      functions = (λ k. map function_tree ((r.ensures.functions k).now)) ∙ i.functions;
+      stage = r.ensures.goes_on (program_tree c.args.program.now) c.args.fuel _ _ i.functions i.stage;
     }
 
 pub returns-in-Err-clause-evaluated : goal.returns-in-Err-clause-evaluated

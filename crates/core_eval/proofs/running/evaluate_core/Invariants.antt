@@ -1,6 +1,6 @@
-use Rattle.std.proofs.Common.{◌≡◌}
+use Rattle.std.proofs.Common.{◌≡◌, map}
 use Rattle.core_eval.specs.Pendings.{next_of, waits_of}
-use Rattle.cyc_core.specs.Trees.{program_tree}
+use Rattle.cyc_core.specs.Trees.{program_tree, function_tree}
 use Rattle.core_eval.specs.Standing.{known_of}
 use Rattle.core_eval.specs.Stages.{Stage}
 use Rattle.core_eval.proofs.running.evaluate_core.Given as goal
@@ -9,9 +9,10 @@ abbrev pub invariant-units : goal.invariant-units
 invariant-units g l = record {
   reads : g.R.Input.fault_count l.reader ≡ g.R.Input.fault_count l.fn.reader;
   writes : g.W.Output.fault_count l.writer ≡ g.W.Output.fault_count l.fn.writer;
-  stage : Stage (program_tree l.fn.program) l.fn.fuel l.left l.is_over (next_of l.due) (waits_of l.stack.items) (known_of l.frame l.memory)
+  functions : map function_tree l.run.functions.now ≡ (program_tree l.fn.program).functions;
+  stage : Stage (program_tree l.fn.program) l.fn.fuel l.left l.streams.is_over (next_of l.due) (waits_of l.run.stack.items) (known_of l.run.frame l.run.memory)
       (g.R.Read.remaining l.fn.reader)
-      (g.R.Read.remaining l.reader) (g.W.Write.contents l.fn.writer) (g.W.Write.contents l.writer) l.gathered;
+      (g.R.Read.remaining l.reader) (g.W.Write.contents l.fn.writer) (g.W.Write.contents l.writer) l.streams.gathered;
 }
 
 abbrev pub decreases-units : goal.decreases-units

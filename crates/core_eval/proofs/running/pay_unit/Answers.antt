@@ -47,13 +47,13 @@ returns-in-Err-paid-clause-ends g c = λ p fuel read written stage.
           let flushed = stage_wrote _ y _ [] (all_written _ _ _ w.in-Ok-fetch.ensures.all) in
           let z = stage_as _ flushed _ _ _ w.fetch.new.gathered refl refl refl w.in-Ok-fetch.ensures.empty in
           rw w.reader-is (got_stopped z some _ _ w.in-Ok-fetch.answer w.in-Ok-fetch.ensures.answer (search rules) f.result _ f.ensures.same
-          (rw (w.writer-is, w.gathered-is) at f.ensures.written))
+          (rw (w.writer-is, w.streams-is) at f.ensures.written))
       | in-Putchar+else-is_err w ↦
           let y = stage_as _ x (PutcharDue w.in-Putchar.to.0 w.in-Putchar.byte) _ _ _ (sym (ap next_of w.in-Putchar.is)) refl refl refl in
           let moved = of_ok w.put.result w.put.ensures.all (sym w.is_err.ensures.value ∙ w.if-is_err.false) in
-          rw w.reader-is (put_stopped y some _ _ moved f.result _ f.ensures.same (rw (w.writer-is, w.gathered-is) at f.ensures.written))
-      | in-Turn w ↦ rw w.reader-is (stage_stopped x f.result _ f.ensures.same (rw (w.writer-is, w.gathered-is) at f.ensures.written))
-      | in-Call w ↦ rw w.reader-is (stage_stopped x f.result _ f.ensures.same (rw (w.writer-is, w.gathered-is) at f.ensures.written))
+          rw w.reader-is (put_stopped y some _ _ moved f.result _ f.ensures.same (rw (w.writer-is, w.streams-is) at f.ensures.written))
+      | in-Turn w ↦ rw w.reader-is (stage_stopped x f.result _ f.ensures.same (rw (w.writer-is, w.streams-is) at f.ensures.written))
+      | in-Call w ↦ rw w.reader-is (stage_stopped x f.result _ f.ensures.same (rw (w.writer-is, w.streams-is) at f.ensures.written))
     ]
 
 -- what a result that is `Ok` ensures
@@ -78,7 +78,7 @@ returns-in-Ok-paid-clause-goes_on g c = λ p fuel read written same stage.
           (on_ok w.give.result next e w.give.ensures.gives) in
           let got = stage_get w.in-Getchar.to.0 w.give.new.frame.temps.items z some _ _ w.in-Ok-fetch.answer w.in-Ok-fetch.ensures.answer
           (search rules) gives in
-          rw (w.reader-is, w.writer-is, w.gathered-is, w.is_over-is, w.stack-is, w.frame-is, w.memory-is)
+          rw (w.reader-is, w.writer-is, w.streams-is, w.run-is)
           (stage_as _ got _ _ _ _ (if_ok w.give.result (λ due. next_of due ≡ Go (Leave steps.Falls)) next e w.give.ensures.next) refl
           (given_known c.advance.new.frame w.give.new.frame c.advance.new.memory (on_ok w.give.result next e w.give.ensures.base)) refl)
       | in-Putchar+else-is_err w ↦
@@ -88,7 +88,7 @@ returns-in-Ok-paid-clause-goes_on g c = λ p fuel read written same stage.
           let z = stage_put w.in-Putchar.to.0 w.in-Putchar.byte w.give-paid.new.frame.temps.items y some
           (on_ok w.give-paid.result next e w.give-paid.ensures.gives) in
           let moved = stage_wrote _ z _ _ (of_ok w.put.result w.put.ensures.all ok) in
-          rw (w.reader-is, w.writer-is, w.gathered-is, w.is_over-is, w.stack-is, w.frame-is, w.memory-is)
+          rw (w.reader-is, w.writer-is, w.streams-is, w.run-is)
           (stage_as _ moved _ _ _ _ (if_ok w.give-paid.result (λ due. next_of due ≡ Go (Leave steps.Falls)) next e w.give-paid.ensures.next) refl
           (given_known c.advance.new.frame w.give-paid.new.frame c.advance.new.memory
           (on_ok w.give-paid.result next e w.give-paid.ensures.base)) refl)
@@ -97,7 +97,7 @@ returns-in-Ok-paid-clause-goes_on g c = λ p fuel read written same stage.
           let test = body_tree w.in-Turn.test.now in
           let body = body_tree w.in-Turn.body.now in
           let y = stage_as _ x (TurnDue test w.in-Turn.flag.0 body) _ _ _ (sym (ap next_of w.in-Turn.is)) refl refl refl in
-          rw (w.reader-is, w.writer-is, w.gathered-is, w.is_over-is, w.stack-is, w.frame-is, w.memory-is)
+          rw (w.reader-is, w.writer-is, w.streams-is, w.run-is)
           (stage_as _ (stage_turn test w.in-Turn.flag.0 body y some) _ _ _ _
           (if_ok w.enter_turn-paid.result (λ due. next_of due ≡ Go (Follow body)) next e w.enter_turn-paid.ensures.next)
           (on_ok w.enter_turn-paid.result next e w.enter_turn-paid.ensures.waits) refl refl)
@@ -107,13 +107,14 @@ returns-in-Ok-paid-clause-goes_on g c = λ p fuel read written same stage.
           let called = map content_of w.in-Call.arguments.items in
           let y = stage_as _ x (CallDue (optional_tree w.in-Call.to) w.in-Call.function called) _ _ _ (sym (ap next_of w.in-Call.is)) refl refl refl in
           let entered = if_ok w.enter_call-paid.result
-          (λ due. IsCall (map function_tree c.args.functions.now) (optional_tree w.in-Call.to)
+          (λ due. IsCall (map function_tree c.args.run.now.functions.now) (optional_tree w.in-Call.to)
           w.in-Call.function called (waits_of c.advance.new.stack.items) (known_of c.advance.new.frame m) (next_of due)
-          (waits_of w.enter_call-paid.new.stack.items) (known_of w.enter_call-paid.new.frame w.enter_call-paid.new.memory)) next e w.enter_call-paid.ensures in
+          (waits_of w.enter_call-paid.new.run.stack.items) (known_of w.enter_call-paid.new.run.frame w.enter_call-paid.new.run.memory))
+          next e w.enter_call-paid.ensures.enters in
           let call = subst (λ (fs : List Function). IsCall fs (optional_tree w.in-Call.to) w.in-Call.function called
           (waits_of c.advance.new.stack.items) (known_of c.advance.new.frame m) (next_of next)
-          (waits_of w.enter_call-paid.new.stack.items) (known_of w.enter_call-paid.new.frame w.enter_call-paid.new.memory))
+          (waits_of w.enter_call-paid.new.run.stack.items) (known_of w.enter_call-paid.new.run.frame w.enter_call-paid.new.run.memory))
           same entered in
-          rw (w.reader-is, w.writer-is, w.gathered-is, w.is_over-is, w.stack-is, w.frame-is, w.memory-is)
+          rw (w.reader-is, w.writer-is, w.streams-is, w.run-is)
           (stage_call (optional_tree w.in-Call.to) w.in-Call.function called _ _ _ y some call)
     ]

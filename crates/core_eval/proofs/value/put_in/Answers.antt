@@ -6,11 +6,11 @@ pub returns-in-Some-clause-put : goal.returns-in-Some-clause-put
 returns-in-Some-clause-put c =
     let os = c.args.objects.now.items in
     let within : c.args.index < length os = search rules in
-    put_object_some os c.args.index c.args.cell c.args.byte c.args.part c.args.width c.args.value c.in-Some.object.now c.put.new.self c.put.result within
-    c.in-Some.ensures.value c.put.ensures.put
+    put_object_some os c.args.index c.args.part.cell c.args.part.byte c.args.part.number c.args.part.width c.args.value c.in-Some.object.now
+    c.put.new.self c.put.result within c.in-Some.ensures.value c.put.ensures.put
 
 pub returns-in-None-clause-put : goal.returns-in-None-clause-put
 returns-in-None-clause-put c =
     let os = c.args.objects.now.items in
     let past : length os ≤ c.args.index = search rules in
-    put_object_none os c.args.index c.args.cell c.args.byte c.args.part c.args.width c.args.value past
+    put_object_none os c.args.index c.args.part.cell c.args.part.byte c.args.part.number c.args.part.width c.args.value past

@@ -1,48 +1,22 @@
-use Rattle.std.proofs.Common.{
-  ◌≡◌,
-  ◌∙◌,
-  ◌+◌,
-  ◌<◌,
-  ◌≤◌,
-  ◌/◌,
-  ◌++◌,
-  ℕ,
-  Bool,
-  List,
-  [],
-  ◌∷◌,
-  true,
-  false,
-  ap,
-  ap₂,
-  arith,
-  rules,
-  get_or,
-  length,
-  map,
-  reverse,
-  take,
-  subst,
-  sym,
-  refl,
-}
+use Rattle.std.proofs.Common.{◌≡◌, ◌∙◌, ◌+◌, ◌<◌, ◌++◌, ℕ, Bool, List, [], ◌∷◌, true, false, ap, ap₂, arith, rules}
+use Rattle.std.proofs.Common.{get_or, length, map, reverse, take, subst, sym, refl}
 use Rattle.std.specs.Prelude.{OnOk, Result}
-use Rattle.std.proofs.lemmas.List.{append_assoc, reverse-append, length-map, map-append, length_push, take_all, take_more}
-use Rattle.core_meaning.specs.Core.{Statement, Statements, If, While, Block, Leave}
+use Rattle.std.proofs.lemmas.List.{length-map, map-append, length_push, take_all, take_more}
+use Rattle.core_meaning.specs.Core.{Statement, If, While, Block, Leave}
 use Rattle.cyc_core.specs.Trees.{local_tree, body_tree, optional_tree, statement_tree, temporary_tree}
 use Rattle.cyc_core.specs.declared.operation.Temporary.{Temporary}
-use Rattle.cyc_core.specs.declared.statement.Statement as code
 use Rattle.core_lines.specs.Held.{held_behind_all}
-use Rattle.core_lines.specs.Loaded.{unknown_in, loads_of}
-use Rattle.core_lines.specs.Saved.{all_flagged, either_flagged, live_in, live_of, saves_in, saves_of}
+use Rattle.core_lines.specs.Loaded.{unknown_in}
+use Rattle.core_lines.specs.Saved.{all_flagged, live_in, live_of, saves_in, saves_of}
 use Rattle.core_lines.specs.Selected.{Surroundings, holding, names_after_all, naming}
 use Rattle.rv32_select.specs.Places.{surroundings}
 use Rattle.rv32_select.specs.Starts.{Start, point_start, starting, starts_of}
 use Rattle.cyc_core.proofs.Forms.{block_tree, call_tree, do_tree, if_tree, leave_tree, while_tree}
 use Rattle.rv32_select.proofs.Sizes.{statement_size, statements_size}
 use Rattle.rv32_select.proofs.Backwards.{ends_alike, size_last, last_start, starts_last, starts_many, as_same, same_back, same_there, live_back, saves_back}
-use Rattle.rv32_select.proofs.Halves.{size_parts, size_some, halves_live, halves_saves}
+use Rattle.rv32_select.proofs.Halves.{halves_less, halves_live, halves_saves}
 use Rattle.rv32_select.proofs.Raised.{check_saves}
+use Rattle.rv32_select.proofs.Choices.{first_saves, both_saves, both_live, check_live}
 use Rattle.rv32_select.proofs.live.+live.Goals as goal
 
 -- what is loaded before a statement, and which of its results are saved; the place is somewhere in the same block
@@ -70,8 +44,9 @@ live_few-each-init n c =
     let size = ap (λ ss. statements_size (body_tree ss)) all in
     record {
       points = found ∙ ap (λ ss. starts_of u.homes u.statics u.names u.held (body_tree ss)) (sym all);
-      live = ap (λ ss. live_of u.homes u.statics u.names u.held c.args.live.now.items c.args.out.now c.args.again.now (body_tree ss)) all;
-      saves = ap (λ ss. c.args.saves.now.items ++ reverse (saves_of u.homes u.statics u.names u.held c.args.live.now.items c.args.out.now c.args.again.now
+      live = ap (λ ss. live_of u.homes u.statics u.names u.held c.args.live.now.items c.args.exits.out.now c.args.exits.again.now (body_tree ss)) all;
+      saves = ap (λ ss. c.args.saves.now.items ++ reverse (saves_of u.homes u.statics u.names u.held c.args.live.now.items c.args.exits.out.now
+          c.args.exits.again.now
           (body_tree ss))) all;
       same = c.in_ok-points.ensures.same;
       homes = c.in_ok-points.ensures.homes;
@@ -109,8 +84,8 @@ live_few-each-preserved n c =
     let u = surroundings c.args.place.now in
     let homes = c.args.place.now.homes.items in
     let xs = c.args.statements.now in
-    let out = c.args.out.now in
-    let again = c.args.again.now in
+    let out = c.args.exits.out.now in
+    let again = c.args.exits.again.now in
     let left = c.pop.new.self.items in
     let point = c.in-Some.point in
     let k = length left in
@@ -160,7 +135,7 @@ pub live_statement-returns-in-If : goal.live_statement-returns-in-If
 live_statement-returns-in-If t c =
     let a = c.args in
     let x = c.in-If in
-    judged_as c.live_if.result a.saves.now.items c.live_if.new.saves.items a.live.now.items c.live_if.new.live.items a.out.now a.again.now
+    judged_as c.live_if.result a.saves.now.items c.live_if.new.saves.items a.live.now.items c.live_if.new.live.items a.exits.out.now a.exits.again.now
     a.place.now.homes.items c.live_if.new.place.homes.items (surroundings a.place.now) (surroundings c.live_if.new.place)
     (If x.test.0 (body_tree c.deref.result.now) (body_tree c.deref-in-If.result.now)) (statement_tree a.statement.now)
     (ap statement_tree x.is ∙ if_tree x.test x.these x.those
@@ -181,7 +156,7 @@ pub live_statement-returns-in-While : goal.live_statement-returns-in-While
 live_statement-returns-in-While t c =
     let a = c.args in
     let x = c.in-While in
-    judged_as c.live_while.result a.saves.now.items c.live_while.new.saves.items a.live.now.items c.live_while.new.live.items a.out.now a.again.now
+    judged_as c.live_while.result a.saves.now.items c.live_while.new.saves.items a.live.now.items c.live_while.new.live.items a.exits.out.now a.exits.again.now
     a.place.now.homes.items c.live_while.new.place.homes.items (surroundings a.place.now) (surroundings c.live_while.new.place)
     (While (body_tree c.deref-in-While.result.now) x.flag.0 (body_tree c.deref-in-While-2.result.now)) (statement_tree a.statement.now)
     (ap statement_tree x.is ∙ while_tree x.test x.flag x.body
@@ -200,7 +175,7 @@ pub live_statement-returns-in-Block : goal.live_statement-returns-in-Block
 live_statement-returns-in-Block t c =
     let a = c.args in
     let x = c.in-Block in
-    judged_as c.live_block.result a.saves.now.items c.live_block.new.saves.items a.live.now.items c.live_block.new.live.items a.out.now a.again.now
+    judged_as c.live_block.result a.saves.now.items c.live_block.new.saves.items a.live.now.items c.live_block.new.live.items a.exits.out.now a.exits.again.now
     a.place.now.homes.items c.live_block.new.place.homes.items (surroundings a.place.now) (surroundings c.live_block.new.place)
     (Block (map local_tree c.deref-in-Block.result.now) (body_tree c.deref-in-Block-2.result.now)) (statement_tree a.statement.now)
     (ap statement_tree x.is ∙ block_tree x.locals x.body
@@ -219,59 +194,13 @@ pub live_statement-returns-in-Leave : goal.live_statement-returns-in-Leave
 live_statement-returns-in-Leave t c =
     let a = c.args in
     let x = c.in-Leave in
-    judged_as c.live_leavable.result a.saves.now.items c.live_leavable.new.saves.items a.live.now.items c.live_leavable.new.live.items a.out.now a.again.now
+    judged_as c.live_leavable.result a.saves.now.items c.live_leavable.new.saves.items a.live.now.items c.live_leavable.new.live.items
+    a.exits.out.now a.exits.again.now
     a.place.now.homes.items c.live_leavable.new.place.homes.items (surroundings a.place.now) (surroundings c.live_leavable.new.place)
     (Leave (body_tree c.deref-in-Leave.result.now)) (statement_tree a.statement.now)
     (ap statement_tree x.is ∙ leave_tree x.body
     ∙ ap (λ ss. Leave (body_tree ss)) (sym c.deref-in-Leave.ensures.value))
     c.live_leavable.ensures
-
--- the ways of a choice, from behind it: its second statements, which begin behind the first, and then the first
-module _ (u first second : Surroundings) (these those : Statements) (kept out loop : List Bool)
-    (at_first : first ≡ u) (at_second : second ≡ holding u.held (naming (names_after_all these u.names) u)) where
-  first_saves : (old new : List Bool) → new ≡ old ++ reverse (saves_of first.homes first.statics first.names first.held kept out loop these)
-      → new ≡ old ++ reverse (saves_of u.homes u.statics u.names u.held kept out loop these)
-  first_saves old new new_is =
-      new_is ∙ (λ i. old ++ reverse (saves_of ((at_first i).homes) ((at_first i).statics) ((at_first i).names) ((at_first i).held) kept out loop these))
-
-  both_saves : (old middle new after : List Bool) → after ≡ kept
-      → middle ≡ old ++ reverse (saves_of second.homes second.statics second.names second.held after out loop those)
-      → new ≡ middle ++ reverse (saves_of first.homes first.statics first.names first.held kept out loop these)
-      → new ≡ old ++ reverse (saves_of u.homes u.statics u.names u.held kept out loop these
-      ++ saves_of u.homes u.statics (names_after_all these u.names) u.held kept out loop those)
-  both_saves old middle new after after_is middle_is new_is =
-      let one = saves_of u.homes u.statics u.names u.held kept out loop these in
-      let other = saves_of u.homes u.statics (names_after_all these u.names) u.held kept out loop those in
-      let other_is : middle ≡ old ++ reverse other = middle_is
-      ∙ (λ i. old ++ reverse (saves_of ((at_second i).homes) ((at_second i).statics) ((at_second i).names) ((at_second i).held) (after_is i)
-      out loop those)) in
-      first_saves middle new new_is ∙ ap (λ bs. bs ++ reverse one) other_is ∙ append_assoc old (reverse other) (reverse one)
-      ∙ ap (λ bs. old ++ bs) (sym (reverse-append one other))
-
-  first_live : (left : List Bool) → left ≡ live_of first.homes first.statics first.names first.held kept out loop these
-      → left ≡ live_of u.homes u.statics u.names u.held kept out loop these
-  first_live left left_is =
-      left_is ∙ (λ i. live_of ((at_first i).homes) ((at_first i).statics) ((at_first i).names) ((at_first i).held) kept out loop these)
-
-  both_live : (after left one other two new : List Bool) → after ≡ kept
-      → other ≡ live_of second.homes second.statics second.names second.held after out loop those
-      → left ≡ live_of first.homes first.statics first.names first.held kept out loop these → one ≡ left → two ≡ other
-      → new ≡ either_flagged one two
-      → new ≡ either_flagged (live_of u.homes u.statics u.names u.held kept out loop these)
-      (live_of u.homes u.statics (names_after_all these u.names) u.held kept out loop those)
-  both_live after left one other two new after_is other_is left_is one_is two_is new_is =
-      let other_at = two_is ∙ other_is
-      ∙ (λ i. live_of ((at_second i).homes) ((at_second i).statics) ((at_second i).names) ((at_second i).held) (after_is i) out loop those) in
-      let one_at = one_is ∙ first_live left left_is in
-      new_is ∙ (λ i. either_flagged (one_at i) (other_at i))
-
-  check_live : (left new : List Bool) → left ≡ live_of first.homes first.statics first.names first.held kept out loop these
-      → new ≡ all_flagged true (loads_of second.homes second.statics second.names second.held those) left
-      → new ≡ all_flagged true (loads_of u.homes u.statics (names_after_all these u.names) u.held those)
-      (live_of u.homes u.statics u.names u.held kept out loop these)
-  check_live left new left_is new_is =
-      let left_at = first_live left left_is in
-      new_is ∙ (λ i. all_flagged true (loads_of ((at_second i).homes) ((at_second i).statics) ((at_second i).names) ((at_second i).held) those) (left_at i))
 
 pub live_both-returns : goal.live_both-returns
 live_both-returns t c =
@@ -298,10 +227,10 @@ live_both-returns t c =
     ∙ ap (λ (s : Start). starting s u) (ap (λ hs. point_start hs c.in_ok-first.first) homes ∙ c.in_ok-first.ensures) in
     record {
       saves =
-          both_saves u first second these those kept a.out.now a.again.now at_first at_second a.saves.now.items c.live_before.new.saves.items
+          both_saves u first second these those kept a.exits.out.now a.exits.again.now at_first at_second a.saves.now.items c.live_before.new.saves.items
           c.live_statements.new.saves.items c.deref.result.now c.deref.ensures.value other.saves done.saves;
       live =
-          both_live u first second these those kept a.out.now a.again.now at_first at_second c.deref.result.now c.live_statements.new.live.items
+          both_live u first second these those kept a.exits.out.now a.exits.again.now at_first at_second c.deref.result.now c.live_statements.new.live.items
           c.deref-2.result.now c.in_ok-other.other.items c.deref-3.result.now c.in_ok-live.field-0.items c.deref.ensures.value other.live done.live
           c.deref-2.ensures.value c.deref-3.ensures.value c.in_ok-live.ensures;
       same = done.same ∙ ap (λ (v : Surroundings). holding last.held (naming last.names v)) at_first;
@@ -334,9 +263,10 @@ live_check-returns t c =
     ∙ ap (λ (v : Surroundings). holding (held_behind_all v.homes v.statics v.held those) (naming (names_after_all those v.names) v)) at_second in
     record {
       saves =
-          first_saves u first second these those kept a.out.now a.again.now at_first at_second a.saves.now.items c.live_statements.new.saves.items
+          first_saves u first second these those kept a.exits.out.now a.exits.again.now at_first at_second a.saves.now.items c.live_statements.new.saves.items
           done.saves;
-      live = check_live u first second these those kept a.out.now a.again.now at_first at_second c.live_statements.new.live.items c.flag_all.new.flags.items
+      live = check_live u first second these those kept a.exits.out.now a.exits.again.now at_first at_second
+          c.live_statements.new.live.items c.flag_all.new.flags.items
           done.live loads.flags;
       same = as_same u (surroundings c.flag_all.new.place) _ _ last;
       homes = loads.homes ∙ c.go_to-2.ensures.homes ∙ homes;
@@ -350,7 +280,7 @@ live_ways-returns-in_ok-live_check-clause-saves t c =
     let these = body_tree a.these.now in
     let only = sym c.raises_only.ensures ∙ c.if-raises_only.true in
     c.in_ok-live_check.ensures.saves
-    ∙ ap (λ bs. a.saves.now.items ++ reverse bs) (check_saves u.homes u.statics u.held a.live.now.items a.out.now a.again.now u.names
+    ∙ ap (λ bs. a.saves.now.items ++ reverse bs) (check_saves u.homes u.statics u.held a.live.now.items a.exits.out.now a.exits.again.now u.names
     (names_after_all these u.names) these (body_tree a.those.now) only)
 
 pub live_statement-returns-in-Do-clause-saves : goal.live_statement-returns-in-Do-clause-saves
@@ -359,7 +289,7 @@ live_statement-returns-in-Do-clause-saves t c =
     let x = c.in-Do in
     let u = surroundings a.place.now in
     subst (λ (s : Statement). OnOk c.live_operation.result (c.live_operation.new.saves.items ≡ a.saves.now.items
-    ++ reverse (saves_in u.homes u.statics u.names u.held a.live.now.items a.out.now a.again.now s)))
+    ++ reverse (saves_in u.homes u.statics u.names u.held a.live.now.items a.exits.out.now a.exits.again.now s)))
     (sym (ap statement_tree x.is ∙ do_tree x.operation)) c.live_operation.ensures.saves
 
 pub live_statement-returns-in-Do-clause-live : goal.live_statement-returns-in-Do-clause-live
@@ -368,7 +298,7 @@ live_statement-returns-in-Do-clause-live t c =
     let x = c.in-Do in
     let u = surroundings a.place.now in
     subst (λ (s : Statement). OnOk c.live_operation.result (c.live_operation.new.live.items
-    ≡ live_in u.homes u.statics u.names u.held a.live.now.items a.out.now a.again.now s))
+    ≡ live_in u.homes u.statics u.names u.held a.live.now.items a.exits.out.now a.exits.again.now s))
     (sym (ap statement_tree x.is ∙ do_tree x.operation)) c.live_operation.ensures.live
 
 pub live_statement-returns-in-Call-clause-saves : goal.live_statement-returns-in-Call-clause-saves
@@ -377,7 +307,7 @@ live_statement-returns-in-Call-clause-saves t c =
     let x = c.in-Call in
     let u = surroundings a.place.now in
     subst (λ (s : Statement). OnOk c.live_call.result (c.live_call.new.saves.items ≡ a.saves.now.items
-    ++ reverse (saves_in u.homes u.statics u.names u.held a.live.now.items a.out.now a.again.now s)))
+    ++ reverse (saves_in u.homes u.statics u.names u.held a.live.now.items a.exits.out.now a.exits.again.now s)))
     (sym (ap statement_tree x.is ∙ call_tree x.results _ x.arguments _)) c.live_call.ensures.saves
 
 pub live_statement-returns-in-Call-clause-live : goal.live_statement-returns-in-Call-clause-live
@@ -386,21 +316,11 @@ live_statement-returns-in-Call-clause-live t c =
     let x = c.in-Call in
     let u = surroundings a.place.now in
     subst (λ (s : Statement). OnOk c.live_call.result (c.live_call.new.live.items
-    ≡ live_in u.homes u.statics u.names u.held a.live.now.items a.out.now a.again.now s))
+    ≡ live_in u.homes u.statics u.names u.held a.live.now.items a.exits.out.now a.exits.again.now s))
     (sym (ap statement_tree x.is ∙ call_tree x.results _ x.arguments _))
     (subst (λ (ts : List Temporary). OnOk c.live_call.result (c.live_call.new.live.items
     ≡ all_flagged true (unknown_in u.held (map temporary_tree ts)) (all_flagged false (optional_tree x.results) a.live.now.items)))
     c.deref-in-Call.ensures.value c.live_call.ensures.live)
-
--- both halves have statements, so that each is less than both
-halves_less : (xs ys all : List code.Statement) (mid : ℕ) → all ≡ xs ++ ys → length xs ≡ mid → length ys + mid ≡ length all → 2 ≤ length all
-    → mid ≡ length all / 2
-    → (statements_size (body_tree xs) + 1 ≤ statements_size (body_tree all)) × (statements_size (body_tree ys) + 1 ≤ statements_size (body_tree all))
-halves_less xs ys all mid is front back many half =
-    let parts = ap (λ ss. statements_size (body_tree ss)) is ∙ size_parts xs ys in
-    let first = size_some xs in
-    let second = size_some ys in
-    (omega (arith, parts, first, second, front, back, many, half), omega (arith, parts, first, second, front, back, many, half))
 
 pub live_halves-live_statements-requires : goal.live_halves-live_statements-requires
 live_halves-live_statements-requires n c =
@@ -438,10 +358,12 @@ live_halves-returns t c =
     let is = c.split_at.ensures.by_index.0 in
     record {
       saves =
-          halves_saves u first second a.out.now a.again.now xs ys a.statements.now at_first middle.same is a.live.now.items c.live_statements.new.live.items
+          halves_saves u first second a.exits.out.now a.exits.again.now xs ys a.statements.now at_first middle.same is a.live.now.items
+          c.live_statements.new.live.items
           a.saves.now.items c.live_statements.new.saves.items c.live_statements-2.new.saves.items later.live later.saves done.saves;
       live =
-          halves_live u first second a.out.now a.again.now xs ys a.statements.now at_first middle.same is a.live.now.items c.live_statements.new.live.items
+          halves_live u first second a.exits.out.now a.exits.again.now xs ys a.statements.now at_first middle.same is a.live.now.items
+          c.live_statements.new.live.items
           c.live_statements-2.new.live.items later.live done.live;
       same = done.same ∙ ap (λ (v : Surroundings). holding last.held (naming last.names v)) at_first;
       homes = done.homes ∙ c.go_to.ensures.homes ∙ homes;

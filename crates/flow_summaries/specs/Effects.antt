@@ -1,8 +1,8 @@
--- What a phrase does to the states of locals, whatever these are.
+-- What a phrase does to the states of locals, from any states before it.
 use Rattle.std.specs.Prelude.{None, Option, Some, nat_eq, nat_lt, option_map, suc, ℕ, if◌then◌else◌, ◌∷◌}
 use Rattle.source_typing.specs.States.{Gone, Held, Lent, Plain, State, States, unless_lent}
 
--- A local that isn't lent is kept as it was, or left held, or gone, whatever it was. What is lent stays lent.
+-- A local that isn't lent is kept as it was, or left held, or left gone. What is lent stays lent.
 pub data Effect : Type 0 where
   Keeps : Effect
   Holds : Effect
@@ -51,7 +51,7 @@ met_effect MayLose e = MayLose
 abbrev pub Effects : Type 0
 Effects = ℕ → Effect
 
--- The states of so many locals, the latest first, after effects on them.
+-- The states of n locals, the latest first, after effects on them.
 abbrev pub states_after : ℕ → Effects → States → States
 states_after (suc n) e (a ∷ s) = becomes (e n) a ∷ states_after n e s
 states_after n e s = s
@@ -90,7 +90,7 @@ met_ways None w = w
 met_ways (Some d) None = Some d
 met_ways (Some d) (Some e) = Some (met_effects d e)
 
--- The head of a loop is reached from its entry by no turn or by turns, of which a second one changes nothing after a first one.
+-- The head of a loop is reached from its entry by no iteration or by some. A second one changes nothing after a first one.
 abbrev pub to_head : Option Effects → Effects
 to_head None = no_effects
 to_head (Some turn) = met_effects no_effects turn

@@ -71,7 +71,7 @@ loop_exits condition body = looped condition (with_passage condition body)
 
 -- ---- locals of a block
 
--- Locals come into scope, and go out of it at the end of the block, however it is left; so many are in scope without them, and with them.
+-- Locals come into scope, and go out of it at the end of the block, however it is left: n are in scope without them, and m with them.
 abbrev pub entered : ℕ → ℕ → States → Exits → Exits
 entered n m added w = exits (way_below n w.falls) (way_below n w.breaks) (way_below n w.continues) (begun n m added w.faults)
 
@@ -86,7 +86,7 @@ lent_from at f = record {
   lent = sooner_found (fault_of_kind kind.Lent at) f;
 }
 
--- the faults of the block of a loan, of which it is known that the local is lent
+-- the faults of the block of a loan, where the local is lent
 abbrev pub faults_lent : ℕ → ℕ → Faults → Faults
 faults_lent at i f = record { caused = with_number i (lent_from at (f.caused i).lent) f.caused; always = f.always }
 

@@ -15,7 +15,7 @@ use Rattle.flow_summaries.specs.Passages.{Passage, found_in}
 use Rattle.flow_summaries.specs.Statements.{exits_of, fault_of_flow}
 use Rattle.flow_summaries.specs.Uses.{Uses}
 
--- From any states of so many locals, a phrase leaves those that its passage says, and its earliest fault is that of its passage.
+-- From any states of n locals, a phrase leaves those that its passage says, and its earliest fault is that of its passage.
 pub record DoesAs (n : ℕ) (act : States → Passed) (p : Passage) : Type 0 where
   pub states : (s : States) → (act s).states ≡ states_after n p.effects s
   pub faults : (s : States) → earliest (act s).faults ≡ faults_of (found_in n p.faults s)
@@ -32,14 +32,14 @@ pub record UsesAs (n : ℕ) (u : Use) (v : Uses) : Type 0 where
 abbrev pub way_after : ℕ → Option Effects → States → Option States
 way_after n w s = option_map (λ e. states_after n e s) w
 
--- From any states of so many locals, a statement has the ways out that its exits say, and its earliest fault is theirs.
+-- From any states of n locals, a statement has the ways out that its exits say, and its earliest fault is theirs.
 pub record LeavesAs (n : ℕ) (leave : States → Left) (w : Exits) : Type 0 where
   pub falls : (s : States) → (leave s).falls ≡ way_after n w.falls s
   pub breaks : (s : States) → (leave s).breaks ≡ way_after n w.breaks s
   pub continues : (s : States) → (leave s).continues ≡ way_after n w.continues s
   pub faults : (s : States) → earliest (leave s).faults ≡ faults_of (found_in n w.faults s)
 
--- Where each turn of a loop has these effects, its head is reached from its entry by one step, in place of as many as there are locals.
+-- Where each iteration of a loop has these effects, its head is reached from its entry by one step, in place of as many as there are locals.
 abbrev pub LoopsTurnOnce : Type 0
 LoopsTurnOnce =
     (n : ℕ) (turn : States → Option States) (w : Option Effects) → ((s : States) → turn s ≡ way_after n w s) → (s : States)

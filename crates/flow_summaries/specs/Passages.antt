@@ -61,7 +61,7 @@ both_faults f g = record { caused = λ i. both_caused (f.caused i) (g.caused i);
 abbrev pub faults_after : Effects → Faults → Faults
 faults_after e f = record { caused = λ i. caused_after (e i) (f.caused i); always = f.always }
 
--- the earliest that so many locals cause in these states
+-- the earliest that n locals cause in these states
 abbrev pub caused_in : ℕ → (ℕ → Caused) → States → Option Fault
 caused_in (suc n) c (a ∷ s) = sooner_found (caused_by a (c n)) (caused_in n c s)
 caused_in n c s = None
@@ -69,7 +69,7 @@ caused_in n c s = None
 abbrev pub found_in : ℕ → Faults → States → Option Fault
 found_in n f s = sooner_found (caused_in n f.caused s) f.always
 
--- Locals that begin with the phrase in these states cause their faults always; so many are in scope without them, and with them.
+-- Locals that begin with the phrase in these states cause their faults always: n are in scope without them, and m with them.
 abbrev pub begun : ℕ → ℕ → States → Faults → Faults
 begun n m added f = record { caused = below n no_cause f.caused; always = sooner_found (caused_in m f.caused added) f.always }
 
@@ -104,7 +104,7 @@ in_turn_or_not p q = record {
 abbrev pub from_head : Effects → Faults → Passage
 from_head head f = record { effects = head; faults = faults_after head f }
 
--- Elements of an array are a loop, in which the index is one more local than so many. After it the states are those of its head.
+-- Elements of an array are a loop, in which the index is the local after n others. After it the states are those of its head.
 abbrev pub repeated : ℕ → Passage → Passage
 repeated n p = from_head (to_head (Some (effects_below n p.effects))) (begun n (suc n) (Plain ∷ []) p.faults)
 

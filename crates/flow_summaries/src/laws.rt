@@ -2,14 +2,14 @@
 
 ghost use Rattle.flow_summaries.specs.Laws.{ExpressionsDoAsTold, FlowIsPassed, LoopsTurnOnce, StatementsLeaveAsTold};
 
-/// A law, with nothing to run: a loop whose turns have effects on the locals, whatever their states,
-/// begins in the states that one turn leads to.
+/// A law, with nothing to run: if the iterations of a loop have the same effects from any states of
+/// the locals, these effects give the states at its head in one step.
 pub fn loops_turn_once()
     ensures { LoopsTurnOnce }
 {}
 
 /// A law, with nothing to run: from any states of the locals, each expression leaves the states that
-/// its passages say, however it is used, and has the earliest fault that they say.
+/// its passages say, and has the earliest fault that they say, in each way in which it is used.
 pub fn expressions_do_as_told()
     ensures { ExpressionsDoAsTold }
 {}

@@ -71,7 +71,7 @@ Each Is (x ∷ xs) from to = (a : Tokens) × Is x from a × Each Is xs a to
 abbrev pub Behind : {A : Type 0} → Sign → (A → Tokens → Tokens → Type 0) → A → Tokens → Tokens → Type 0
 Behind s Is x from to = (a : Tokens) × IsSign s from a × Is x a to
 
--- phrases with commas between them, of which there is one at least
+-- one phrase or more, with commas between them
 abbrev pub Listed : {A : Type 0} → (A → Tokens → Tokens → Type 0) → List A → Tokens → Tokens → Type 0
 Listed Is [] from to = ⊥
 Listed Is (x ∷ xs) from to = (a : Tokens) × Is x from a × Each (Behind sign.Comma Is) xs a to

@@ -10,8 +10,8 @@ use Rattle.source_lowering.specs.Naming.{Home, InBlock, Named, local_named}
 
 -- ---- sides
 
--- How code reaches a side of an exchange: a local of one word, so many blocks out, of a number and as many bytes, by its name, so that nothing takes its
--- address; and all else by a pointer to its place.
+-- How code reaches a side of an exchange. A local of one word is reached by its name, so that nothing takes its address: how many blocks out it is, its number and
+-- its bytes. All else is reached by a pointer to its place.
 pub data Side : Type 0 where
   ByName : (out index width : ℕ) → Side
   ByPlace : Side
@@ -63,7 +63,7 @@ value_exchange a b s d =
 
 -- ---- tagged unions
 
--- so many words from one on, of the union to which p points, come into the temporaries from t on
+-- `count` words of the union to which p points, from the given one on, come into the temporaries from t on
 abbrev pub words_read : (count word t p : ℕ) → List Statement
 words_read zero word t p = []
 words_read (suc count) word t p = Do (Load t p (part_at 0 0 word)) ∷ words_read count (suc word) (suc t) p
@@ -73,7 +73,7 @@ abbrev pub words_written : (count word p t : ℕ) → List Statement
 words_written zero word p t = []
 words_written (suc count) word p t = Do (Store p (part_at 0 0 word) t) ∷ words_written count (suc word) p (suc t)
 
--- two tagged unions of so many words are exchanged, which are both reached by pointers
+-- two tagged unions of n words are exchanged, both reached by pointers
 abbrev pub union_exchange : (words d : ℕ) → List Statement
 union_exchange n d =
     words_read n 0 (d + 2) d ++ (words_read n 0 (d + 2 + n) (d + 1) ++ (words_written n 0 d (d + 2 + n) ++ words_written n 0 (d + 1) (d + 2)))

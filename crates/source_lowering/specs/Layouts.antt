@@ -66,7 +66,7 @@ part_shape_of p q = record { offset = p.offset + q.offset; width = q.width; firs
 abbrev pub cell_parts : List Layout → Placed → List core.PartShape
 cell_parts unions p = map (part_shape_of p) (cell_pieces unions p.shape)
 
--- so many bytes from one on that hold nothing
+-- bytes that hold nothing, from the one at `at` on
 abbrev pub padding : ℕ → ℕ → List core.PartShape
 padding at zero = []
 padding at (suc n) = (record { offset = at; width = 1; first = core.Blank }) ∷ padding (at + 1) n
@@ -92,14 +92,14 @@ abbrev pub local_of : World → Shape → Local
 local_of w (ArrayShape count of) = record { layout = layout_of w of; count = count }
 local_of w s = record { layout = layout_of w s; count = 1 }
 
--- how many bytes lie before a part, where so many are taken already
+-- how many bytes lie before a part, where `so_far` are taken already
 abbrev pub bytes_before : (Shape → Extent) → ℕ → List Part → List ℕ → ℕ
 bytes_before extent so_far [] name = so_far
 bytes_before extent so_far (p ∷ ps) name =
     let at = rounded_up so_far (extent p.shape).align in
     (if bytes_eq p.name name then at else bytes_before extent (at + (extent p.shape).size) ps name)
 
--- where parts end that begin behind so many bytes
+-- where parts end that begin behind `so_far` bytes
 abbrev pub bytes_through : (Shape → Extent) → ℕ → List Part → ℕ
 bytes_through extent so_far [] = so_far
 bytes_through extent so_far (p ∷ ps) = bytes_through extent (rounded_up so_far (extent p.shape).align + (extent p.shape).size) ps

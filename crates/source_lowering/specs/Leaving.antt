@@ -26,8 +26,8 @@ abbrev pub left_by : (opened : Bool) → ℕ → Operation
 left_by true t = KeyClose t
 left_by false t = RegionFree t
 
--- Of so many regions in scope the innermost are left, each before those around it: their handles, or keys, are in the temporaries from 0 on, the outermost
--- first.
+-- Of the `all` regions in scope the `count` innermost are left, each before those around it. Their handles, or keys, are in the temporaries from 0 on, the
+-- outermost first.
 abbrev pub leaving_code : (opened : List Bool) → (all count : ℕ) → List core.Statement
 leaving_code opened all zero = []
 leaving_code [] all (suc count) = []

@@ -193,7 +193,7 @@ abbrev mutual
       TakesPointer operator (Takes w names operand) × IsWholeShape w.unions w.structs (static_shape w names (Expression.Prefixed at operator operand))
   TakesWhole w names _ = ⊥
 
-  -- so many arguments, each a value for its member
+  -- one argument for each member, a value of its type
   pub TakesMade : World → List Named → List Part → Expressions → Type 0
   TakesMade w names [] NoExpressions = Unit {0}
   TakesMade w names [] (MoreExpressions first others) = ⊥

@@ -222,18 +222,18 @@ elements_code d each =
     While (all_of (Do (Apply LessUnsigned (d + 3) (d + 2) (d + 1)) ∷ [])) (d + 3)
     (all_of (Do (Put 0 0 (width_of UnsignedShape) (d + 2)) ∷ (each ++ next_number d))) ∷ []
 
--- The index begins with 0, and then come the elements, in a block of which it is the one local.
+-- The index begins with 0, and then come the elements, in a block whose only local it is.
 abbrev pub indexed_code : World → ℕ → (each : List Statement) → List Statement
 indexed_code w d each =
     Block (local_of w UnsignedShape ∷ []) (all_of (Do (Constant (d + 2) 0) ∷ Do (Put 0 0 (width_of UnsignedShape) (d + 2)) ∷ elements_code d each)) ∷ []
 
--- A block for so many objects as the next temporary says is asked for in the region of the handle in this one, which gets a pointer to it. The index of that
--- pointer is 0 behind the elements.
+-- A block for objects, whose number is in the next temporary, is asked for in the region of the handle in this one, which gets a pointer to it. After the
+-- elements the index of that pointer is 0.
 abbrev pub array_code : World → Shape → ℕ → (each : List Statement) → List Statement
 array_code w s d each = Do (RegionAlloc d d (d + 1) (layout_of w s)) ∷ (indexed_code w d each ++ (Do (Constant (d + 2) 0) ∷ []))
 
 -- A tagged union to which this temporary points holds the member of a number and a shape then: its value, of another shape as yet, is in the next temporaries,
--- and is converted, and the tag is set by way of the one behind them.
+-- and is converted, and the tag is set through the one behind them.
 abbrev pub union_code : World → Shape → Shape → ℕ → ℕ → List Statement
 union_code w s from number d = conversion_code w s from (d + 1) ++ (tag_store d (d + 1 + words_in s) number ++ held_stores s d (d + 1))
 
@@ -378,7 +378,7 @@ abbrev mutual
       copied_code w (static_shape w names (Expression.Prefixed at operator operand)) d own
   whole_code w names e d own = copied_code w (static_shape w names e) d own
 
-  -- each argument goes where its member lies: so many cells and bytes on, aligned
+  -- each argument goes where its member lies: `cells` cells and `bytes` bytes on, aligned
   pub members_code : World → List Named → List Part → Expressions → (d cells bytes own : ℕ) → List Statement
   members_code w names [] arguments d cells bytes own = []
   members_code w names (p ∷ ps) NoExpressions d cells bytes own = []

@@ -52,7 +52,7 @@ stores_code s p d cells bytes = Do (Store p (distance cells bytes (width_of s)) 
 abbrev pub tag_load : (t p : ℕ) → List Statement
 tag_load t p = Do (Load t p (part_at 0 0 0)) ∷ []
 
--- it is set, by way of a temporary
+-- it is set, through a temporary
 abbrev pub tag_store : (p t number : ℕ) → List Statement
 tag_store p t number = Do (Constant t number) ∷ Do (Store p (part_at 0 0 0) t) ∷ []
 

@@ -63,12 +63,12 @@ at s = record { region = region_at s.region; object = s.object; cell = s.cell }
 
 -- ---- layouts: facts that no step ends
 
--- a source's cell has this shape, whatever it holds
+-- a source's cell has this shape; what it holds doesn't matter
 pub record HasShape (m : source.Memory) (s : Spot) (shape : Shape) : Type 0 where
   pub content : source.Content
   pub is : m.cells s ≡ Some (record { shape = shape; content = content })
 
--- a part lies so many bytes on and is so wide, whatever it holds
+-- a part has this offset and width in bytes; what it holds doesn't matter
 pub record PartIs (c : core.Memory) (t : core.Spot) (j offset width : ℕ) : Type 0 where
   pub content : Content
   pub is : c.parts t j ≡ Some (record { offset = offset; width = width; content = content })
@@ -92,7 +92,7 @@ AreCells m s (x ∷ xs) = HasShape m s x × AreCells m (source.beyond s 1) xs
 abbrev pub Leads : World → source.Memory → core.Memory → Shape → Spot → ℕ → Type 0
 Leads w m c shape s byte = AreCells m s (cells_of w shape) × AreMade c (at s) byte (layout_of w shape).cells
 
--- there are so many, one after the other
+-- there are `count` of them, one after the other
 abbrev pub LeadsAll : World → source.Memory → core.Memory → Shape → ℕ → Spot → ℕ → Type 0
 LeadsAll w m c of count s byte = (k : ℕ) → k < count → Leads w m c of (source.beyond s (k * length (cells_of w of))) (byte + k * size_of w of)
 
@@ -101,7 +101,7 @@ abbrev pub VariableLeads : World → source.Memory → core.Memory → Shape →
 VariableLeads w m c (ArrayShape count of) s = LeadsAll w m c of count s 0
 VariableLeads w m c shape s = Leads w m c shape s 0
 
--- an object as Core has made it, of so many elements where it is an array
+-- an object as Core has made it; an array has `count` elements
 abbrev pub LocalMade : World → core.Memory → core.Region → ℕ → Shape → Type 0
 LocalMade w c r index (ArrayShape count of) = (k : ℕ) → k < count
     → AreMade c (record { region = r; object = index; cell = k * length (layout_of w of).cells }) (k * size_of w of) (layout_of w of).cells
@@ -144,7 +144,7 @@ IsOwned Alone c s byte = IsBlock c s byte
 IsOwned Shared c s byte = Unit {0}
 IsOwned Unsaid c s byte = Unit {0}
 
--- a thin pointer leads to its object, and to so many elements from there on
+-- a thin pointer leads to its object, and to `count` elements from there on
 pub record APointer (w : World) (m : source.Memory) (c : core.Memory) (count : ℕ) (owner : Owner) (to : Shape) (v : Scalar) (cs : List Content) : Type 0 where
   pub spot : Spot
   pub byte : ℕ
@@ -192,7 +192,7 @@ ShownMember w m c (StructShape tag) v cs = ⊥
 ShownMember w m c (UnionShape tag) v cs = ⊥
 ShownMember w m c (ArrayShape count of) v cs = ⊥
 
--- a union's value: its tag, the words of the member that it holds, and behind them whatever they were
+-- a union's value: its tag, the words of the member that it holds, and behind them words with any content
 pub record AUnion (w : World) (m : source.Memory) (c : core.Memory) (tag : List ℕ) (v : Scalar) (cs : List Content) : Type 0 where
   pub number : ℕ
   pub shape : Shape
@@ -251,7 +251,7 @@ pub record SameMemory (w : World) (m : source.Memory) (c : core.Memory) : Type 0
   pub ungranted : (d : ℕ) (t : core.Spot) (j : ℕ) → t.region ≡ core.Born d → c.objects (core.Born d) ≤ t.object → c.parts t j ≡ None
 
 -- What stays as it was: how many locals the blocks before one have, how the functions' own regions before one stand, and what the own regions before one hold,
--- and so many values of that one.
+-- and how many values of that one.
 pub record Bound : Type 0 where
   pub frames : ℕ
   pub standing : ℕ

@@ -2,7 +2,7 @@
 use Rattle.std.specs.Prelude.{ℕ, suc, Option, Some, None, List, [], ◌∷◌, map, bytes_eq, if◌then◌else◌}
 use Rattle.source_meaning.specs.Shapes.{Shape, UnsignedShape}
 
--- a local, so many blocks out and of a number in that block
+-- a local: how many blocks out it is, and its number in that block
 pub data Home : Type 0 where
   InBlock : (out index : ℕ) → Home
 

@@ -23,7 +23,7 @@ abbrev pub narrow_code : Shape → ℕ → List Statement
 narrow_code CharShape d = []
 narrow_code s d = Do (Narrow d d) ∷ []
 
--- thin to fat: so many elements as its bound says, or none of NULL
+-- thin to fat: as many elements as the bound of the thin pointer, or none for NULL
 abbrev pub to_fat_code : Shape → ℕ → List Statement
 to_fat_code (ThinShape (NeverNull count) owner to) d = bounds_code d (count % 2 ^ 32)
 to_fat_code (ThinShape (MayBeNull count) owner to) d =
@@ -34,7 +34,7 @@ to_fat_code s d = []
 abbrev pub one_code : World → Shape → ℕ → List Statement
 one_code w to d = Do (Apply core.LessUnsigned (d + 1) (d + 2) (d + 1)) ∷ reached_code w to d d (raised ArrayBounds)
 
--- And so many elements are left from there on.
+-- And `count` elements are left from there on.
 abbrev pub several_code : World → (count : ℕ) → Shape → ℕ → List Statement
 several_code w count to d =
     Do (Apply core.LessUnsigned (d + 3) (d + 2) (d + 1)) ∷ If (d + 3) NoStatements (raised ArrayBounds) ∷ Do (Apply core.Subtract (d + 1) (d + 1) (d + 2))
@@ -45,7 +45,7 @@ several_code w count to d =
 abbrev pub enough_code : World → (count : ℕ) → Shape → ℕ → List Statement
 enough_code w count to d = (if nat_eq count 1 then one_code w to d else several_code w count to d)
 
--- fat to thin: NULL stays NULL or raises, and so many elements of another one have to be there from the current one on
+-- fat to thin: NULL stays NULL or raises, and else `count` elements have to be there from the current one on
 abbrev pub to_thin_code : World → Reach → Shape → ℕ → List Statement
 to_thin_code w (NeverNull count) to d = null_check d ++ enough_code w (count % 2 ^ 32) to d
 to_thin_code w (MayBeNull count) to d = If d (all_of (enough_code w (count % 2 ^ 32) to d)) NoStatements ∷ []
@@ -111,7 +111,7 @@ fat_code operator.Add d = Do (Apply core.Add (d + 2) (d + 2) (d + 3)) ∷ []
 fat_code operator.Subtract d = Do (Apply core.Subtract (d + 2) (d + 2) (d + 3)) ∷ []
 fat_code o d = null_code o d d
 
--- the operands are in the temporaries from this one on, one behind the other, and the result comes into the first ones
+-- the operands are in the temporaries from this one on, one after the other, and the result comes into the first ones
 abbrev pub operator_code : Operator → Shape → Shape → ℕ → List Statement
 operator_code o (FatShape to) t d = fat_code o d
 operator_code o (ThinShape bound owner to) (FatShape of) d = null_code o d (d + 1)

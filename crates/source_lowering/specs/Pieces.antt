@@ -265,7 +265,7 @@ call_parameters w name =
     (if bytes_eq name (codes "getchar") then []
     else (if bytes_eq name (codes "putchar") then IntShape ∷ [] else parameter_shapes (function_of w.functions name)))
 
--- so many temporaries from one on
+-- the given number of temporaries, from d on
 abbrev pub from_on : ℕ → ℕ → List ℕ
 from_on d zero = []
 from_on d (suc n) = d ∷ from_on (d + 1) n
@@ -286,7 +286,7 @@ abbrev pub function_call : Option Routine → ℕ → ℕ → ℕ → List State
 function_call None number count d = []
 function_call (Some f) number count d = Call (results_in f.result d) number (from_on d count) ∷ []
 
--- so many words are passed, from this temporary on
+-- `count` words are passed, from the temporary d on
 abbrev pub call_code : World → List ℕ → ℕ → ℕ → List Statement
 call_code w name count d =
     (if bytes_eq name (codes "getchar") then Do (Getchar d) ∷ []

@@ -70,7 +70,7 @@ AreLed w m c (b ∷ bs) = IsLed w m c b.entity × AreLed w m c bs
 
 -- ---- strings
 
--- a string's value: a fat pointer to the first of its characters, of which there is one at least, and which lie in both heaps
+-- a string's value: a fat pointer to the first of its characters, which lie in both heaps; there is one at least
 pub record IsText (w : World) (m : source.Memory) (c : core.Memory) (v : Scalar) : Type 0 where
   pub number : ℕ
   pub count : ℕ
@@ -96,7 +96,7 @@ pub record HasStatics (w : World) (m : source.Memory) (c : core.Memory) : Type 0
 
 -- What both have in common in a scope: the activation of its block, and those around it; how many locals it has, and the shapes of those to come; the number of
 -- its function's activation, and the shapes of its unnamed values; how many of these an expression leaves as they are; and how many regions are in scope:
--- so many of the first temporaries are taken.
+-- as many of the first temporaries are taken.
 pub record Point : Type 0 where
   pub world : World
   pub program : Program
@@ -124,7 +124,7 @@ pub record SameState (p : Point) (m : source.Memory) (c : Config) : Type 0 where
   pub stands : core.is_live (c.memory.standing (core.Own p.own)) ≡ true
   pub owned : ArePending p.world c.memory (core.Own p.own) 0 p.owned
 
--- the place where so many unnamed values are left as they are
+-- the same point, where the first `values` unnamed values are left as they are
 abbrev pub keeping : Point → ℕ → Point
 keeping p values = record p { kept = values }
 

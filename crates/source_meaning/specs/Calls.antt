@@ -153,7 +153,7 @@ index_in k = record { region = Frame k; object = 0; cell = 0 }
 abbrev pub index_made : ℕ → Act Spot
 index_made k = make_object (Frame k) (object_of (first_cell UnsignedShape ∷ []))
 
--- so many elements from the i-th on, in order: a unit is due before each, the index gets its number, and then the element is evaluated and stored
+-- the given number of elements from the i-th on, in order: a unit is due before each, the index gets its number, and then the element is evaluated and stored
 abbrev pub elements : ℕ → ℕ → ℕ → Spot → Spot → Sense → Act (Unit {0})
 elements cells zero i s index e = give tt
 elements cells (suc n) i s index e =

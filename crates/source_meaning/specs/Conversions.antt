@@ -14,19 +14,19 @@ cells_of w s = cells_by (struct_cells w.structs) s
 abbrev pub size_of : World → Shape → ℕ
 size_of w s = let e = extent_by (struct_extent w.unions w.structs) (union_extent w.unions) s in e.size
 
--- the current element of a fat pointer to elements of so many cells: NULL raises, and so does an index that isn't below the count
+-- the current element of a fat pointer, whose elements have `cells` cells each: NULL raises, and so does an index that isn't below the count
 abbrev pub element : ℕ → Option Span → Act Spot
 element cells None = raise NullException
 element cells (Some s) = (if nat_lt s.index s.count then give (beyond s.first (s.index * cells)) else raise ArrayBounds)
 
--- thin to thin: where the place never holds NULL, NULL raises; a pointer to so many elements becomes one to no more
+-- thin to thin: where the place never holds NULL, NULL raises; the new pointer is to no more elements than the old one
 abbrev pub thin_to_thin : Reach → ℕ → Option Spot → Act Scalar
 thin_to_thin (MayBeNull count) all None = give (Thin None)
 thin_to_thin (MayBeNull count) all (Some s) = check (nat_le (count % 2 ^ 32) all) >> give (Thin (Some s))
 thin_to_thin (NeverNull count) all None = raise NullException
 thin_to_thin (NeverNull count) all (Some s) = check (nat_le (count % 2 ^ 32) all) >> give (Thin (Some s))
 
--- the current element of a fat pointer, where so many elements are left from there on
+-- the current element of a fat pointer, where `count` elements at least are left from there on
 abbrev pub elements_from : (cells count : ℕ) → Option Span → Act Spot
 elements_from cells count None = raise NullException
 elements_from cells count (Some s) = element cells (Some s) >>= λ at. (if nat_le count (s.count - s.index) then give at else raise ArrayBounds)
@@ -37,7 +37,7 @@ fat_to_thin (MayBeNull count) cells None = give (Thin None)
 fat_to_thin (MayBeNull count) cells (Some s) = elements_from cells (count % 2 ^ 32) (Some s) >>= λ at. give (Thin (Some at))
 fat_to_thin (NeverNull count) cells p = elements_from cells (count % 2 ^ 32) p >>= λ at. give (Thin (Some at))
 
--- thin to fat: so many elements as its bound says, at index 0; NULL stays NULL
+-- thin to fat: `all` elements, which is the bound of the thin pointer, at index 0; NULL stays NULL
 abbrev pub thin_to_fat : ℕ → Option Spot → Scalar
 thin_to_fat all None = Wide None
 thin_to_fat all (Some s) = Wide (Some (record { first = s; count = all; index = 0 }))

@@ -16,7 +16,7 @@ StaysOver = (p : Program) (input : List ℕ) (n m : ℕ) → n ≤ m → IsOver 
 abbrev pub OnlyGrows : Type 0
 OnlyGrows = (p : Program) (input : List ℕ) (n m : ℕ) → n ≤ m → IsBeginning (source p input n) (source p input m)
 
--- a raise ends a run at once, without the exits of regions and whatever else was to come
+-- a raise ends a run at once, without the exits of regions or anything else that was to come
 abbrev pub EndsAtOnce : Type 0
 EndsAtOnce =
     (kind : Kind) (exit : Act (Unit {0})) (next : Flow → Memory → Step) (m : Memory) (bodies : SourceBodies) (n : ℕ) (input : List ℕ) →

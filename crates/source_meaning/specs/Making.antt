@@ -17,7 +17,7 @@ make_object r o =
 abbrev pub bear : State → Act ℕ
 bear state = memory >>= λ m. set_memory (with_state (record m { births = m.births + 1 }) (Born m.births) state) >> give m.births
 
--- the bytes asked for: so many elements of a size, or the greatest word where that is greater
+-- the bytes asked for: those of all elements, or the greatest word where they are more
 abbrev pub saturated : ℕ → ℕ
 saturated bytes = min bytes (2 ^ 32 - 1)
 
@@ -35,7 +35,7 @@ abbrev pub maker_of : Scalar → Act Maker
 maker_of (HandleOf r) = give (InRegion r)
 maker_of v = stuck
 
--- Asks for so many bytes, and makes the object there. The region has to be live; a unique block is a region of one object.
+-- Asks for a block of `bytes` bytes, and makes the object there. The region has to be live; a unique block is a region of one object.
 abbrev pub ask : Maker → ℕ → Object → Act Spot
 ask (InRegion r) bytes o =
     memory >>= λ m. check (is_live m (Born r)) >> (show (RegionAlloc r bytes) >> make_object (Born r) o)

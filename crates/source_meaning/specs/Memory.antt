@@ -64,7 +64,7 @@ Object = ℕ → Option Cell
 abbrev pub object_of : List Cell → Object
 object_of cells = λ k. slice_get cells k
 
--- these cells, so many times
+-- these cells, repeated `count` times
 abbrev pub array_of : ℕ → List Cell → Object
 array_of count cells = λ k. if nat_lt k (count * length cells) then slice_get cells (k % length cells) else None
 
@@ -143,7 +143,7 @@ with_object m r o = record m {
   cells = λ t. if same_region t.region r && nat_eq t.object (m.objects r) then o t.cell else m.cells t;
 }
 
--- the spot so many cells on
+-- the spot n cells on
 abbrev pub beyond : Spot → ℕ → Spot
 beyond s n = record s { cell = s.cell + n }
 

@@ -54,7 +54,7 @@ entity_of scope name = or_else (bound_to scope.locals name) (bound_to scope.worl
 abbrev pub with_binding : Scope → List ℕ → Entity → Scope
 with_binding scope name e = record scope { locals = (record { name = name; entity = e }) ∷ scope.locals }
 
--- a fat pointer to the first of so many elements
+-- a fat pointer to the first of `count` elements
 abbrev pub span_at : ℕ → Spot → Scalar
 span_at count s = Wide (Some (record { first = s; count = count; index = 0 }))
 
@@ -69,7 +69,7 @@ abbrev pub string_at : List (ℕ × Scalar) → ℕ → Option Scalar
 string_at [] at = None
 string_at (s ∷ ss) at = (if nat_eq s.0 at then Some s.1 else string_at ss at)
 
--- A string's value, if it has so many elements; else NULL.
+-- A string's value, if it has `count` elements; else NULL.
 abbrev pub own_string : ℕ → Scalar → Scalar
 own_string count (Wide (Some s)) = Wide (if nat_eq s.count count then Some s else None)
 own_string count v = v
@@ -86,7 +86,7 @@ abbrev pub contents : World → Sense → Sense
 contents w e =
     place_sense w (pointee e.shape) (e.look >>= one >>= λ p. accessed (length (cells_of w (pointee e.shape))) p)
 
--- The fat pointer moved by an index, which wraps. A thin pointer leads to so many elements, of which the index says one.
+-- The fat pointer moved by an index, which wraps. A thin pointer leads to `all` elements; the index says which one.
 abbrev pub indexed_span : (all k : ℕ) → Scalar → Act Scalar
 indexed_span all k (Wide None) = give (Wide None)
 indexed_span all k (Wide (Some s)) = give (Wide (Some (record s { index = sum_of s.index k })))

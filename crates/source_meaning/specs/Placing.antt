@@ -3,7 +3,7 @@ use Rattle.std.specs.Prelude.{ℕ, ◌+◌, List, [], ◌∷◌, ◌++◌, map, 
 use Rattle.source_meaning.specs.Shapes.{Shape, VoidShape, StructShape, ArrayShape, Part, Layout}
 use Rattle.source_meaning.specs.Sizes.{Extent, rounded_up, extent_by, struct_extent, union_extent}
 
--- one cell, so many bytes from the first
+-- one cell, and its offset in bytes from the first one
 pub record Placed : Type 0 where
   pub offset : ℕ
   pub shape : Shape
@@ -18,7 +18,7 @@ placed_by of_struct VoidShape = []
 placed_by of_struct (ArrayShape count of) = []
 placed_by of_struct s = (record { offset = 0; shape = s }) ∷ []
 
--- the cells of all parts from so many bytes on
+-- the cells of all parts, where the first part begins behind `so_far` bytes
 abbrev pub all_placed : (Shape → List Placed) → (Shape → Extent) → ℕ → List Part → List Placed
 all_placed placed extent so_far [] = []
 all_placed placed extent so_far (p ∷ ps) =

@@ -77,7 +77,7 @@ strings_from (s ∷ ss) k = (s.0, span_at (length s.1 + 1) (heap_spot k)) ∷ st
 abbrev pub byte_cell : ℕ → Cell
 byte_cell b = record { shape = CharShape; content = Holds (Integer AsChar (b % 256)) }
 
--- a string's bytes and one final 0, each of which can be written
+-- a string's bytes and one final 0; all of them can be written
 abbrev pub string_object : Literal → Object
 string_object s = object_of (map byte_cell (s.1 ++ 0 ∷ []))
 

@@ -9,7 +9,7 @@ use Rattle.source_meaning.specs.Values.{read_cell, write_cells, put_content}
 use Rattle.source_meaning.specs.Making.{set_state, make_object, bear}
 use Rattle.source_meaning.specs.Places.{Sense, entity_of, with_binding}
 
--- A scoped region: it is entered, then comes what is done in it, and then it is left, whatever way that goes on. A raise leaves nothing.
+-- A scoped region: it is entered, then comes what is done in it, and then it is left, however that ends. A raise leaves nothing.
 abbrev pub in_region : {A : Type 0} → Act ℕ → (ℕ → Act (Unit {0})) → (ℕ → Act A) → Act A
 in_region enter leave body = enter >>= λ r. finally (body r) (leave r)
 
@@ -20,7 +20,7 @@ abbrev pub enter_block : Act ℕ
 enter_block =
     memory >>= λ m. set_memory (with_state (record m { activations = m.activations + 1 }) (Frame m.activations) Live) >> give m.activations
 
--- a block is left with its locals, whatever way it is left
+-- a block's locals go with it, however it is left
 abbrev pub in_block : {A : Type 0} → (ℕ → Act A) → Act A
 in_block body = in_region enter_block (λ k. set_state (Frame k) Dead) body
 

@@ -40,7 +40,7 @@ pub data Shape : Type 0 where
   UnsignedShape : Shape
   CharShape : Shape
   VoidShape : Shape
-  -- a pointer to so many elements, which may be NULL or never is
+  -- a pointer to the number of elements in its bound, which may be NULL or never is
   ThinShape : (bound : Reach) (owner : Owner) (to : Shape) → Shape
   -- a pointer that carries bounds; it is never unique
   FatShape : (to : Shape) → Shape

@@ -4,7 +4,7 @@ use Rattle.source_meaning.specs.Shapes.{Shape, CharShape, VoidShape, FatShape, S
 
 -- ---- cells
 
--- a list so many times
+-- a list, repeated n times
 abbrev pub repeated : {A : Type 0} → ℕ → List A → List A
 repeated zero xs = []
 repeated (suc n) xs = xs ++ repeated n xs

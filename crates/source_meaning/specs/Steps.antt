@@ -142,6 +142,6 @@ abbrev pub choose : {A : Type 0} → Bool → Act A → Act A → Act A
 choose true first second = first
 choose false first second = second
 
--- whatever an act gives, as the way in which a statement is left, this comes after it
+-- an act and then its exit; the result is the act's, as the way in which a statement is left
 abbrev pub finally : {A : Type 0} → Act A → Act (Unit {0}) → Act A
 finally act exit = act >>= λ a. exit >> give a

@@ -15,12 +15,12 @@ value_held (Lent v) = stuck
 abbrev pub read_cell : Spot → Act Scalar
 read_cell s = memory >>= λ m. need (cell_at m s) >>= λ c. value_held c.content
 
--- so many cells from a spot on
+-- reads the given number of cells from a spot on
 abbrev pub read_cells : ℕ → Spot → Act (List Scalar)
 read_cells zero s = give []
 read_cells (suc n) s = read_cell s >>= λ v. read_cells n (beyond s 1) >>= λ vs. give (v ∷ vs)
 
--- a cell's content is replaced, whatever it was
+-- a cell's content is replaced
 abbrev pub put_content : Spot → Content → Act (Unit {0})
 put_content s c = memory >>= λ m. need (cell_at m s) >>= λ old. set_memory (with_cell m s (record old { content = c }))
 
@@ -40,7 +40,7 @@ abbrev pub write_cells : Spot → List Scalar → Act (Unit {0})
 write_cells s [] = give tt
 write_cells s (v ∷ vs) = write_cell s v >> write_cells (beyond s 1) vs
 
--- so many cells from a spot on have this content
+-- the given number of cells from a spot on get this content
 abbrev pub put_contents : ℕ → Spot → Content → Act (Unit {0})
 put_contents zero s c = give tt
 put_contents (suc n) s c = put_content s c >> put_contents n (beyond s 1) c

@@ -66,7 +66,7 @@ partly_convert g rs (Some p ∷ ps) (v ∷ vs) =
 partly_convert g rs (None ∷ ps) (v ∷ vs) = partly_convert g rs ps vs
 partly_convert g rs ps vs = []
 
--- Each argument converts to its parameter's type, in which the region variables stand for these; where one of them is at fault, for those that are known.
+-- Each argument converts to its parameter's type, in which the region variables stand for these; where one of them has a fault, for those that are known.
 abbrev pub arguments_converted : Env → List (Option Region) → List (Option StaticType) → List Value → Verdict (List Region) → Verdict (List Region)
 arguments_converted g some ps vs (Of rs) = unless_faulty (all_convert g rs ps vs) (if_all_known (all_known ps) rs)
 arguments_converted g some ps vs (Faulty f fs) = Faulty f (fs ++ partly_convert g some ps vs)
@@ -78,7 +78,7 @@ arguments_counted true g at n ps vs =
     arguments_converted g (fixed_known g.enclosing at (all_fits ps vs) 0 n) ps vs (fixed_from g.enclosing at (all_fits ps vs) 0 n)
 arguments_counted false g at n ps vs = refuse type_rule at
 
--- the arguments fit so many parameters, with so many region variables: what these stand for
+-- the arguments fit the parameters, which have n region variables: what these stand for
 abbrev pub arguments_fit : Env → ℕ → ℕ → List (Option StaticType) → List Value → Verdict (List Region)
 arguments_fit g at n ps vs = arguments_counted (nat_eq (length ps) (length vs)) g at n ps vs
 

@@ -34,7 +34,7 @@ abbrev pub if_integer : Bool → Option ℕ
 if_integer true = None
 if_integer false = Some type_rule
 
--- a pointer to so many elements converts to one to no more
+-- a pointer to a number of elements converts to one to no more
 abbrev pub if_enough : Bool → Option ℕ → Option ℕ
 if_enough true o = o
 if_enough false o = Some type_rule

@@ -65,7 +65,7 @@ what_of r None (Of t) = Stored t r
 what_of r (Some n) (Of t) = Arrayed t r
 what_of r count v = Unknown
 
--- a declaration at fault makes its name one of no known type
+-- a declaration with a fault makes its name one of no known type
 abbrev pub what_after : List Fault → What → What
 what_after [] w = w
 what_after (f ∷ fs) w = Unknown
@@ -83,8 +83,8 @@ abbrev pub converted_to : Env → Verdict Value → Verdict StaticType → List 
 converted_to g (Of v) (Of t) = converts g v t
 converted_to g v t = []
 
--- A use of a name whose declaration is at fault isn't judged, whatever it is used as: where a tag is wanted, a global, a function or a local at fault
--- counts as a struct or union at fault.
+-- A use of a name whose declaration has a fault isn't judged, however it is used: where a tag is wanted, a global, a function or a local with a fault
+-- counts as a struct or union with a fault.
 abbrev pub faulty_tag : Entry
 faulty_tag = OfTag (record { text = []; is_union = false; order = 0; regions = 0; parts = []; sound = false })
 

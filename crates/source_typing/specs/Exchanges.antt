@@ -53,6 +53,6 @@ abbrev mutual
 abbrev pub exchangeable : Value → Value → Bool
 exchangeable a b = is_place a.seat && is_place b.seat && is_same a.type b.type && is_scalar a.type && not (is_key a.type)
 
--- Both sides are such places, else Type at the left one; a call, making or assignment in them is a part at fault.
+-- Both sides are such places, else Type at the left one; a call, making or assignment in them is a part with a fault.
 abbrev pub exchanged : List Fault → Value → Value → Verdict Value
 exchanged inner a b = unless_faulty (own_after (test (exchangeable a b) type_rule a.at) inner) (Of a)

@@ -56,7 +56,7 @@ most_bytes = 4096
 abbrev pub fits_bytes : ℕ → Bool
 fits_bytes n = nat_le n most_bytes
 
--- a variable of a type, or an array of so many
+-- a variable of a type, or an array of elements of it, by their number
 abbrev pub variable_size : Tables → Option ℕ → StaticType → ℕ
 variable_size g None t = size_of g t
 variable_size g (Some n) t = n * size_of g t

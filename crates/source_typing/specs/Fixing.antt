@@ -64,12 +64,12 @@ fixed_one NotKnown at None = Unjudged
 abbrev pub more : {A : Type 0} → A → List A → Verdict (List A)
 more a others = Of (a ∷ others)
 
--- so many region variables from one on
+-- what the given number of region variables stand for, from the k-th on
 abbrev pub fixed_from : Enclosing → ℕ → List Fit → ℕ → ℕ → Verdict (List Region)
 fixed_from h at fs k zero = Of []
 fixed_from h at fs k (suc n) = both (fixed_one h at (first_fit fs k)) (fixed_from h at fs (suc k) n) more
 
--- which of them are known, where one is at fault
+-- which of them are known, where one has a fault
 abbrev pub fixed_known : Enclosing → ℕ → List Fit → ℕ → ℕ → List (Option Region)
 fixed_known h at fs k zero = []
 fixed_known h at fs k (suc n) = known (fixed_one h at (first_fit fs k)) ∷ fixed_known h at fs (suc k) n

@@ -76,7 +76,7 @@ global_entry g x = OfValue (what_after (global_faults g x) (what_of TheHeap (cou
 
 -- ---- sizes
 
--- how many bytes a global has; one that is at fault or not judged counts as nothing
+-- how many bytes a global has; one that has a fault or isn't judged counts as nothing
 abbrev pub typed_size : Env → tree.Global → Verdict StaticType → ℕ
 typed_size g x (Of t) = variable_size g.tables (count_of x.initial) t
 typed_size g x v = 0

@@ -1,10 +1,10 @@
--- Which region names a type speaks of: the heap, and names that were declared before so many.
+-- Which region names a type speaks of: the heap, and the names of the first levels.
 use Rattle.std.specs.Prelude.{ℕ, ◌<◌, List, [], ◌∷◌}
 use Rattle.source_typing.specs.Regions.{Region, TheHeap, Level}
 use Rattle.source_typing.specs.Types.{StaticType, Int, Unsigned, Char, Void, Null, Thin, Fat, Unique, Handle, Key, Struct, Union}
 use Rattle.source_typing.specs.Written.{RegionNamed}
 
--- a name that was declared before so many
+-- a region whose level is below `count`, or the heap
 abbrev pub Below : ℕ → Region → Type 0
 Below count TheHeap = Unit {0}
 Below count (Level k) = k < count
@@ -24,7 +24,7 @@ abbrev pub BoundsBelow : ℕ → List (Region × Region) → Type 0
 BoundsBelow n [] = Unit {0}
 BoundsBelow n ((a, b) ∷ bs) = Below n a × Below n b × BoundsBelow n bs
 
--- all region names of a type were declared before so many
+-- all region names of a type are of levels below n
 abbrev pub TypeBelow : ℕ → StaticType → Type 0
 TypeBelow n Int = Unit {0}
 TypeBelow n Unsigned = Unit {0}

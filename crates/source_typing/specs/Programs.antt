@@ -127,7 +127,7 @@ main_found (item ∷ items) = (if bytes_eq (name_of item).text (codes "main") th
 
 -- ---- globals and strings together
 
--- a second declaration of a name is at fault, and counts as nothing
+-- a second declaration of a name is a fault, and counts as nothing
 abbrev pub if_first : Bool → List Static → List Static
 if_first true ss = ss
 if_first false ss = []

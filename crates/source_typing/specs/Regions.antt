@@ -60,7 +60,7 @@ abbrev pub is_among : List Region → Region → Bool
 is_among [] r = false
 is_among (q ∷ qs) r = same_id q r || is_among qs r
 
--- what a region outlives by declared bounds, in so many steps
+-- what a region outlives by one declared bound, and then further; and in at most n steps
 abbrev pub by_bounds : List (Region × Region) → Region → (Region → Bool) → Bool
 by_bounds [] a further = false
 by_bounds ((x, y) ∷ bs) a further = (same_id x a && further y) || by_bounds bs a further

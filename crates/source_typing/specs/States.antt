@@ -69,7 +69,7 @@ need_unlent at Held = []
 need_unlent at Gone = []
 need_unlent at Lent = fault lent_rule at ∷ []
 
--- What a use leaves, also where it is at fault; what is lent stays lent.
+-- What a use leaves, also where it has a fault; what is lent stays lent.
 abbrev pub unless_lent : State → State → State
 unless_lent Lent a = Lent
 unless_lent s a = a
@@ -79,7 +79,7 @@ used_to ls x need a s = passed (need x.at (state_of ls x.text s)) (with_state ls
 
 -- ---- loops
 
--- so many times
+-- f, n times
 abbrev pub iterate : {A : Type 0} → ℕ → (A → A) → A → A
 iterate zero f a = a
 iterate (suc n) f a = iterate n f (f a)

@@ -13,7 +13,7 @@ pub data What : Type 0 where
   Counter : What
   Unknown : What
 
--- a member of a struct or union; its type isn't known where it is at fault
+-- a member of a struct or union; its type isn't known where it has a fault
 pub record Part : Type 0 where
   pub name : List ℕ
   pub type : Option StaticType
@@ -27,7 +27,7 @@ pub record Tag : Type 0 where
   pub parts : List Part
   pub sound : Bool
 
--- A function: its region variables are the first levels; a parameter or result at fault has no known type.
+-- A function: its region variables are the first levels; a parameter or result with a fault has no known type.
 pub record Signature : Type 0 where
   pub regions : ℕ
   pub parameters : List (Option StaticType)
@@ -40,7 +40,7 @@ pub data Entry : Type 0 where
   OfValue : What → Entry
   OfTag : Tag → Entry
   OfFunction : Signature → Entry
-  -- a function that every program has, with so many parameters
+  -- a function that every program has, with its number of parameters
   OfBuiltin : ℕ → Entry
   -- a global or a function, while only structs and unions are known
   OfOther : Entry

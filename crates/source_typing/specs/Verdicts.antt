@@ -2,7 +2,7 @@
 use Rattle.std.specs.Prelude.{Bool, List, None, Option, Some, false, true, ℕ, [], ◌∷◌, ◌++◌}
 use Rattle.source_typing.specs.Faults.{Fault, fault, type_rule}
 
--- A phrase is at fault, with a first and with other faults; or it isn't judged, since a name in it is declared by a phrase at fault; or it is in order.
+-- A phrase is invalid, with a first fault and others; or it isn't judged, since the declaration of a name in it has a fault; or it is in order.
 pub data Verdict (A : Type 0) : Type 0 where
   Faulty : Fault → List Fault → Verdict A
   Unjudged : Verdict A
@@ -51,7 +51,7 @@ abbrev pub if_fits : {A : Type 0} → Bool → ℕ → A → Verdict A
 if_fits true at a = Of a
 if_fits false at a = refuse type_rule at
 
--- a name of another kind than its use needs; where its declaration is at fault, the use isn't judged
+-- a name of another kind than its use needs; where its declaration has a fault, the use isn't judged
 abbrev pub other_kind : {A : Type 0} → Bool → ℕ → Verdict A
 other_kind true at = refuse type_rule at
 other_kind false at = Unjudged

@@ -95,7 +95,7 @@ abbrev pub thin_to : Reach → Found → PartialType → Option PartialType
 thin_to bound IsUnique t = (if nat_eq (number_of bound) 1 then Some (Unique (may_be_null bound) t) else None)
 thin_to bound f t = (if nat_eq (number_of bound) 0 then None else Some (Thin bound (as_region f) t))
 
--- A pointer. None, a type that can't be: a pointer to `void` or to a key, a unique fat pointer, and a thin one to so many elements.
+-- A pointer. None, a type that can't be: a pointer to `void` or to a key, a unique fat pointer, and a thin one of which `thin_to` makes none.
 abbrev pub pointer_to : Sign → Found → PartialType → Option PartialType
 pointer_to s f Void = None
 pointer_to s f (Key r) = None
@@ -108,7 +108,7 @@ abbrev pub pointers_to : List tree.Pointer → List Found → Option PartialType
 pointers_to (p ∷ ps) (f ∷ fs) (Some t) = pointers_to ps fs (pointer_to p.sign f t)
 pointers_to ps fs t = t
 
--- the first of the regions are the arguments of a struct or union, so many
+-- the first of the regions are the arguments of a struct or union, which takes the given number
 abbrev pub with_arguments : ℕ → (List (Option Region) → PartialType) → List Found → List tree.Pointer → List Found → Option PartialType
 with_arguments zero make args ps fs = pointers_to ps fs (Some (make (map as_region args)))
 with_arguments (suc n) make args ps [] = None
@@ -137,7 +137,7 @@ if_sound true v = v
 if_sound false v = Unjudged
 
 -- The tag of a type, with its count of region parameters: an unknown name is Name at it, a name of another kind Type at it, whether or not its own
--- declaration is at fault. For the type of a local `tagged` goes before.
+-- declaration has a fault. For the type of a local `tagged` goes before.
 abbrev pub tag_of : Option Entry → Bool → ℕ → Verdict ℕ
 tag_of None union at = refuse name_rule at
 tag_of (Some (OfTag t)) union at = if_sound t.sound (of_kind (same_bool t.is_union union) t at)

@@ -3,26 +3,8 @@ use Rattle.std.proofs.Common.{◌≡◌, ℕ, suc, ◌+◌, ◌≤◌, List, [],
 use Rattle.std.specs.Prelude.{if◌then◌else◌, unwrap_or}
 use Rattle.cyc_tree.specs.Tree as tree
 use Rattle.cyc_tree.specs.Tree.{Statement, BlockItems, NoItems, Declare, Execute, Clauses, NoClauses, MoreClauses, Case, Default}
-use Rattle.source_meaning.specs.Shapes.{
-  Shape,
-  IntShape,
-  UnsignedShape,
-  CharShape,
-  VoidShape,
-  ThinShape,
-  FatShape,
-  HandleShape,
-  KeyShape,
-  StructShape,
-  UnionShape,
-  ArrayShape,
-  Part,
-  Layout,
-  has_tag,
-  parts_of,
-  part_shape,
-  part_shapes,
-}
+use Rattle.source_meaning.specs.Shapes.{Shape, IntShape, UnsignedShape, CharShape, VoidShape, ThinShape, FatShape, HandleShape, KeyShape, StructShape}
+use Rattle.source_meaning.specs.Shapes.{UnionShape, ArrayShape, Part, Layout, has_tag, parts_of, part_shape, part_shapes}
 use Rattle.source_meaning.specs.Regions.{in_block, local_with}
 use Rattle.source_meaning.specs.Memory as source
 use Rattle.source_meaning.specs.Memory.{Scalar}
@@ -55,19 +37,8 @@ use Rattle.source_lowering.proofs.UnionSizes.{union_of}
 use Rattle.source_lowering.proofs.expressions.Places.{PlacedAs}
 use Rattle.source_lowering.proofs.expressions.UnionMembers.{part_found, union_few, value_at}
 use Rattle.source_lowering.proofs.expressions.EachExpression.{Known, place_in, IsKnown, expression_same, place_same}
-use Rattle.source_lowering.proofs.statements.Statements.{
-  WaysOn,
-  RunsAs,
-  ways_later,
-  falls_same,
-  breaks_same,
-  continues_same,
-  return_same,
-  leave_same,
-  choice_same,
-  sequence_same,
-  loop_same,
-}
+use Rattle.source_lowering.proofs.statements.Statements.{WaysOn, RunsAs, ways_later, falls_same, breaks_same, continues_same, return_same, leave_same}
+use Rattle.source_lowering.proofs.statements.Statements.{choice_same, sequence_same, loop_same}
 use Rattle.source_lowering.proofs.statements.Declaring.{local_with_same}
 use Rattle.source_lowering.proofs.statements.Blocks.{locals_outward, objects_outward, block_same}
 use Rattle.source_lowering.specs.Programs.{in_loop, in_switch, locals_of, regions_with, cases_code, default_code, declaration_values, statement_values}

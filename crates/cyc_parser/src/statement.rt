@@ -91,7 +91,8 @@ fn block_item(alloc: Global, depth: u32, cursor: &mut Cursor<'_, '_>) -> Parsed<
     ensures shorter { OnOk result (length cursor.new < length cursor.old) }
 {
     if begins_declaration(cursor.kind()) {
-        Ok(BlockItem::Declare(declaration(alloc, depth, cursor)?))
+        let declaration = declaration(alloc, depth, cursor)?;
+        Ok(BlockItem::Declare(Box::new(alloc, declaration)?))
     } else {
         Ok(BlockItem::Execute(statement(alloc, depth, cursor)?))
     }
@@ -252,6 +253,7 @@ fn run(alloc: Global, depth: u32, cursor: &mut Cursor<'_, '_>) -> Parsed<Stateme
     let first = expression(alloc, depth, cursor)?;
     if cursor.eat(Sign::Exchange) {
         let second = expression(alloc, depth, cursor)?;
+        let (first, second) = (Box::new(alloc, first)?, Box::new(alloc, second)?);
         ended(Statement::Exchange(first, second), Sign::Semicolon, cursor)
     } else {
         ended(Statement::Run(first), Sign::Semicolon, cursor)

@@ -29,7 +29,7 @@ pub run_tree : (value : code.Expression) → statement_tree (form.Run value) ≡
 run_tree value =
     ap statement_tree (sym (form.rolls-Run value)) ∙ fold-roll-Statement OneItem Statement OneClause item_step statement_step clause_step (Statement-F.Run value)
 
-pub exchange_tree : (left : code.Expression) (right : code.Expression) → statement_tree (form.Exchange left right) ≡ Statement.Exchange (expression_tree left) (expression_tree right)
+pub exchange_tree : (left : Box code.Expression Global) (right : Box code.Expression Global) → statement_tree (form.Exchange left right) ≡ Statement.Exchange (expression_tree left.value) (expression_tree right.value)
 exchange_tree left right =
     ap statement_tree (sym (form.rolls-Exchange left right)) ∙ fold-roll-Statement OneItem Statement OneClause item_step statement_step clause_step (Statement-F.Exchange left right)
 
@@ -69,7 +69,7 @@ pub free_key_tree : (at : ℕ) (key : Name) → statement_tree (form.FreeKey at 
 free_key_tree at key =
     ap statement_tree (sym (form.rolls-FreeKey at key)) ∙ fold-roll-Statement OneItem Statement OneClause item_step statement_step clause_step (Statement-F.FreeKey at key)
 
-pub declare_tree : (declaration : code_declaration.Declaration) → item_tree (item_form.Declare declaration) ≡ OneItem.Declare (declaration_tree declaration)
+pub declare_tree : (declaration : Box code_declaration.Declaration Global) → item_tree (item_form.Declare declaration) ≡ OneItem.Declare (declaration_tree declaration.value)
 declare_tree declaration =
     ap item_tree (sym (item_form.rolls-Declare declaration)) ∙ fold-roll-BlockItem OneItem Statement OneClause item_step statement_step clause_step (BlockItem-F.Declare declaration)
 

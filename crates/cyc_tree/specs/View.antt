@@ -172,7 +172,7 @@ clauses_of [] = NoClauses
 clauses_of (c ∷ rest) = MoreClauses c.at c.pattern c.body (clauses_of rest)
 
 abbrev pub item_step : BlockItem-F OneItem Statement OneClause → OneItem
-item_step (BlockItem-F.Declare d) = OneItem.Declare (declaration_tree d)
+item_step (BlockItem-F.Declare d) = OneItem.Declare (declaration_tree d.value)
 item_step (BlockItem-F.Execute s) = OneItem.Execute s
 
 abbrev pub clause_step : Clause-F OneItem Statement OneClause → OneClause
@@ -182,7 +182,7 @@ abbrev pub statement_step : Statement-F OneItem Statement OneClause → Statemen
 statement_step (Statement-F.Empty at) = Statement.Empty at
 statement_step (Statement-F.Block at items) = Statement.Block at (items_of items.items)
 statement_step (Statement-F.Run e) = Statement.Run (expression_tree e)
-statement_step (Statement-F.Exchange left right) = Statement.Exchange (expression_tree left) (expression_tree right)
+statement_step (Statement-F.Exchange left right) = Statement.Exchange (expression_tree left.value) (expression_tree right.value)
 statement_step (Statement-F.If at condition body) = Statement.If at (expression_tree condition) body.value
 statement_step (Statement-F.IfElse at condition body otherwise) = Statement.IfElse at (expression_tree condition) body.value otherwise.value
 statement_step (Statement-F.While at condition body) = Statement.While at (expression_tree condition) body.value

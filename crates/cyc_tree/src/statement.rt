@@ -52,7 +52,7 @@ pub enum Statement {
     /// An expression that is evaluated and discarded.
     Run(Expression),
     /// `:=:` between two places.
-    Exchange(Expression, Expression),
+    Exchange(Box<Expression>, Box<Expression>),
     /// An `if` with no `else`.
     If(u32, Expression, Box<Statement>),
     /// An `if` with its `else`.
@@ -73,7 +73,7 @@ pub enum Statement {
 /// What stands in a block.
 #[cycle(statement)]
 pub enum BlockItem {
-    Declare(Declaration),
+    Declare(Box<Declaration>),
     Execute(Statement),
 }
 
@@ -197,7 +197,8 @@ impl Statement {
             | Statement::Return(at, _)
             | Statement::FreeUnique(at, _)
             | Statement::FreeKey(at, _) => *at,
-            Statement::Run(first) | Statement::Exchange(first, _) => first.place(),
+            Statement::Run(first) => first.place(),
+            Statement::Exchange(first, _) => first.place(),
         }
     }
 }

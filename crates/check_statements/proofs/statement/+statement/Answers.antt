@@ -1,6 +1,6 @@
 use Rattle.std.proofs.Common.{◌≡◌, ◌≤◌, ◌+◌, ⊎_elim, IfOk, List, ap, arith, drop, length, map, subst, sym, ◌∙◌, ◌++◌, ℕ}
 use Rattle.std.specs.Prelude.{option_map, ◌&&◌}
-use Rattle.cyc_tree.specs.View.{OneClause, clause_tree, clauses_of, expression_tree, item_tree, items_of, pattern_tree, statement_tree}
+use Rattle.cyc_tree.specs.View.{OneClause, OneItem, clause_tree, clauses_of, declaration_tree, expression_tree, item_tree, items_of, pattern_tree, statement_tree}
 use Rattle.cyc_tree.specs.declared.statement.BlockItem.{BlockItem}
 use Rattle.cyc_tree.specs.declared.statement.Clause.{Clause}
 use Rattle.cyc_tree.proofs.PartForms.{clause_parts}
@@ -167,6 +167,7 @@ items_fault-each-preserved t c =
     → faults_of c.match-item.fault ≡ earliest (item_faults g reached (item_tree item)) =
     elim c.match-item.branch [
       | items_fault-in-Declare+in_ok-fault-in-Declare w ↦ λ g h. ap (λ o. faults_of o) w.fault-is ∙ w.in_ok-fault-in-Declare.ensures.fault g h
+          ∙ ap (λ d. earliest (item_faults g reached (OneItem.Declare (declaration_tree d)))) w.deref-in-Declare.ensures
           ∙ ap (λ i. earliest (item_faults g reached i)) (sym (declare_tree w.in-Declare.declaration) ∙ ap item_tree (sym w.in-Declare.is))
       | items_fault-in-Execute+in_ok-fault-in-Execute w ↦ λ g h. ap (λ o. faults_of o) w.fault-is
           ∙ w.in_ok-fault-in-Execute.ensures.fault g h.known h.suits h.block.around
@@ -180,7 +181,8 @@ items_fault-each-preserved t c =
           (subst (λ ns. StandsIn context ns outer w.declare.new.scope (scope_behind g (item_tree item))) (sym w.names-is)
           (subst (λ i. StandsIn context w.declare.new.names outer w.declare.new.scope (scope_behind g i))
           (sym (declare_tree w.in-Declare.declaration) ∙ ap item_tree (sym w.in-Declare.is))
-          (w.in_ok-fault-in-Declare.ensures.known g h)))
+          (subst (λ d. StandsIn context w.declare.new.names outer w.declare.new.scope (scope_behind g (OneItem.Declare (declaration_tree d))))
+          w.deref-in-Declare.ensures (w.in_ok-fault-in-Declare.ensures.known g h))))
       | items_fault-in-Execute+in_ok-fault-in-Execute w ↦ λ g h. subst (λ s. StandsIn context later outer s (scope_behind g (item_tree item)))
           (sym (w.scope-is ∙ w.in_ok-fault-in-Execute.ensures.scope))
           (subst (λ ns. StandsIn context ns outer c.each.scope (scope_behind g (item_tree item)))

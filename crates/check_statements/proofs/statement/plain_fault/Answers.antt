@@ -1,5 +1,6 @@
 use Rattle.std.proofs.Common.{◌≡◌, ◌∙◌, ⊎_elim, IfOk, ap, false, subst, sym}
 use Rattle.std.specs.Prelude.{option_map, ◌||◌}
+use Rattle.cyc_tree.specs.Tree.{Statement}
 use Rattle.cyc_tree.specs.View.{expression_tree, statement_tree}
 use Rattle.cyc_tree.proofs.StatementForms.{block_tree, break_tree, exchange_tree, free_key_tree, free_unique_tree, if_else_tree, if_tree}
 use Rattle.cyc_tree.proofs.StatementForms.{return_tree, switch_tree, while_tree}
@@ -15,7 +16,13 @@ pub returns-in-Exchange : goal.returns-in-Exchange
 returns-in-Exchange c g ns reached h suits plain =
     let x = c.in-Exchange in
     subst (λ s. IfOk c.exchange_fault.result (λ f. faults_of f ≡ earliest (statement_faults g reached s)))
-    (sym (ap statement_tree x.is ∙ exchange_tree x.left x.right)) (c.exchange_fault.ensures g h)
+    (sym (ap statement_tree x.is ∙ exchange_tree x.left x.right))
+    (subst (λ l. IfOk c.exchange_fault.result (λ f. faults_of f
+    ≡ earliest (statement_faults g reached (Statement.Exchange (expression_tree l) (expression_tree x.right.value)))))
+    c.deref-in-Exchange.ensures
+    (subst (λ r. IfOk c.exchange_fault.result (λ f. faults_of f
+    ≡ earliest (statement_faults g reached (Statement.Exchange (expression_tree c.deref-in-Exchange.result.now) (expression_tree r)))))
+    c.deref-in-Exchange-2.ensures (c.exchange_fault.ensures g h)))
 
 pub returns-in-Break : goal.returns-in-Break
 returns-in-Break c g ns reached h suits plain =

@@ -192,11 +192,14 @@ items_exits-each-preserved t c =
     ≡ exits_of_items g (items_of (item_tree item ∷ rest)) =
     elim c.match-item.branch [
       | items_exits-in-Declare+in_ok-declared-in-Declare w ↦ λ g h rest.
-          let d = declaration_tree w.in-Declare.declaration in
+          let d = declaration_tree w.in-Declare.declaration.value in
           let is = sym (declare_tree w.in-Declare.declaration) ∙ ap item_tree (sym w.in-Declare.is) in
           ap (λ s. step_before s (exits_of_items (scope_behind g (item_tree item)) (items_of rest))) w.step-is
           ∙ ap (λ i. declared_before w.in_ok-declared-in-Declare.field-0 (exits_of_items (scope_behind g i) (items_of rest))) (sym is)
-          ∙ w.in_ok-declared-in-Declare.ensures.before g (exits_of_items (scope_behind g (OneItem.Declare d)) (items_of rest)) h
+          ∙ subst (λ e. declared_before w.in_ok-declared-in-Declare.field-0 (exits_of_items (scope_behind g (OneItem.Declare (declaration_tree e))) (items_of rest))
+          ≡ exits_of_items g (items_of (OneItem.Declare (declaration_tree e) ∷ rest))) w.deref-in-Declare.ensures
+          (w.in_ok-declared-in-Declare.ensures.before g
+          (exits_of_items (scope_behind g (OneItem.Declare (declaration_tree w.deref-in-Declare.result.now))) (items_of rest)) h)
           ∙ ap (λ i. exits_of_items g (items_of (i ∷ rest))) is
       | items_exits-in-Execute+in_ok-exits-in-Execute w ↦ λ g h rest.
           let e = statement_tree w.in-Execute.statement in
@@ -215,7 +218,8 @@ items_exits-each-preserved t c =
           (subst (λ ns. Stands context ns outer w.declared.new.scope (scope_behind g (item_tree item))) (sym w.names-is)
           (subst (λ i. Stands context w.declared.new.names outer w.declared.new.scope (scope_behind g i))
           (sym (declare_tree w.in-Declare.declaration) ∙ ap item_tree (sym w.in-Declare.is))
-          (w.in_ok-declared-in-Declare.ensures.known g h)))
+          (subst (λ e. Stands context w.declared.new.names outer w.declared.new.scope (scope_behind g (OneItem.Declare (declaration_tree e))))
+          w.deref-in-Declare.ensures (w.in_ok-declared-in-Declare.ensures.known g h))))
       | items_exits-in-Execute+in_ok-exits-in-Execute w ↦ λ g h. subst (λ s. Stands context later outer s (scope_behind g (item_tree item)))
           (sym (w.scope-is ∙ w.in_ok-exits-in-Execute.ensures.scope))
           (subst (λ ns. Stands context ns outer c.each.scope (scope_behind g (item_tree item)))
@@ -275,8 +279,15 @@ exits-returns-in-Run-clause-exits t c = λ g h.
 pub exits-returns-in-Exchange-clause-exits : goal.exits-returns-in-Exchange-clause-exits
 exits-returns-in-Exchange-clause-exits t c = λ g h.
     let x = c.in-Exchange in
-    of_statement c.exchange_exits.result g c.args.statement.now (Statement.Exchange (expression_tree x.left) (expression_tree x.right))
-    (ap statement_tree x.is ∙ exchange_tree x.left x.right) (c.exchange_exits.ensures g h.known h.locals)
+    let l = x.left.value in
+    let r = x.right.value in
+    of_statement c.exchange_exits.result g c.args.statement.now (Statement.Exchange (expression_tree l) (expression_tree r))
+    (ap statement_tree x.is ∙ exchange_tree x.left x.right)
+    (subst (λ e. IfOk c.exchange_exits.result (λ w. exits_of w ≡ rules.exits_of g (Statement.Exchange (expression_tree e) (expression_tree r))))
+    c.deref-in-Exchange.ensures
+    (subst (λ e. IfOk c.exchange_exits.result (λ w. exits_of w
+    ≡ rules.exits_of g (Statement.Exchange (expression_tree c.deref-in-Exchange.result.now) (expression_tree e))))
+    c.deref-in-Exchange-2.ensures (c.exchange_exits.ensures g h.known h.locals)))
 
 pub exits-returns-in-If-clause-exits : goal.exits-returns-in-If-clause-exits
 exits-returns-in-If-clause-exits t c = λ g h.

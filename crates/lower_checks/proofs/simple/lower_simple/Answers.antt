@@ -1,4 +1,5 @@
-use Rattle.std.proofs.Common.{◌≡◌, ◌∙◌, ◌+◌, arith, sym, ap, subst, [], ◌∷◌, ◌++◌, length, map, append-nil}
+use Rattle.std.proofs.Common.{◌≡◌, ◌∙◌, ◌+◌, arith, sym, ap, ap₂, subst, [], ◌∷◌, ◌++◌, length, map, append-nil}
+use Rattle.cyc_tree.specs.Tree.{Statement}
 use Rattle.cyc_tree.specs.View.{expression_tree, name_tree, statement_tree as source_tree}
 use Rattle.cyc_tree.proofs.StatementForms.{exchange_tree, free_key_tree, free_unique_tree}
 use Rattle.core_meaning.specs.Core as core
@@ -15,14 +16,15 @@ use Rattle.lower_checks.proofs.simple.lower_simple.Goals as goal
 
 -- an exchange, whose places are taken
 pub lower_exchange-requires : goal.lower_exchange-requires
-lower_exchange-requires c = record {
-  room = let asked = subst (λ s. HasRoom c.args.around.all (statement_room s))
-      (ap source_tree c.in-Exchange.is ∙ exchange_tree c.in-Exchange.left c.in-Exchange.right) c.requires.room in
-      omega (arith, c.value-to.ensures, asked);
-  taken = λ sound.
-      subst (TakesStatement (world_in c.args.scope.now) (shape_tree c.args.shape.now) (names_in c.args.scope.now))
-      (ap source_tree c.in-Exchange.is ∙ exchange_tree c.in-Exchange.left c.in-Exchange.right) (c.requires.taken sound);
-}
+lower_exchange-requires c =
+    let is = ap source_tree c.in-Exchange.is ∙ exchange_tree c.in-Exchange.left c.in-Exchange.right
+    ∙ sym (ap₂ (λ l r. Statement.Exchange (expression_tree l) (expression_tree r)) c.deref-in-Exchange.ensures c.deref-in-Exchange-2.ensures) in
+    record {
+      room = let asked = subst (λ s. HasRoom c.args.around.all (statement_room s)) is c.requires.room in
+          omega (arith, c.value-to.ensures, asked);
+      taken = λ sound.
+          subst (TakesStatement (world_in c.args.scope.now) (shape_tree c.args.shape.now) (names_in c.args.scope.now)) is (c.requires.taken sound);
+    }
 
 pub returns-in-Exchange : goal.returns-in-Exchange
 returns-in-Exchange c sound =
@@ -33,8 +35,8 @@ returns-in-Exchange c sound =
     let a = c.args.body.now in
     let own = next_of a in
     let z = c.lower_exchange.new.body in
-    let left = expression_tree c.in-Exchange.left in
-    let right = expression_tree c.in-Exchange.right in
+    let left = expression_tree c.deref-in-Exchange.result.now in
+    let right = expression_tree c.deref-in-Exchange-2.result.now in
     let x = side_of names left in
     let y = side_of names right in
     let to_is : c.value-to.result.0 ≡ h.all = c.value-to.ensures in
@@ -45,7 +47,8 @@ returns-in-Exchange c sound =
     (side_code y (place_code w names right (n + 1) (own + length (expression_values w names left))) ++ exchange_code w x y (static_shape w names left) n))
     (expression_values w names left ++ expression_values w names right)) to_is (c.lower_exchange.ensures.writes sound) in
     subst (λ s. IsWritten a z (statement_code w result names h own s) (statement_values w names s))
-    (sym (ap source_tree c.in-Exchange.is ∙ exchange_tree c.in-Exchange.left c.in-Exchange.right)) done
+    (sym (ap source_tree c.in-Exchange.is ∙ exchange_tree c.in-Exchange.left c.in-Exchange.right
+    ∙ sym (ap₂ (λ l r. Statement.Exchange (expression_tree l) (expression_tree r)) c.deref-in-Exchange.ensures c.deref-in-Exchange-2.ensures))) done
 
 pub lower_free-requires : goal.lower_free-requires
 lower_free-requires c = omega (arith, c.value-to.ensures, c.requires.room, statement_least (source_tree c.args.statement.now))

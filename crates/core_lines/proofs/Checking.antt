@@ -31,7 +31,7 @@ use Rattle.core_lines.proofs.memory.Verdicts.{is_so, not_so, branch_as, branch_l
 use Rattle.core_lines.proofs.memory.Access.{written_out, length_of_both, behind}
 use Rattle.core_lines.proofs.Steps.{state_at, is_in_code, goes_to, passes}
 use Rattle.core_lines.proofs.frames.Passing.{has_first, has_second}
-use Rattle.core_lines.proofs.frames.Bodies.{with_config, GoesHolding, goes_any, goes_fewer}
+use Rattle.core_lines.proofs.frames.Going.{with_config, GoesHolding, goes_any, goes_fewer}
 use Rattle.core_lines.proofs.operations.Raising.{raise_goes}
 use Rattle.core_lines.proofs.operations.Registers.{AtWith, AtHolding, AreThere, IsServed, elsewhere, knows, with_there, as_holding}
 use Rattle.core_lines.proofs.operations.EachOperation.{scoped}

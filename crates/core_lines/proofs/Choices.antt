@@ -15,7 +15,7 @@ use Rattle.core_lines.proofs.Completing.{raises_never_all}
 use Rattle.core_lines.proofs.memory.Relations.{World, IsInOrder, Has, Waiting, Covers, keeping}
 use Rattle.core_lines.proofs.memory.Access.{behind, length_of_both}
 use Rattle.core_lines.proofs.frames.Passing.{has_first, has_second}
-use Rattle.core_lines.proofs.frames.Bodies.{from_same, GoesHolding, goes_any, goes_fewer}
+use Rattle.core_lines.proofs.frames.Going.{from_same, GoesHolding, goes_any, goes_fewer}
 use Rattle.core_lines.proofs.Ways.{Needs, Jumps, Does, does_less, does_ends}
 use Rattle.core_lines.proofs.Forms.{same_holding, jump_goes, choice_goes, loop_goes}
 use Rattle.core_lines.proofs.Tests.{tests_and_jumps}
@@ -186,34 +186,36 @@ module _ (w : World) (order : IsInOrder w) (x : Waiting) (outer : List Waiting) 
   }
 
   pub loop_does : (test_completes body_completes : Bool) (held last_held : List Holding) (needs : Needs) (head between : List Bool)
-      (t next behind_label out again : ℕ) (ts body : Statements) (second fourth : List Line) → t < x.fn.temporaries → IsServed w (keeping between x) held t → Covers between needs.after
+      (t next behind_label out again : ℕ) (ts body : Statements) (second fourth : List Line) → t < x.fn.temporaries → IsServed w (keeping between x) held t
+      → Covers between needs.after
       → Does w x outer most test_completes [] held head (record needs { after = between }) second out again (core.statements ts)
       → Does w x outer most body_completes [] last_held between (record { after = head; out = needs.after; again = head }) fourth behind_label next
       (core.statements body)
       → Does w x outer most true [] [] head needs
       ((Label next ∷ []) ++ second ++ test held t behind_label ++ fourth ++ (Jump next ∷ Label behind_label ∷ [])) out again
       (core.statement (While ts t body))
-  loop_does test_completes body_completes held last_held needs head between t next behind_label out again ts body second fourth named served to_end one other = record {
-    goes = λ place fuel le k aligned has ways.
-        let first : List Line = Label next ∷ [] in
-        let third = test held t behind_label in
-        let last : List Line = Jump next ∷ Label behind_label ∷ [] in
-        let two = first ++ second in
-        let three = two ++ third in
-        let four = three ++ fourth in
-        let has4 = has_first w place four last has in
-        let has3 = has_first w place three fourth has4 in
-        let has2 = has_first w place two third has3 in
-        let at_second = has_second w place first second has2 in
-        let at_third = has_second w place two third has3 in
-        let at_fourth = has_second w place three fourth has4 in
-        let at_last = has_second w place four last has in
-        let start : place + 0 ≡ place = omega arith in
-        let e : place + code_length three + code_length fourth ≡ place + code_length four = omega (arith, length_of_both three fourth) in
-        loop_goes w order x outer most test jumps place (place + code_length two) (place + code_length three) (place + code_length (four ++ last))
-        next behind_label out again aligned ts t body second fourth held last_held needs head between k has2.1
-        (subst (λ p. Has w p second) start at_second) (omega (arith, length_of_both first second)) named served at_third
-        (omega (arith, length_of_both two third)) at_fourth (behind place three aligned)
-        (subst (λ p. Has w p (Jump next ∷ [])) (sym e) (at_last.0, at_last.1, tt))
-        (at_last.2.1 ∙ omega (arith, length_of_both four last)) to_end test_completes body_completes one other fuel le ways;
-  }
+  loop_does test_completes body_completes held last_held needs head between t next behind_label out again ts body second fourth named
+      served to_end one other = record {
+        goes = λ place fuel le k aligned has ways.
+            let first : List Line = Label next ∷ [] in
+            let third = test held t behind_label in
+            let last : List Line = Jump next ∷ Label behind_label ∷ [] in
+            let two = first ++ second in
+            let three = two ++ third in
+            let four = three ++ fourth in
+            let has4 = has_first w place four last has in
+            let has3 = has_first w place three fourth has4 in
+            let has2 = has_first w place two third has3 in
+            let at_second = has_second w place first second has2 in
+            let at_third = has_second w place two third has3 in
+            let at_fourth = has_second w place three fourth has4 in
+            let at_last = has_second w place four last has in
+            let start : place + 0 ≡ place = omega arith in
+            let e : place + code_length three + code_length fourth ≡ place + code_length four = omega (arith, length_of_both three fourth) in
+            loop_goes w order x outer most test jumps place (place + code_length two) (place + code_length three) (place + code_length (four ++ last))
+            next behind_label out again aligned ts t body second fourth held last_held needs head between k has2.1
+            (subst (λ p. Has w p second) start at_second) (omega (arith, length_of_both first second)) named served at_third
+            (omega (arith, length_of_both two third)) at_fourth (behind place three aligned)
+            (subst (λ p. Has w p (Jump next ∷ [])) (sym e) (at_last.0, at_last.1, tt))
+            (at_last.2.1 ∙ omega (arith, length_of_both four last)) to_end test_completes body_completes one other fuel le ways;
+      }

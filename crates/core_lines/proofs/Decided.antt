@@ -9,7 +9,7 @@ use Rattle.core_lines.specs.Lies.{Maps, Shows}
 use Rattle.core_lines.specs.Machines.{Machine}
 use Rattle.core_lines.proofs.memory.Relations.{World, Waiting, Goes, active_of, keeping}
 use Rattle.core_lines.proofs.memory.Moving.{goes_nowhere, goes_stuck}
-use Rattle.core_lines.proofs.frames.Bodies.{with_config, GoesHolding}
+use Rattle.core_lines.proofs.frames.Going.{with_config, GoesHolding}
 use Rattle.core_lines.proofs.operations.Registers.{AtHolding, with_there, there_found}
 use Rattle.core_lines.proofs.Ways.{Tested, Fails, Holds, Neither}
 use Rattle.core_lines.proofs.Tests.{fails_zero, holds_other, tested}

@@ -22,7 +22,8 @@ use Rattle.core_lines.proofs.memory.Relations.{EndsThere, World, IsInOrder, Has,
 use Rattle.core_lines.proofs.memory.Moving.{goes_stuck}
 use Rattle.core_lines.proofs.memory.Access.{length_of_both, behind}
 use Rattle.core_lines.proofs.frames.Passing.{has_first, has_second}
-use Rattle.core_lines.proofs.frames.Bodies.{activation, with_config, GoesFrom, GoesHolding, goes_any, BodyGoes, FunctionDoes}
+use Rattle.core_lines.proofs.frames.Going.{with_config, GoesFrom, GoesHolding, goes_any, BodyGoes}
+use Rattle.core_lines.proofs.frames.Bodies.{activation, FunctionDoes}
 use Rattle.core_lines.proofs.operations.Registers.{AtHolding}
 use Rattle.core_lines.proofs.Ways.{Needs, Does}
 use Rattle.core_lines.proofs.Programs.{IsAtCode}

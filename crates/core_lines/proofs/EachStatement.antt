@@ -22,7 +22,8 @@ use Rattle.core_lines.specs.Selected.{nth_block, shrunk, shrunk_in, shrunk_of, h
 use Rattle.core_lines.specs.Homes.{is_home, flag_at}
 use Rattle.core_meaning.specs.Selectable.{HasLinesIn, HaveLinesIn}
 use Rattle.core_lines.proofs.memory.Relations.{Covers, Inside, EndsThere, home_of, active_of, World, IsInOrder, Waiting, Place, keeping}
-use Rattle.core_lines.proofs.frames.Bodies.{with_config, goes_any, BodyGoes, call_goes, return_goes}
+use Rattle.core_lines.proofs.frames.Going.{with_config, goes_any, BodyGoes}
+use Rattle.core_lines.proofs.frames.Calls.{call_goes, return_goes}
 use Rattle.core_lines.proofs.Flags.{length_cleared, length_all, more_flagged, flags_behind, follows_flags}
 use Rattle.core_lines.proofs.Live.{few_results, saved_in, saved_of, choice_to_after, choice_to_body, head_to_test}
 use Rattle.core_lines.proofs.Loads.{unknown_below, operation_below, values_below, statement_below, statements_below}
@@ -241,11 +242,12 @@ module _ (w : World) (order : IsInOrder w) (outer : List Waiting) (small : DataS
         block_does w order x outer most p ls body (can_complete_all body) held (held_behind_all (hs ∷ hss) w.data_offsets held body) start needs lines out again
         (offsets_lie low placed (shrunk_layouts ls hs has.0)) (omega (arith, upto, below, framed)) around.nest
         (tiny ls hs has.0 fine.0.short) (fit x.fn ls names ns x.nest oss hss around.blocks fine.0) around.inside
-        (λ k. statements_do (within_block x p k) (length ls ∷ ns) (offsets_from low placed ∷ oss) (hs ∷ hss) inner high held needs flags rest next out again body
-        whole are (in_block x ns oss hss names low k ls around fine.0 (omega (arith, upto, below))) has.1 fine.1 below)
+        (λ k. statements_do (within_block x p k) (length ls ∷ ns) (offsets_from low placed ∷ oss) (hs ∷ hss) inner high held needs flags rest next out again
+        body whole are (in_block x ns oss hss names low k ls around fine.0 (omega (arith, upto, below))) has.1 fine.1 below)
     statement_does x ns oss hss names low held needs flags rest next out again (Leave body) whole are around has fine below =
         leave_does w order x outer most (can_complete_all body) held (held_behind_all hss w.data_offsets held body)
-        (showing w hss names held needs (Leave body)) needs next out again body (statements_code flags (surrounding w x oss hss names low held) (next + 1) next again body)
+        (showing w hss names held needs (Leave body)) needs next out again body
+        (statements_code flags (surrounding w x oss hss names low held) (next + 1) next again body)
         (statements_do x ns oss hss names low held (record needs { out = needs.after }) flags rest (next + 1) next again body
         (record { after = whole.after; out = whole.after; again = whole.again }) are around has fine below)
     statement_does x ns oss hss names low held needs flags rest next out again Break whole are around has fine below =

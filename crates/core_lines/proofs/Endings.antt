@@ -22,7 +22,8 @@ use Rattle.core_lines.specs.Selected.{shrunk, shrunk_in, shrunk_of, homes_here, 
 use Rattle.core_lines.proofs.memory.Relations.{World, IsInOrder, Waiting, Place, keeping}
 use Rattle.core_lines.proofs.memory.Access.{length_of_both}
 use Rattle.core_lines.proofs.frames.Passing.{has_first}
-use Rattle.core_lines.proofs.frames.Bodies.{BodyGoes, return_last_goes}
+use Rattle.core_lines.proofs.frames.Going.{BodyGoes}
+use Rattle.core_lines.proofs.frames.Calls.{return_last_goes}
 use Rattle.core_lines.proofs.Flags.{length_cleared, flags_behind}
 use Rattle.core_lines.proofs.Live.{saved_in}
 use Rattle.core_lines.proofs.Loads.{values_below}

@@ -20,7 +20,7 @@ use Rattle.core_lines.proofs.memory.Relations.{World, IsInOrder, Has, Waiting, P
 use Rattle.core_lines.proofs.memory.Moving.{Comes, goes_from, goes_as, goes_stuck, leads_from}
 use Rattle.core_lines.proofs.memory.Access.{length_of_both, behind}
 use Rattle.core_lines.proofs.frames.Passing.{has_first, has_second}
-use Rattle.core_lines.proofs.frames.Bodies.{with_config, IsIn, GoesFrom, from_same, GoesHolding, goes_any, goes_fewer}
+use Rattle.core_lines.proofs.frames.Going.{with_config, IsIn, GoesFrom, from_same, GoesHolding, goes_any, goes_fewer}
 use Rattle.core_lines.specs.Held.{Holding}
 use Rattle.core_lines.specs.Lies.{Maps, Activation}
 use Rattle.core_lines.proofs.operations.Registers.{AtHolding, AreThere, IsServed, at_any, at_of, there_extends}
@@ -86,7 +86,8 @@ module _ (w : World) (order : IsInOrder w) (x : Waiting) (outer : List Waiting) 
         let e : place + code_length (first ++ second) ≡ middle + code_length second = omega (arith, length_of_both first second) in
         one.goes place fuel le (λ exit. core.falls_to exit (core.statements ss next) next) aligned (has_first w place first second has) (record {
           falls = λ completes. others.goes middle fuel le next (behind place first aligned) (has_second w place first second has) (record {
-            falls = λ both. same_holding needs.after fuel (place + code_length (first ++ second)) (middle + code_length second) end (next Falls) e (ways.falls both);
+            falls = λ both. same_holding needs.after fuel (place + code_length (first ++ second)) (middle + code_length second) end (next Falls) e
+                (ways.falls both);
             breaks = ways.breaks;
             continues = ways.continues;
             returns = ways.returns;
@@ -209,7 +210,8 @@ module _ (w : World) (order : IsInOrder w) (x : Waiting) (outer : List Waiting) 
             (λ s a. (at_any w (with_config at_choice c) outer c.memory tested held s a).stands.runs)
             (λ j less. goes_any w at_choice outer j (tested + code_length (test held t behind_label)) held turn
             (from_same w at_choice outer j body_at (tested + code_length (test held t behind_label)) turn (sym at_body)
-            (turn_again j (omega (arith, less, le)) (goes j less) (fewer_ways w x outer fuel j true end [] needs out again k (omega (arith, less)) ways))) c is))
+            (turn_again j (omega (arith, less, le)) (goes j less)
+            (fewer_ways w x outer fuel j true end [] needs out again k (omega (arith, less)) ways))) c is))
         by v e (Neither u f) =
             subst (λ q. Goes w fuel q (R c) active) (sym
             (ap (λ q. core.branch q (Turns here k c) (k Falls c)) e ∙ f (Turns here k c) (k Falls c)))

@@ -42,7 +42,8 @@ pub record IsFirst (m : Arrays) : Type 0 where
   pub small : (at : ℕ) → byte_at m at < 256
   pub unheld : (number : ℕ) → m.holdings.standing number ≡ None
 
-pub begins_as : (m : Arrays) (places : ℕ → ℕ) (lines : List Line) (ds : List Datum) → IsFirst m → ArePlainData (data_offsets ds) ds → m.statics ≡ data_bytes (data_offsets ds) 0 ds
+pub begins_as : (m : Arrays) (places : ℕ → ℕ) (lines : List Line) (ds : List Datum) → IsFirst m → ArePlainData (data_offsets ds) ds
+    → m.statics ≡ data_bytes (data_offsets ds) 0 ds
     → ((label : ℕ) → IsPlace (places label)) → HasLines (areas_of m) (byte_at m) places 0 lines → Begins (areas_of m) places lines ds (state_of m)
 begins_as m places lines ds first plain statics labels has =
     let os = data_offsets ds in

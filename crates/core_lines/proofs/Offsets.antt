@@ -1,4 +1,5 @@
--- What the code of an offset does: a register and so many bytes, into another; and a pointer so many bytes on, which stays below the end of all addresses.
+-- What the code of an offset does: it adds a number of bytes to a register's word, into another register. A pointer that is moved so stays below the end of
+-- all addresses.
 use Rattle.std.specs.Prelude.{nat_eq, if◌then◌else◌}
 use Rattle.std.proofs.Common.{◌≡◌, ℕ, suc, ◌+◌, ◌^◌, ◌<◌, Bool, true, false, List, [], ◌∷◌, ◌++◌, refl, sym, ap, subst, ◌∙◌, arith}
 use Rattle.cyc_words.specs.Words.{word, sum_of}

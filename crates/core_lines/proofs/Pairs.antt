@@ -23,7 +23,7 @@ use Rattle.core_lines.proofs.memory.Relations.{Inside, as_home, home_of, Follows
 use Rattle.core_lines.proofs.memory.Moving.{comes_then, comes_as, goes_from}
 use Rattle.core_lines.proofs.memory.Access.{length_of_both, behind}
 use Rattle.core_lines.proofs.frames.Passing.{has_first, has_second}
-use Rattle.core_lines.proofs.frames.Bodies.{with_config, GoesHolding, goes_fewer}
+use Rattle.core_lines.proofs.frames.Going.{with_config, GoesHolding, goes_fewer}
 use Rattle.core_lines.proofs.operations.Registers.{AtHolding, served_two}
 use Rattle.core_lines.proofs.homes.Nests.{BlocksAre}
 use Rattle.core_lines.proofs.homes.HomeResults.{straight}

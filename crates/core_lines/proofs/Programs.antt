@@ -140,8 +140,8 @@ layouts_of : (ds : List Datum) → HaveLayouts ds → AreLayouts (datum_locals d
 layouts_of [] have = tt
 layouts_of (d ∷ ds) have = (have.0, layouts_of ds have.1)
 
-module _ (p : Program) (wide : ℕ → Bool) (names : ℕ → List ℕ) (bound : List ℕ → ℕ) (n : Areas) (places : ℕ → ℕ) (s : State) (bounded : AreBounded names bound p.functions)
-    (begins : Begins n places (program_code wide p) p.data_objects s) where
+module _ (p : Program) (wide : ℕ → Bool) (names : ℕ → List ℕ) (bound : List ℕ → ℕ) (n : Areas) (places : ℕ → ℕ) (s : State)
+    (bounded : AreBounded names bound p.functions) (begins : Begins n places (program_code wide p) p.data_objects s) where
   abbrev w : World
   w = world_of wide names bound n places p s
 
@@ -230,12 +230,13 @@ module _ (p : Program) (wide : ℕ → Bool) (names : ℕ → List ℕ) (bound :
       (has_second w 16 refusal_code of_functions has_behind.2) is))
 
 -- The lines of a program do what it does, where the code of each of its functions does.
-pub program_does_as_core : (p : Program) (wide : ℕ → Bool) → IsSelectable p → ((w : World) (order : IsInOrder w) → IsOfProgram w p → FunctionsDo w order) → DoesAsCore p
-    (program_code wide p)
+pub program_does_as_core : (p : Program) (wide : ℕ → Bool) → IsSelectable p → ((w : World) (order : IsInOrder w) → IsOfProgram w p → FunctionsDo w order)
+    → DoesAsCore p (program_code wide p)
 program_does_as_core p wide selectable does names bound n places s input bytes bounded begins sound =
     let w = world_of wide names bound n places p s in
     let order = in_order p wide names bound n places s bounded begins in
-    program_does w order refl p.main (each p wide names bound n places s bounded begins (does w order (is_of_program p wide names bound n places s bounded begins)))
+    program_does w order refl p.main
+    (each p wide names bound n places s bounded begins (does w order (is_of_program p wide names bound n places s bounded begins)))
     p.data_objects (data_offsets p.data_objects) (data_end p.data_objects)
     (offsets_lie 0 (datum_locals p.data_objects) (layouts_of p.data_objects selectable.data_layouts))
     begins.data_within refl (machine p wide names bound n places s bounded begins) (is_start p wide names bound n places s bounded begins) input bytes sound

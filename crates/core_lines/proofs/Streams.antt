@@ -139,11 +139,14 @@ module _ (w : World) (order : IsInOrder w) (x : Waiting) (outer : List Waiting) 
             subst (λ (q : Machine). run_step w.areas (run_from q input answers) ≡ shown_first (ByteRead answer)
             (run_from (behind w order x outer mem place has (Others x hs) 2 s a value) rest answers))
             (sym (here w order x outer mem place has (Others x hs) 2 s a))
-            (ap (after_step (run_from (now w order x outer mem place has (Others x hs) 2 s a) input answers)) (call_is w order x outer mem place has (Others x hs) 2 s a (answers 0)) ∙ means answers
-            ∙ ap (λ pc. shown_first (ByteRead answer) (run_from (record (behind w order x outer mem place has (Others x hs) 2 s a value) { pc = pc }) rest answers))
+            (ap (after_step (run_from (now w order x outer mem place has (Others x hs) 2 s a) input answers))
+            (call_is w order x outer mem place has (Others x hs) 2 s a (answers 0)) ∙ means answers
+            ∙ ap (λ pc. shown_first (ByteRead answer)
+            (run_from (record (behind w order x outer mem place has (Others x hs) 2 s a value) { pc = pc }) rest answers))
             (next_is w order x outer mem place has (Others x hs) 2 s a));
         lawful = λ answers. lawful_here w order x outer mem place has (Others x hs) 2 s a input answers;
-        there = at_behind w order x outer mem place has (Others x hs) 2 s a value (Word (byte_word answer)) (Others x hs) same (subst (λ k. k < 2 ^ 32) (sym same) small)
+        there = at_behind w order x outer mem place has (Others x hs) 2 s a value (Word (byte_word answer)) (Others x hs) same
+            (subst (λ k. k < 2 ^ 32) (sym same) small)
             (argument_changes x hs a.maps (set_register 10 value s.registers) s.registers (set_kept 9 value s.registers) a.holds.1);
       }
 

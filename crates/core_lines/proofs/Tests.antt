@@ -33,7 +33,7 @@ use Rattle.core_lines.proofs.operations.NumberVerdicts.{so_now}
 use Rattle.core_lines.specs.Held.{Source, Register, Number, Compared, ComparedWith, Holding, source_of}
 use Rattle.core_lines.specs.Operands.{register_for, bring_code, is_some, test_for, test_in, ready_code, test_ready}
 use Rattle.core_lines.specs.Choosing.{jump_unless, choice_code}
-use Rattle.core_lines.proofs.frames.Bodies.{with_config}
+use Rattle.core_lines.proofs.frames.Going.{with_config}
 use Rattle.core_lines.proofs.Ways.{Tested, Fails, Holds, Neither, Jumps}
 
 -- ---- what a test holds

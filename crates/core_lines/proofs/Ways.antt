@@ -10,7 +10,7 @@ use Rattle.core_lines.proofs.memory.Relations.{Covers, keeping}
 use Rattle.core_lines.proofs.memory.Relations.{World, Has, Waiting, active_of}
 use Rattle.core_lines.proofs.memory.Moving.{Comes, fewer}
 use Rattle.core_lines.proofs.memory.Access.{behind}
-use Rattle.core_lines.proofs.frames.Bodies.{with_config, IsIn, GoesFrom, GoesHolding, goes_any, goes_fewer, GoesReturning}
+use Rattle.core_lines.proofs.frames.Going.{with_config, IsIn, GoesFrom, GoesHolding, goes_any, goes_fewer, GoesReturning}
 use Rattle.core_lines.specs.Held.{Holding}
 use Rattle.core_lines.proofs.operations.Registers.{AtHolding, IsServed}
 use Rattle.core_meaning.specs.Steps.{stuck}

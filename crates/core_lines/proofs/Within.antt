@@ -1,4 +1,4 @@
--- Lines that take no more than so many bytes.
+-- Bounds on the bytes that lines take.
 use Rattle.std.proofs.Common.{ℕ, ◌+◌, ◌≤◌, Bool, true, false, List, [], ◌++◌, arith}
 use Rattle.std.specs.Prelude.{if◌then◌else◌}
 use Rattle.core_lines.specs.declared.line.Line.{Line}

@@ -12,4 +12,6 @@ pub mod Jumping
 pub mod Results
 pub mod Leaving
 pub mod Ending
+pub mod Going
+pub mod Calls
 pub mod Bodies

@@ -1,6 +1,7 @@
 pub mod Relaxing
 mod BareLines
 mod BareNumbers
+mod BareTemporaries
 mod Bare
 pub mod NoLabels
 pub mod LabelsOnce

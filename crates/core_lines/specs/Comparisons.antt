@@ -30,7 +30,7 @@ opposite NotLessUnsigned = LessUnsigned
 abbrev pub inverse : Comparison → Comparison
 inverse c = record { condition = opposite c.condition; left = c.left; right = c.right }
 
--- the branch by so many bytes that is made where a comparison holds
+-- the branch that is made where a comparison holds, by this offset in bytes
 abbrev pub branch_on : Condition → (left right : ℕ) → ℤ → Instr
 branch_on Equal left right offset = Beq left right offset
 branch_on NotEqual left right offset = Bne left right offset

@@ -30,7 +30,7 @@ pub record Surroundings : Type 0 where
   pub statics : List ℕ
   pub held : List Holding
 
--- where a local of the block so many blocks out lies in the frame
+-- where a local of the block that is `out` blocks out lies in the frame
 abbrev pub local_offset : Surroundings → ℕ → ℕ → ℕ
 local_offset u out local = nth (nth_block u.blocks out) local
 
@@ -44,18 +44,18 @@ from_temp u register t = load_code register (slot_of u.passed t)
 abbrev pub to_temp : Surroundings → ℕ → ℕ → List Line
 to_temp u register t = save_code register (slot_of u.passed t)
 
--- adds so many bytes to the register 7 and leaves in it the address less what a load or store adds; the part that a load or store adds
+-- The register 7 gets the address that is `w` bytes behind a register's, less its low part, which the load or store adds.
 abbrev pub far_code : ℕ → ℕ → List Line
 far_code from w = Plain (instr.Lui 7 (upper_of w)) ∷ Plain (instr.Add 7 7 from) ∷ []
 
--- a byte or a word at so many bytes from a register on, into another
+-- loads a byte or a word into a register, from the address that is `w` bytes behind another's
 abbrev pub read_line : ℕ → ℕ → ℕ → ℕ → Line
 read_line to width from w = (if nat_eq width 1 then Plain (instr.Lbu to from (lower_of w)) else Plain (instr.Lw to from (lower_of w)))
 
 abbrev pub read_code : ℕ → ℕ → ℕ → ℕ → List Line
 read_code to width from w = (if is_short w then read_line to width from w ∷ [] else far_code from w ++ (read_line to width 7 w ∷ []))
 
--- a byte or a word of a register to so many bytes from another on
+-- stores a register's byte or word, to the address that is `w` bytes behind another's
 abbrev pub write_line : ℕ → ℕ → ℕ → ℕ → Line
 write_line value width from w = (if nat_eq width 1 then Plain (instr.Sb from value (lower_of w)) else Plain (instr.Sw from value (lower_of w)))
 
@@ -131,12 +131,12 @@ immediate_for o to left (Some (Number n)) = immediate_code o to left n
 immediate_for o to left (Some (Compared c)) = None
 immediate_for o to left (Some (ComparedWith n)) = None
 
--- the address so many bytes from x2 on, into a register
+-- the address that is `w` bytes behind x2's, into a register
 abbrev pub address_code : ℕ → ℕ → List Line
 address_code to w =
     (if is_short w then Plain (instr.Addi to 2 (lower_of w)) ∷ [] else word_code to w ++ (Plain (instr.Add to to 2) ∷ []))
 
--- a register and so many bytes, into another: by x7, where they are no short word
+-- a register's word plus a number of bytes, into another: by way of x7, where the bytes are no short word
 abbrev pub further_code : ℕ → ℕ → ℕ → List Line
 further_code to from bytes =
     (if is_short bytes then Plain (instr.Addi to from (lower_of bytes)) ∷ [] else word_code 7 bytes ++ (Plain (instr.Add to 7 from) ∷ []))
@@ -210,7 +210,7 @@ abbrev pub times_code : Option ℕ → (left bytes : ℕ) → List Line
 times_code None left bytes = number_code 6 bytes ++ (Plain (instr.Mul 5 left 6) ∷ [])
 times_code (Some exponent) left bytes = Plain (instr.Slli 5 left exponent) ∷ []
 
--- the address of an element of so many bytes
+-- the address of an element, where each has this number of bytes
 abbrev pub element_code : Surroundings → (to p i bytes : ℕ) → List Line
 element_code u to p i bytes =
     (if nat_eq bytes 1 then operand u 5 i ++ operand u 6 p ++ (Plain (instr.Add to (has_operand u 5 i) (has_operand u 6 p)) ∷ []) else

@@ -55,7 +55,7 @@ abbrev pub takes : ℕ → ℕ → Operation → Bool
 takes out local (LocalAddress t o l) = nat_eq o out && nat_eq l local
 takes out local _ = false
 
--- whether the address of the local of the block so many blocks out is taken in a statement
+-- whether a statement takes the address of a local of the block that is `out` blocks out
 abbrev mutual
   pub addressed : ℕ → ℕ → Statement → Bool
   addressed out local (Do operation) = takes out local operation
@@ -108,7 +108,7 @@ home_for flags (n ∷ ns) [] i = 0
 home_for flags (n ∷ ns) (r ∷ rs) i =
     (if flag_at flags n then (if nat_eq i n then r else home_for flags ns rs i) else home_for flags ns (r ∷ rs) i)
 
--- those of so many locals, from one on
+-- those of `count` locals, from the i-th on
 abbrev pub homes_from : (ℕ → ℕ) → ℕ → ℕ → List ℕ
 homes_from home i zero = []
 homes_from home i (suc count) = home i ∷ homes_from home (suc i) count

@@ -1,5 +1,6 @@
 -- How a memory lies in a machine: where each thing that holds something stands, and what its bytes show.
-use Rattle.std.specs.Prelude.{◌≡◌, ℕ, zero, suc, ◌+◌, ◌*◌, ◌%◌, ◌^◌, ◌≤◌, ◌<◌, ◌⊎◌, ◌&&◌, Bool, true, false, nat_eq, if◌then◌else◌, Option, Some, None, List, [], ◌∷◌}
+use Rattle.std.specs.Prelude.{◌≡◌, ℕ, zero, suc, ◌+◌, ◌*◌, ◌%◌, ◌^◌, ◌≤◌, ◌<◌, ◌⊎◌, ◌&&◌, Bool, true, false, nat_eq, if◌then◌else◌, Option, Some, None, List}
+use Rattle.std.specs.Prelude.{[], ◌∷◌}
 use Rattle.arena_laws.specs.Holdings.{arena_base, is_some}
 use Rattle.arena_laws.specs.Blocks.{Block}
 use Rattle.arena_laws.specs.declared.owner.Owner.{Owner}
@@ -74,8 +75,8 @@ pub record Zone : Type 0 where
   pub high : ℕ
 
 -- An activation's frame: its function, where its bytes are, what its slots hold, where its unnamed values end, the zones of the blocks that it is in, the
--- innermost first, and its number. The slots come first, then the unnamed values, then the zones, each behind that of the block around it. Of its locals some are
--- in registers: `homes` has them by block and number. Of its caller's registers it has saved some, and `callers` is what they were when it was called.
+-- innermost first, and its number. The slots come first, then the unnamed values, then the zones, each behind that of the block around it. Some of its
+-- locals are in registers: `homes` has them by block and number. It has saved some of its caller's registers, and `callers` has their words at the call.
 pub record Activation : Type 0 where
   pub function : ℕ
   pub at : ℕ

@@ -30,7 +30,7 @@ rounded n = (n + 3) / 4 * 4
 abbrev pub bytes_of : Local → ℕ
 bytes_of l = l.count * l.layout.bytes
 
--- objects one behind the other from an offset on, each at a multiple of 4: where each begins, and where the last ends
+-- objects in order from an offset on, each at the next multiple of 4: where each begins, and where the last ends
 abbrev pub offsets_from : ℕ → List Local → List ℕ
 offsets_from low [] = []
 offsets_from low (l ∷ ls) = rounded low ∷ offsets_from (rounded low + bytes_of l) ls
@@ -134,7 +134,7 @@ slots_of f = saved_slot f + length (saved_by f)
 abbrev pub own_end : Function → ℕ
 own_end f = end_from (4 * slots_of f) f.own
 
--- no stack has so many bytes
+-- more bytes than a stack has
 abbrev pub too_many : ℕ
 too_many = 2 ^ 25
 

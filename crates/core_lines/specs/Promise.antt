@@ -8,9 +8,9 @@ use Rattle.core_lines.specs.Relaxed.{shortened}
 use Rattle.core_meaning.specs.Selectable.{IsSelectable}
 use Rattle.core_lines.specs.Running.{DoesAsCore}
 
--- No label stands twice in the lines. Their words, where a conditional jump counts as two, are some, and take at most the bytes that the program's operations count
--- for. A machine that begins with the lines does what the program does, where the program's numbers name what there is, whichever of the conditional jumps are said
--- to be of two words, the others being branches alone.
+-- No label stands twice in the lines. They have at least one word, and at most the bytes that the program's operations count for, where a conditional jump
+-- counts as two words. A machine that begins with the lines does what the program does, if the program's numbers name what there is. That holds for each
+-- choice of the conditional jumps that are of two words, where the others are branches alone.
 pub record AreLinesOf (p : Program) (lines : List Line) : Type 0 where
   pub once : AreOnce (labels_placed lines)
   pub some : 0 < code_length lines

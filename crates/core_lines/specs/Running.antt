@@ -29,7 +29,7 @@ named names (Returned f ∷ es) = source.Returned (names f) ∷ named names es
 abbrev pub core_bodies : List Function → Bodies Event Invocation (List Content) Memory LoopTurn Exit Config
 core_bodies functions = record { read = read_event; call = called functions; turn = turned }
 
--- what steps of Core come to with so many units of fuel, where these are the functions
+-- what steps of Core come to with `fuel` units, where these are the functions
 abbrev pub core_run : List Function → ℕ → Step → List ℕ → Outcome Event
 core_run functions fuel step input = run (core_bodies functions) fuel step input
 

@@ -40,7 +40,7 @@ abbrev pub copy_code : Surroundings → ℕ → ℕ → Layout → List Line
 copy_code u to from l =
     (if nat_eq l.bytes 0 then [] else from_temp u 5 to ++ from_temp u 6 from ++ further_code 7 5 l.bytes ++ copy_loop (are_words l))
 
--- the bytes of so many elements, as a word
+-- the bytes of `count` elements, as a word
 abbrev pub bytes_in : Layout → ℕ → ℕ
 bytes_in l count = count * l.bytes % 2 ^ 32
 
@@ -48,7 +48,7 @@ abbrev pub clear_code : Surroundings → ℕ → Layout → ℕ → List Line
 clear_code u p l count =
     (if nat_eq (bytes_in l count) 0 then [] else from_temp u 5 p ++ further_code 7 5 (bytes_in l count) ++ clear_loop (are_words l))
 
--- so many times a layout's bytes into x11, and all ones where a word doesn't say so many; how many times is in x5
+-- The product of x5's word and a layout's bytes, into x11. It is all ones where it isn't a word.
 abbrev pub bytes_code : ℕ → List Line
 bytes_code bytes =
     word_code 6 (saturated bytes)

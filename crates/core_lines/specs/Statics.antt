@@ -1,4 +1,4 @@
--- The bytes of a program's data: globals and strings whose parts are words or bytes, one behind the other. A pointer to one of them is its address.
+-- The bytes of a program's data: globals and strings whose parts are words or bytes, in order. A pointer to one of them is its address.
 use Rattle.std.specs.Prelude.{◌≡◌, ℕ, zero, suc, ◌+◌, ◌-◌, ◌*◌, ◌/◌, ◌%◌, ◌^◌, ◌<◌, List, [], ◌∷◌, ◌++◌, nat_eq, if◌then◌else◌, length}
 use Rattle.rv32_machine.specs.State.{data_base}
 use Rattle.core_meaning.specs.Memory.{Content, Blank, Word, Null, Pointer, Birth, Born, Spot, PartShape}
@@ -23,7 +23,7 @@ number_in offsets Null = 0
 number_in offsets (Pointer s b) = address_of offsets s + b
 number_in offsets (Birth d) = 0
 
--- the bytes of parts, one behind the other, the first of which is its cell's j-th
+-- the bytes of parts, in order, where the first is its cell's j-th
 abbrev pub parts_bytes : List ℕ → (ℕ → Content) → ℕ → List PartShape → List ℕ
 parts_bytes offsets first j [] = []
 parts_bytes offsets first j (s ∷ ss) = number_bytes s.width (number_in offsets (first j)) ++ parts_bytes offsets first (j + 1) ss
@@ -33,7 +33,7 @@ abbrev pub cells_bytes : List ℕ → (ℕ → ℕ → Content) → ℕ → List
 cells_bytes offsets first k [] = []
 cells_bytes offsets first k (c ∷ cs) = parts_bytes offsets (first k) 0 c ++ cells_bytes offsets first (k + 1) cs
 
--- of so many elements with these cells each
+-- of a number of elements, each with these cells
 abbrev pub element_bytes : List ℕ → List (List PartShape) → (ℕ → ℕ → Content) → ℕ → ℕ → List ℕ
 element_bytes offsets cells first k zero = []
 element_bytes offsets cells first k (suc count) = cells_bytes offsets first k cells ++ element_bytes offsets cells first (k + length cells) count

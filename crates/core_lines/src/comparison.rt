@@ -65,7 +65,7 @@ impl Comparison {
         }
     }
 
-    /// The branch by so many bytes that is made where the comparison holds.
+    /// The branch by this offset that is made where the comparison holds.
     pub fn branch(self, offset: BranchOffset) -> Instr
         ensures { result ≡ branch_if self offset }
     {

@@ -375,7 +375,8 @@ module _ (w : World) (order : IsInOrder w) (f : ℕ) (fn : Function) (is : slice
             inl (record {
               next = y.next;
               moves = and_then w.areas s x.next y.next (moving + code_length (save_code 1 0) / 4) all.count x.moves y.moves;
-              there = subst (λ p. AtHolding w begun outer (with_call mem) p known y.next) there (taken_all known (middle + code_length taking_lines) y.next y.there);
+              there = subst (λ p. AtHolding w begun outer (with_call mem) p known y.next) there
+                  (taken_all known (middle + code_length taking_lines) y.next y.there);
             }))
             (cases_lt r.sp (stack_base + size)),
       )

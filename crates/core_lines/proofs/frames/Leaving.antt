@@ -171,7 +171,8 @@ module _ (w : World) (order : IsInOrder w) (x : Waiting) (outer : List Waiting) 
             stack = a.stack;
             left = a.left.1;
             results = registers_kept a.maps 9 done l.new s.registers
-                (λ q more most. l.kept q (ne_eqb q 7 (λ e. omega (arith, e, more))) (no_home q (suc r) (value_no_home q (omega (arith, more)) (omega (arith, most, few))) home))
+                (λ q more most. l.kept q (ne_eqb q 7 (λ e. omega (arith, e, more)))
+                (no_home q (suc r) (value_no_home q (omega (arith, more)) (omega (arith, most, few))) home))
                 a.results;
           };
         };
@@ -210,7 +211,8 @@ module _ (w : World) (order : IsInOrder w) (x : Waiting) (outer : List Waiting) 
       (gives rest (suc k) done middle are.1 (last ∙ end) few (has_second w place first others has))))
 
   -- the return address is loaded, x2 goes up by the frame, and the machine is behind the call
-  leaves : (done : List Content) (place : ℕ) → length done ≤ 8 → (k : ℕ) → Has w place (leave_code size) → Comes w (Giving [] k done place) (Returning w x outer mem done)
+  leaves : (done : List Content) (place : ℕ) → length done ≤ 8 → (k : ℕ) → Has w place (leave_code size)
+      → Comes w (Giving [] k done place) (Returning w x outer mem done)
   leaves done place few k has =
       let first = load_code 1 0 in
       let given = give_code size in

@@ -72,7 +72,8 @@ module _ (w : World) (order : IsInOrder w) (x : Waiting) (outer : List Waiting) 
     Computed n lines = Comes w (AtWith w x outer mem place P) (AtWith w x outer (stored (Word n)) (place + code_length lines) Q)
 
     -- from two registers
-    module _ (l q : ℕ) (here : (m : Maps) (registers : ℕ → ℕ) → P m registers → InRegister (suc l) (Word a) m registers × InRegister (suc q) (Word b) m registers)
+    module _ (l q : ℕ)
+        (here : (m : Maps) (registers : ℕ → ℕ) → P m registers → InRegister (suc l) (Word a) m registers × InRegister (suc q) (Word b) m registers)
       where
         from_both : (op : Binary) (m : Maps) (registers : ℕ → ℕ) → P m registers
             → (two op (registers (suc l)) (registers (suc q)) ≡ two op a b) × (two op (registers (suc l)) (registers (suc q)) < 2 ^ 32)
@@ -116,7 +117,8 @@ module _ (w : World) (order : IsInOrder w) (x : Waiting) (outer : List Waiting) 
         computes core.LessEqualUnsigned is gets has = absurd (cc is)
 
     -- from a register and a number
-    module _ (l n : ℕ) (here : (m : Maps) (registers : ℕ → ℕ) → P m registers → InRegister (suc l) (Word a) m registers × IsThere (Number n) (Word b) m registers)
+    module _ (l n : ℕ)
+        (here : (m : Maps) (registers : ℕ → ℕ) → P m registers → InRegister (suc l) (Word a) m registers × IsThere (Number n) (Word b) m registers)
       where
         abbrev Gives : Binary → (ℕ → ℕ) → Type 0
         Gives op f = a < 2 ^ 32 → n < 2 ^ 32 → f a ≡ two op a n

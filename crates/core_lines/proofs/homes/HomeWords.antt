@@ -1,11 +1,13 @@
 -- A local with a home takes a word of a frame less, and there are as many as registers that are saved.
 use Rattle.std.specs.Prelude.{nat_eq, not, ◌&&◌, ◌||◌, length, if◌then◌else◌}
-use Rattle.std.proofs.Common.{◌≡◌, ℕ, zero, suc, ◌+◌, ◌*◌, ◌/◌, ◌≤◌, ◌<◌, ◌⊎◌, inl, inr, ⊎_elim, Bool, true, false, List, [], ◌∷◌, ◌++◌, refl, sym, ap, ◌∙◌, subst, arith, length-append}
+use Rattle.std.proofs.Common.{◌≡◌, ℕ, zero, suc, ◌+◌, ◌*◌, ◌/◌, ◌≤◌, ◌<◌, ◌⊎◌, inl, inr, ⊎_elim, Bool, true, false, List, [], ◌∷◌, ◌++◌, refl, sym, ap, ◌∙◌}
+use Rattle.std.proofs.Common.{subst, arith, length-append}
 use Rattle.std.proofs.lemmas.Bool.{eqb-true, and_parts, or_cases}
 use Rattle.core_meaning.specs.Memory.{PartShape}
 use Rattle.core_meaning.specs.Core.{Local, Statement, Do, If, While, Block, Leave, Break, Continue, Call, Return, Raise}
 use Rattle.core_meaning.specs.Core.{Statements, NoStatements, MoreStatements, Function}
-use Rattle.core_lines.specs.Homes.{fills, is_scalar, addressed_of, eligible_from, eligible, eligible_of, flag_at, home_for, homes_from, home_in, home_registers, some_of, saved_by}
+use Rattle.core_lines.specs.Homes.{fills, is_scalar, addressed_of, eligible_from, eligible, eligible_of, flag_at, home_for, homes_from, home_in, home_registers}
+use Rattle.core_lines.specs.Homes.{some_of, saved_by}
 use Rattle.core_lines.specs.Selected.{shrink, shrunk, homes_here, homes_after, names_after, names_after_all, shrunk_in, shrunk_of, placed_body}
 use Rattle.core_meaning.specs.Bounds.{local_words, statement_words, block_words}
 
@@ -223,7 +225,8 @@ both_words home ss more i b first second =
 
 mutual
   home_words : (home : ℕ → ℕ) (flag : ℕ → Bool) → ((i r : ℕ) → home i ≡ suc r → flag i ≡ true) → (s : Statement) (i b : ℕ) → AreFlags flag i (eligible s)
-      → statement_words (shrunk_in (homes_from home i (length (eligible s) + b)) s) + length (some_of (homes_from home i (length (eligible s)))) ≤ statement_words s
+      → statement_words (shrunk_in (homes_from home i (length (eligible s) + b)) s) + length (some_of (homes_from home i (length (eligible s))))
+      ≤ statement_words s
   home_words home flag has (Do operation) i b f = omega arith
   home_words home flag has (If t these those) i b f = both_words home these those i b
       (all_home_words home flag has these i (length (eligible_of those) + b) (flags_first flag i (eligible_of these) (eligible_of those) f))
@@ -241,8 +244,10 @@ mutual
       let start : i + length flags ≡ i + length ls = omega (arith, few) in
       let here = here_words home flag has 0 ls body i (flags_first flag i flags inner f) in
       let rest = all_home_words home flag has body (i + length ls) b (subst (λ k. AreFlags flag k inner) start (flags_second flag i flags inner f)) in
-      let mine : local_words (shrunk ls (homes_here ls (homes_from home i (length (flags ++ inner) + b)))) ≡ local_words (shrunk ls (homes_from home i (length ls))) =
-      ap (λ n. local_words (shrunk ls (homes_here ls (homes_from home i n)))) count ∙ ap (λ hs. local_words (shrunk ls hs)) (here_are home ls i (length inner + b)) in
+      let mine : local_words (shrunk ls (homes_here ls (homes_from home i (length (flags ++ inner) + b))))
+      ≡ local_words (shrunk ls (homes_from home i (length ls))) =
+      ap (λ n. local_words (shrunk ls (homes_here ls (homes_from home i n)))) count
+      ∙ ap (λ hs. local_words (shrunk ls hs)) (here_are home ls i (length inner + b)) in
       let others : block_words (shrunk_of (homes_after ls (homes_from home i (length (flags ++ inner) + b))) body)
       ≡ block_words (shrunk_of (homes_from home (i + length ls) (length inner + b)) body) =
       ap (λ n. block_words (shrunk_of (homes_after ls (homes_from home i n)) body)) count

@@ -1,4 +1,4 @@
--- Where the locals of blocks lie in a frame: one behind the other, and all within it. A frame takes no more than its function's bound.
+-- Where the locals of blocks lie in a frame: in order, and all within it. A frame takes no more than its function's bound.
 use Rattle.std.specs.Prelude.{nat_le, slice_get, length, if◌then◌else◌}
 use Rattle.std.proofs.Common.{◌≡◌, ℕ, zero, suc, ◌+◌, ◌-◌, ◌*◌, ◌/◌, ◌%◌, ◌^◌, ◌<◌, ◌≤◌, Bool, true, false, List, [], ◌∷◌, Some, refl, ap, arith}
 use Rattle.std.proofs.lemmas.Bool.{leb-true, leb-false}
@@ -21,7 +21,8 @@ use Rattle.core_meaning.specs.Core.{
   MoreStatements,
   Function,
 }
-use Rattle.core_lines.specs.Selected.{rounded, bytes_of, offsets_from, end_from, greater, highest, highest_of, slots_of, own_end, placed_body, shrink, shrunk, first_of, rest_of, frame_bytes, too_many}
+use Rattle.core_lines.specs.Selected.{rounded, bytes_of, offsets_from, end_from, greater, highest, highest_of, slots_of, own_end, placed_body, shrink, shrunk}
+use Rattle.core_lines.specs.Selected.{first_of, rest_of, frame_bytes, too_many}
 use Rattle.core_meaning.specs.Selectable.{AreLayouts}
 use Rattle.core_meaning.specs.Layouts.{IsLayout}
 use Rattle.core_meaning.specs.Bounds.{local_words, statement_words, block_words, core_bound}

@@ -1,6 +1,7 @@
 -- What the slots have of the caller's registers, and homes of blocks.
 use Rattle.std.specs.Prelude.{nat_eq, if◌then◌else◌, length}
-use Rattle.std.proofs.Common.{◌≡◌, ℕ, zero, suc, ◌+◌, ◌≤◌, ◌<◌, ◌⊎◌, inl, inr, ⊎_elim, Bool, true, false, List, [], ◌∷◌, ◌++◌, Option, Some, None, refl, sym, ap, ◌∙◌, subst, arith}
+use Rattle.std.proofs.Common.{◌≡◌, ℕ, zero, suc, ◌+◌, ◌≤◌, ◌<◌, ◌⊎◌, inl, inr, ⊎_elim, Bool, true, false, List, [], ◌∷◌, ◌++◌, Option, Some, None, refl, sym}
+use Rattle.std.proofs.Common.{ap, ◌∙◌, subst, arith}
 use Rattle.std.proofs.lemmas.Bool.{eqb-true, eq-eqb, or_left, or_right, or_cases}
 use Rattle.std.proofs.lemmas.Option.{same_Some, none-some}
 use Rattle.core_meaning.specs.Memory.{Content, Word}
@@ -100,7 +101,8 @@ unless_some hs (Some q) r e = by (is_among q hs) refl
   where
     by : (c : Bool) → is_among q hs ≡ c → (◌≡◌ {A = Option ℕ} (Some q) (Some r)) × (is_among r hs ≡ false)
     by true is = absurd (none-some r (ap (λ c. if c then None else Some q) (sym is) ∙ e))
-    by false is = let same = same_Some q r (ap (λ c. if c then None else Some q) (sym is) ∙ e) in (ap (λ n. Some n) same, subst (λ n. is_among n hs ≡ false) same is)
+    by false is = let same = same_Some q r (ap (λ c. if c then None else Some q) (sym is) ∙ e) in
+        (ap (λ n. Some n) same, subst (λ n. is_among n hs ≡ false) same is)
 
 unless_kept : (hs : List ℕ) (h : Option ℕ) (r : ℕ) → h ≡ Some r → is_among r hs ≡ false → unless_among hs h ≡ Some r
 unless_kept hs h r e not = ap (λ q. unless_among hs q) e ∙ ap (λ c. if c then None else Some r) not

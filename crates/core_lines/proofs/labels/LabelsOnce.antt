@@ -123,7 +123,8 @@ mutual
       (statements_places flags u (next + 1) out again these)
       (omega arith) (omega arith) (omega arith) (omega arith) (inl (omega arith)) in
       let choice : PlacesFrom next behind (front ++ over) =
-      join next behind first (one_from next over (between_one (can_complete_all these) those behind next)) (omega arith) (omega arith) (omega arith) (omega arith) (inr (omega arith)) in
+      join next behind first (one_from next over (between_one (can_complete_all these) those behind next))
+      (omega arith) (omega arith) (omega arith) (omega arith) (inr (omega arith)) in
       let others : PlacesFrom behind end (second ++ last) =
       join behind end (statements_places left (naming (names_after_all these u.names) u) (behind + 1) out again those)
       (behind_from those behind) (omega arith) (omega arith) (omega arith) (omega arith) (inr (omega arith)) in
@@ -180,7 +181,8 @@ mutual
       (first_either (PlacesFrom next free) home keeps u s (statement_code flags u next out again s) (statement_places flags u next out again s)
       (none_from next free (straight_code keeps u home s) (straight_none keeps u home s)))
       (either_from free (free + labels_of ss) (can_complete s) (later_code home all others)
-      (later_either (PlacesFrom free (free + labels_of ss)) home all others (statements_places left v free out again ss) (behind_places left v free out again ss)))
+      (later_either (PlacesFrom free (free + labels_of ss)) home all others (statements_places left v free out again ss)
+      (behind_places left v free out again ss)))
       (omega arith) (omega arith) (omega arith) (omega arith) (inl (omega arith))
 
   behind_places : (flags : List Bool) (u : Surroundings) (next out again : ℕ) (ss : Statements) → PlacesFrom next (next + labels_of ss)

@@ -12,8 +12,8 @@ use Rattle.core_lines.specs.Choosing.{jump_unless, choice_code}
 use Rattle.core_lines.specs.Checks.{Failure, check_code}
 use Rattle.core_lines.specs.Selected.{Surroundings, operation_code}
 use Rattle.core_lines.specs.Straight.{straight_code}
-use Rattle.core_lines.proofs.labels.Bare.{bare_places, test_bare, operation_bare, straight_bare, check_bare, call_bare, return_bare, epilogue_bare}
-use Rattle.core_lines.proofs.labels.Bare.{prologue_bare}
+use Rattle.core_lines.proofs.labels.Bare.{bare_places, operation_bare, straight_bare, epilogue_bare, prologue_bare}
+use Rattle.core_lines.proofs.labels.BareTemporaries.{test_bare, check_bare, call_bare, return_bare}
 
 pub labels_placed-append : (first second : List Line) → labels_placed (first ++ second) ≡ labels_placed first ++ labels_placed second
 labels_placed-append [] second = refl

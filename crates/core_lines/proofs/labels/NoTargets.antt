@@ -12,8 +12,8 @@ use Rattle.core_lines.specs.Choosing.{jump_unless, choice_code, between_code, be
 use Rattle.core_lines.specs.Checks.{Failure, check_code}
 use Rattle.core_lines.specs.Selected.{Surroundings, operation_code}
 use Rattle.core_lines.specs.Straight.{straight_code}
-use Rattle.core_lines.proofs.labels.Bare.{bare_targets, test_bare, operation_bare, straight_bare, check_bare, call_bare, return_bare, epilogue_bare}
-use Rattle.core_lines.proofs.labels.Bare.{prologue_bare}
+use Rattle.core_lines.proofs.labels.Bare.{bare_targets, operation_bare, straight_bare, epilogue_bare, prologue_bare}
+use Rattle.core_lines.proofs.labels.BareTemporaries.{test_bare, check_bare, call_bare, return_bare}
 
 pub targets_append : (first second : List Line) → targets (first ++ second) ≡ targets first ++ targets second
 targets_append [] second = refl

@@ -1,5 +1,5 @@
--- What is said of each conditional jump of a program can be said of its label: the lines that are shortened so are those that the program has where these labels
--- are out of reach. So a machine that has them does what the program does.
+-- What is said of each conditional jump of a program can be said of its label: the lines that are shortened so are those that the program has where
+-- these labels are out of reach. So a machine that has them does what the program does.
 use Rattle.std.specs.Prelude.{nat_eq, length, drop, if◌then◌else◌}
 use Rattle.std.specs.List.{All}
 use Rattle.std.proofs.Common.{◌≡◌, ℕ, zero, suc, ◌+◌, Bool, true, false, List, [], ◌∷◌, ◌++◌, Option, Some, None, refl, sym, ap, ◌∙◌, subst, arith}

@@ -112,7 +112,8 @@ mutual
       join next behind (one_from next choice (choice_one u.wide u.passed u.held t next)) (statements_targets flags u (next + 1) out again these)
       (omega arith) (omega arith) (omega arith) (omega arith) (inl (omega arith)) in
       let b : TargetsFrom next behind ((choice ++ first) ++ over) =
-      join next behind a (none_from behind behind over (between_none (can_complete_all these) those behind next)) (omega arith) (omega arith) (omega arith) (omega arith) (inl (omega arith)) in
+      join next behind a (none_from behind behind over (between_none (can_complete_all these) those behind next))
+      (omega arith) (omega arith) (omega arith) (omega arith) (inl (omega arith)) in
       let c : TargetsFrom next end (((choice ++ first) ++ over) ++ second) =
       join next end b (statements_targets left v (behind + 1) out again those) (omega arith) (omega arith) (omega arith) (omega arith) (inl (omega arith)) in
       checked_from next end u.passed u.held t (check_of these those) ((((choice ++ first) ++ over) ++ second) ++ last)
@@ -165,7 +166,8 @@ mutual
       (first_either (TargetsFrom next free) home keeps u s (statement_code flags u next out again s) (statement_targets flags u next out again s)
       (none_from next free (straight_code keeps u home s) (straight_none keeps u home s)))
       (either_from free (free + labels_of ss) (can_complete s) (later_code home all others)
-      (later_either (TargetsFrom free (free + labels_of ss)) home all others (statements_targets left v free out again ss) (behind_targets left v free out again ss)))
+      (later_either (TargetsFrom free (free + labels_of ss)) home all others (statements_targets left v free out again ss)
+      (behind_targets left v free out again ss)))
       (omega arith) (omega arith) (omega arith) (omega arith) (inl (omega arith))
 
   behind_targets : (flags : List Bool) (u : Surroundings) (next out again : ℕ) (ss : Statements) → TargetsFrom next (next + labels_of ss)

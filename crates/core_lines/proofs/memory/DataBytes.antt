@@ -128,7 +128,8 @@ number_length : (width n : ℕ) → IsWidth width → length (number_bytes width
 number_length width n (inl one) = subst (λ w. length (number_bytes w n) ≡ w) (sym one) refl
 number_length width n (inr four) = subst (λ w. length (number_bytes w n) ≡ w) (sym four) refl
 
-parts_length : (os : List ℕ) (first : ℕ → Content) (at j : ℕ) (ss : List PartShape) → AreJoined at ss → at + length (parts_bytes os first j ss) ≡ parts_end at ss
+parts_length : (os : List ℕ) (first : ℕ → Content) (at j : ℕ) (ss : List PartShape) → AreJoined at ss
+    → at + length (parts_bytes os first j ss) ≡ parts_end at ss
 parts_length os first at j [] joined = omega arith
 parts_length os first at j (s ∷ ss) joined =
     let here = number_length s.width (number_in os (first j)) joined.1 in
@@ -136,7 +137,8 @@ parts_length os first at j (s ∷ ss) joined =
     let rest = parts_length os first (at + s.width) (j + 1) ss joined.2 in
     omega (arith, here, both, rest)
 
-cells_length : (os : List ℕ) (first : ℕ → ℕ → Content) (at k : ℕ) (cs : List (List PartShape)) → AreCellsJoined at cs → at + length (cells_bytes os first k cs) ≡ cells_end at cs
+cells_length : (os : List ℕ) (first : ℕ → ℕ → Content) (at k : ℕ) (cs : List (List PartShape)) → AreCellsJoined at cs
+    → at + length (cells_bytes os first k cs) ≡ cells_end at cs
 cells_length os first at k [] joined = omega arith
 cells_length os first at k (c ∷ cs) joined =
     let here = parts_length os (first k) at 0 c joined.0 in
@@ -158,7 +160,8 @@ pub datum_length : (os : List ℕ) (d : Datum) → IsPlainDatum os d → length 
 datum_length os d plain = elements_length os d.layout.cells d.first 0 d.count plain.joined ∙ ap (λ n. d.count * n) plain.whole
 
 -- a part's bytes, and that it is a byte or a word
-part_at : (os : List ℕ) (bytes : ℕ → ℕ) (first : ℕ → Content) (base at j : ℕ) (ss : List PartShape) → AreJoined at ss → HasBytes bytes (base + at) (parts_bytes os first j ss)
+part_at : (os : List ℕ) (bytes : ℕ → ℕ) (first : ℕ → Content) (base at j : ℕ) (ss : List PartShape) → AreJoined at ss
+    → HasBytes bytes (base + at) (parts_bytes os first j ss)
     → (i : ℕ) (s : PartShape) → slice_get ss i ≡ Some s → HasBytes bytes (base + s.offset) (number_bytes s.width (number_in os (first (j + i))))
 part_at os bytes first base at j [] joined has i s e = absurd (none-some s e)
 part_at os bytes first base at j (x ∷ ss) joined has zero s e =
@@ -248,7 +251,8 @@ reads bytes at width n wide small has = ⊎_elim
     subst (λ w. read bytes at w ≡ n) (sym four) (omega (arith, few, b0, b1, b2, b3)))
     wide
 
-shows_plain : (os : List ℕ) (bytes : ℕ → ℕ) (at width : ℕ) (v : Content) → IsWidth width → IsPlain os width v → HasBytes bytes at (number_bytes width (number_in os v))
+shows_plain : (os : List ℕ) (bytes : ℕ → ℕ) (at width : ℕ) (v : Content) → IsWidth width → IsPlain os width v
+    → HasBytes bytes at (number_bytes width (number_in os v))
     → Shows (first_maps os) v (read bytes at width)
 shows_plain os bytes at width Blank wide plain has = tt
 shows_plain os bytes at width (Word n) wide plain has = reads bytes at width n wide plain has

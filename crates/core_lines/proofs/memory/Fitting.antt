@@ -1,6 +1,7 @@
 -- How a memory lies in bytes, when something is stored: one lemma for all that holds something, of any width.
 use Rattle.std.specs.Prelude.{nat_le, nat_eq, ◌&&◌, if◌then◌else◌}
-use Rattle.std.proofs.Common.{◌≡◌, ℕ, zero, suc, ◌+◌, ◌*◌, ◌%◌, ◌^◌, ◌<◌, ◌≤◌, ◌⊎◌, inl, inr, ⊎_elim, true, false, List, [], ◌∷◌, Some, refl, sym, ap, ◌∙◌, subst, arith}
+use Rattle.std.proofs.Common.{◌≡◌, ℕ, zero, suc, ◌+◌, ◌*◌, ◌%◌, ◌^◌, ◌<◌, ◌≤◌, ◌⊎◌, inl, inr, ⊎_elim, true, false, List, [], ◌∷◌, Some, refl, sym, ap, ◌∙◌}
+use Rattle.std.proofs.Common.{subst, arith}
 use Rattle.std.proofs.lemmas.Bool.{eqb-true, ne_eqb, eq-eqb, and_parts, and_right, and_left, and_from, or_right, or_left, le-leb}
 use Rattle.std.proofs.lemmas.Bool.Decides.{nat_tests}
 use Rattle.std.proofs.lemmas.Option.{same_Some}
@@ -11,7 +12,8 @@ use Rattle.rv32_machine.specs.Arrays.{longest_stack}
 use Rattle.rv32_machine.specs.State.{stack_end, Areas, data_base, stack_base, is_within, word_at, set_word, set_byte}
 use Rattle.arena_laws.specs.Holdings.{arena_base}
 use Rattle.rv32_machine.specs.Audit.{is_in_block}
-use Rattle.core_lines.specs.Lies.{Maps, Shows, read, Activation, Name, Slot, Cell, same_name, SlotsLie, Lies, Among, InFrame, InGranted, InData, CellGround, SlotGround, Ground, Fits, Stacked}
+use Rattle.core_lines.specs.Lies.{Maps, Shows, read, Activation, Name, Slot, Cell, same_name, SlotsLie, Lies, Among, InFrame, InGranted, InData, CellGround}
+use Rattle.core_lines.specs.Lies.{SlotGround, Ground, Fits, Stacked}
 use Rattle.arena_laws.specs.Blocks.{Block}
 use Rattle.core_lines.proofs.memory.Bytes.{same_word, other_word, other_byte, byte_is_small}
 use Rattle.core_lines.proofs.Steps.{IsAllowed}

@@ -1,6 +1,7 @@
 -- A region gets an object: in bytes that nothing else has.
 use Rattle.std.specs.Prelude.{nat_eq, ◌&&◌, if◌then◌else◌}
-use Rattle.std.proofs.Common.{◌≡◌, ℕ, ◌+◌, ◌%◌, ◌^◌, ◌<◌, ◌≤◌, ◌⊎◌, inl, inr, ⊎_elim, Bool, true, false, List, Option, Some, None, refl, sym, ap, ◌∙◌, subst, arith}
+use Rattle.std.proofs.Common.{◌≡◌, ℕ, ◌+◌, ◌%◌, ◌^◌, ◌<◌, ◌≤◌, ◌⊎◌, inl, inr, ⊎_elim, Bool, true, false, List, Option, Some, None, refl, sym, ap, ◌∙◌, subst}
+use Rattle.std.proofs.Common.{arith}
 use Rattle.std.proofs.lemmas.Bool.{eqb-true, ne_eqb, eq-eqb, and_parts, and_right, and_left, and_from}
 use Rattle.std.proofs.lemmas.Option.{same_Some, none-some}
 use Rattle.core_meaning.specs.Memory.{Region, Frame, Own, Born, Single, Dead, Spot, Content, Blank, Part, Memory, same_region, same_spot, is_live, with_object}
@@ -8,7 +9,8 @@ use Rattle.core_meaning.specs.Layouts.{Apart}
 use Rattle.core_meaning.specs.Operations.{too_far}
 use Rattle.core_lines.specs.Machines.{Store}
 use Rattle.rv32_machine.specs.State.{Areas}
-use Rattle.core_lines.specs.Lies.{Maps, Extends, Shows, read, Activation, Name, Slot, Cell, same_name, PartLies, Lies, CellGround, Ground, Fits, Known, IsBlock, IsNumber, TagOf}
+use Rattle.core_lines.specs.Lies.{Maps, Extends, Shows, read, Activation, Name, Slot, Cell, same_name, PartLies, Lies, CellGround, Ground, Fits, Known, IsBlock}
+use Rattle.core_lines.specs.Lies.{IsNumber, TagOf}
 use Rattle.core_meaning.proofs.Spots.{region_same}
 use Rattle.core_lines.proofs.memory.Fitting.{shows_on, IsWidth, width_some}
 

@@ -1,4 +1,4 @@
--- The locals of a block get their bytes, one behind the other, in a zone of the frame that nothing else has, or their homes.
+-- The locals of a block get their homes, or their bytes, in order, in a zone of the frame that nothing else has.
 use Rattle.std.specs.Prelude.{nat_eq, nat_lt, length, ◌/◌, ◌%◌, slice_get, if◌then◌else◌}
 use Rattle.std.proofs.Common.{◌≡◌, ℕ, zero, suc, ◌+◌, ◌*◌, ◌^◌, ◌≤◌, ◌<◌, Bool, true, false, List, [], ◌∷◌, Option, Some, None, refl, sym, ap, ◌∙◌, subst}
 use Rattle.std.proofs.Common.{arith}

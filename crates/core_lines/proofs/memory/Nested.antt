@@ -7,7 +7,8 @@ use Rattle.core_meaning.specs.Core.{Local}
 use Rattle.core_meaning.specs.Meaning.{with_objects}
 use Rattle.core_lines.specs.Machines.{Store, Machine}
 use Rattle.rv32_machine.specs.State.{data_base, Areas}
-use Rattle.core_lines.specs.Lies.{HasNone, HomesLie, HomeLies, Maps, Extends, Zone, Activation, Cell, Among, InFrame, InBlockOf, InOwn, CellGround, Fits, Zoned, Stacked}
+use Rattle.core_lines.specs.Lies.{HasNone, HomesLie, HomeLies, Maps, Extends, Zone, Activation, Cell, Among, InFrame, InBlockOf, InOwn, CellGround, Fits, Zoned}
+use Rattle.core_lines.specs.Lies.{Stacked}
 use Rattle.core_lines.specs.Homes.{is_among}
 use Rattle.core_lines.specs.Selected.{shrunk}
 use Rattle.core_lines.proofs.homes.Homes.{Spares, spares_standing, spares_then, home_spared, homes_spared}

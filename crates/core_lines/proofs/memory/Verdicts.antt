@@ -93,7 +93,8 @@ pub branch_as : (n : Areas) (answer : Answer) (c : Comparison) (offset : ℤ) (s
 branch_as n answer c offset s b is =
     branch_is n answer c.condition c.left c.right offset s
     ∙ ap (λ d. branches d offset s)
-    (ap (λ k. holds c.condition k (register_of s c.right)) (read_as s c.left) ∙ ap (λ k. holds c.condition (reads s.registers c.left) k) (read_as s c.right) ∙ is)
+    (ap (λ k. holds c.condition k (register_of s c.right)) (read_as s c.left)
+    ∙ ap (λ k. holds c.condition (reads s.registers c.left) k) (read_as s c.right) ∙ is)
 
 branch_lawful_on : (n : Areas) (s : Run) (c : Condition) (l r : ℕ) (offset : ℤ) → AccessIsLawful n s (branch_on c l r offset)
 branch_lawful_on n s Equal l r offset = tt

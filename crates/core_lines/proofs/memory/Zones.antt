@@ -184,7 +184,8 @@ leaves w x outer m p ps k ks mem place frame others sp x2 s nest blocks differ s
             saved = shows.saved;
             changed = shows.changed;
             homes = homes_left x.phase p ps k ks frame.homes differ
-                (subst (λ bs. AreHomes x.phase (p ∷ ps) bs frame.homes) blocks (subst (λ qs. AreHomes x.phase qs x.config.blocks frame.homes) nest shows.homes));
+                (subst (λ bs. AreHomes x.phase (p ∷ ps) bs frame.homes) blocks
+                (subst (λ qs. AreHomes x.phase qs x.config.blocks frame.homes) nest shows.homes));
           };
         }
 

@@ -1,6 +1,7 @@
 -- The loops over bytes: each turn writes a unit, until all are written. They are told by bytes alone.
 use Rattle.std.specs.Prelude.{nat_eq, not}
-use Rattle.std.proofs.Common.{◌≡◌, ℕ, ℤ, zero, suc, pos, negsuc, ◌+◌, ◌*◌, ◌%◌, ◌^◌, ◌<◌, ◌≤◌, ◌⊎◌, inl, inr, ⊎_elim, Bool, true, false, refl, sym, ap, subst, ◌∙◌, arith}
+use Rattle.std.proofs.Common.{◌≡◌, ℕ, ℤ, zero, suc, pos, negsuc, ◌+◌, ◌*◌, ◌%◌, ◌^◌, ◌<◌, ◌≤◌, ◌⊎◌, inl, inr, ⊎_elim, Bool, true, false, refl, sym, ap, subst}
+use Rattle.std.proofs.Common.{◌∙◌, arith}
 use Rattle.std.proofs.lemmas.Bool.{eq-eqb, ne_eqb}
 use Rattle.cyc_words.specs.Words.{word, sum_of}
 use Rattle.rv32_isa.specs.declared.instruction.Instr.{Instr}
@@ -15,7 +16,8 @@ use Rattle.core_lines.proofs.memory.Relations.{Moves, World, IsInOrder, Has}
 use Rattle.core_lines.proofs.memory.Moving.{and_then}
 use Rattle.core_lines.proofs.Steps.{state_at, IsKeptBelow, IsAllowed, is_in_code, gives_value, passes, goes_to, loads_word, stores_word, stores_byte}
 use Rattle.core_lines.proofs.operations.Reaching.{loads_byte}
-use Rattle.core_lines.proofs.operations.Filling.{unit_size, get_unit, set_unit, unit_other, unit_small, unit_copied, unit_cleared, Filled, filled_none, filled_more}
+use Rattle.core_lines.proofs.operations.Filling.{unit_size, get_unit, set_unit, unit_other, unit_small, unit_copied, unit_cleared, Filled, filled_none}
+use Rattle.core_lines.proofs.operations.Filling.{filled_more}
 
 -- the instructions of so many turns and one more
 abbrev pub turn_count : ℕ → ℕ → ℕ

@@ -167,7 +167,8 @@ module _ (w : World) (order : IsInOrder w) (x : Waiting) (outer : List Waiting) 
           (unit_allowed w.areas order.statics_within order.pages_within order.stack_within order.code_within w.code q.store a.sp fs a.stands.stacked m mem
           q.bytes fits t c p'.base p'.known live' l 1 layout full one' words are)
           (objects_apart w.areas m fs mem q.bytes q.store fits s b p.base p.known live t c p'.base p'.known live' l 1 full one one' two)
-          (turns words) (all_turns words (whole_units l layout full words are some)) q.registers at p'.at (omega (arith, sum, at, end)) a.stands.pointer (λ r h. refl)
+          (turns words) (all_turns words (whole_units l layout full words are some)) q.registers at p'.at (omega (arith, sum, at, end))
+          a.stands.pointer (λ r h. refl)
           a.stands.kept a.stands.small in
           let done = ran.there in
           let behind = place + 4 + 4 + 4 + 4 + 4 in

@@ -1,12 +1,14 @@
 -- Objects of a layout that leaves no byte out: each of their bytes lies in one of their parts, and so may be read and written, and is no other part's; and how
 -- the memory lies when these bytes, and these parts alone, have become others.
 use Rattle.std.specs.Prelude.{nat_eq, ◌&&◌, length, slice_get}
-use Rattle.std.proofs.Common.{◌≡◌, ℕ, zero, suc, ◌+◌, ◌*◌, ◌/◌, ◌%◌, ◌^◌, ◌<◌, ◌≤◌, ◌⊎◌, ◌-◌, inl, inr, ⊎_elim, Bool, true, false, List, [], ◌∷◌, Some, refl, sym, ap, subst, ◌∙◌, arith}
+use Rattle.std.proofs.Common.{◌≡◌, ℕ, zero, suc, ◌+◌, ◌*◌, ◌/◌, ◌%◌, ◌^◌, ◌<◌, ◌≤◌, ◌⊎◌, ◌-◌, inl, inr, ⊎_elim, Bool, true, false, List, [], ◌∷◌, Some, refl}
+use Rattle.std.proofs.Common.{sym, ap, subst, ◌∙◌, arith}
 use Rattle.std.proofs.lemmas.Bool.{and_parts, and_from, eqb-true, eq-eqb, cases_lt}
 use Rattle.std.proofs.Math.Nat.{mod-add-div', mod-lt, mul-le-mul_right}
 use Rattle.rv32_machine.specs.Arrays.{longest_stack}
 use Rattle.rv32_machine.specs.State.{Areas}
-use Rattle.core_meaning.specs.Memory.{Region, Frame, Own, Born, Spot, Content, Part, PartShape, Layout, Memory, same_region, same_spot, is_live, shape_in, beyond}
+use Rattle.core_meaning.specs.Memory.{Region, Frame, Own, Born, Spot, Content, Part, PartShape, Layout, Memory, same_region, same_spot, is_live, shape_in}
+use Rattle.core_meaning.specs.Memory.{beyond}
 use Rattle.core_meaning.specs.Operations.{are_elements, same_object}
 use Rattle.core_meaning.proofs.Spots.{region_self, spot_same}
 use Rattle.core_meaning.proofs.Wholes.{IsAmong, elements_in}

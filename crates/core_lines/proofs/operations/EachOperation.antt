@@ -53,7 +53,7 @@ use Rattle.core_lines.specs.Homes.{is_home}
 use Rattle.core_meaning.specs.Selectable.{HasCode}
 use Rattle.core_lines.proofs.memory.Relations.{Inside, home_of, Covers, Follows, keeping, AreKept, World, IsInOrder, Has, Waiting, At, Goes, active_of}
 use Rattle.core_lines.proofs.memory.Moving.{Comes, goes_as}
-use Rattle.core_lines.proofs.frames.Bodies.{with_config, IsIn, GoesHolding}
+use Rattle.core_lines.proofs.frames.Going.{with_config, IsIn, GoesHolding}
 use Rattle.core_lines.proofs.operations.Registers.{having, AtHolding, fewer_holding, served_one, served_two, follows_none, number_into}
 use Rattle.core_lines.proofs.homes.Nests.{BlocksAre, nth_is}
 use Rattle.core_lines.proofs.homes.Fine.{IsFineOperation}

@@ -18,7 +18,7 @@ use Rattle.core_lines.proofs.memory.Relations.{Phase, Inside, as_home, home_of, 
 use Rattle.core_lines.proofs.memory.Relations.{World, IsInOrder, Has, Waiting, Follows, keeping, At, Goes, active_of}
 use Rattle.core_lines.proofs.memory.Moving.{Comes, comes_then, comes_as, goes_from, goes_nowhere}
 use Rattle.core_lines.proofs.memory.Knowing.{reaches_near}
-use Rattle.core_lines.proofs.frames.Bodies.{with_config, IsIn, GoesHolding}
+use Rattle.core_lines.proofs.frames.Going.{with_config, IsIn, GoesHolding}
 use Rattle.core_lines.proofs.operations.Registers.{having, AtHolding, IsServed, at_any, with_there, as_holding}
 use Rattle.core_lines.proofs.Forms.{frame_config}
 use Rattle.core_lines.proofs.homes.Nests.{BlocksAre, local_small, local_found, home_found}

@@ -1,4 +1,4 @@
--- How a memory lies when the bytes of so many elements of a layout, and these parts alone, have become others.
+-- How a memory lies after the bytes of some elements of a layout, and no other parts, have changed.
 use Rattle.std.proofs.Common.{◌≡◌, ℕ, ◌+◌, ◌-◌, ◌*◌, ◌<◌, ◌≤◌, ◌⊎◌, ⊎_elim, inl, inr, true, ◌%◌, ◌∷◌, refl, Option, Some, List, sym, ap, subst, ◌∙◌, arith}
 use Rattle.std.proofs.lemmas.Bool.{cases_lt}
 use Rattle.std.proofs.Math.Nat.{mul-le-mul_right}

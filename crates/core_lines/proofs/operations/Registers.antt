@@ -166,7 +166,8 @@ module _ (w : World) (order : IsInOrder w) (x : Waiting) (outer : List Waiting) 
           (λ m new old is kept h. has_value m new old (verdict c old) is
           ((there_found hs t (Compared c) x.config.temps m old h.0 e).0, truth_few (is_so c old)) kept h)
       by (Some (ComparedWith n)) e has = puts_numbered w order x outer mem r n place (Known hs H) (WithOperand (suc r) (suc r) t hs H)
-          (λ m registers h. let found = there_found hs t (ComparedWith n) x.config.temps m registers h.0 e in (found.1, found.2)) (spare_leaves (suc r) spare) has
+          (λ m registers h. let found = there_found hs t (ComparedWith n) x.config.temps m registers h.0 e in (found.1, found.2))
+          (spare_leaves (suc r) spare) has
           (λ m new old is kept h. has_value m new old (numbered_verdict n old) is
           ((there_found hs t (ComparedWith n) x.config.temps m old h.0 e).0, numbered_few n old) kept h)
 

@@ -30,7 +30,8 @@ module _ (w : World) (order : IsInOrder w) (x : Waiting) (outer : List Waiting) 
   freed = with_standing mem (Born d) Dead
 
   -- the number of a birth that isn't dead, nor the heap
-  pub number_of : (P : (ℕ → ℕ) → Type 0) (place : ℕ) (s : Machine) (a : AtWith w x outer mem place (λ m registers. P registers × InRegister 10 (Birth d) m registers) s)
+  pub number_of : (P : (ℕ → ℕ) → Type 0) (place : ℕ) (s : Machine)
+      (a : AtWith w x outer mem place (λ m registers. P registers × InRegister 10 (Birth d) m registers) s)
       → (mem.standing (Born d) ≡ Dead → ⊥) → IsNumber s.store d (s.registers 10)
   number_of P place s a alive =
       ⊎_elim (λ (zero_is : d ≡ 0). absurd (later zero_is)) (λ (i : IsNumber s.store d (s.registers 10)). i)

@@ -88,7 +88,8 @@ handle_of m mem st d h k number live = ⊎_elim
           ∙ by i.tag (mem.standing (Born (st.ledger.birth_of h))) (k.held h i.tag i.held).stands (ap (λ e. is_live (mem.standing (Born e))) i.birth ∙ live);
       birth = i.birth;
       named = λ from. inr (ap is_some i.held);
-      plural = λ is. not_single i.tag (mem.standing (Born (st.ledger.birth_of h))) (k.held h i.tag i.held).stands (ap (λ e. mem.standing (Born e)) i.birth ∙ is);
+      plural = λ is. not_single i.tag (mem.standing (Born (st.ledger.birth_of h))) (k.held h i.tag i.held).stands
+          (ap (λ e. mem.standing (Born e)) i.birth ∙ is);
     })
     (k.numbered d h number (λ dead. cc (live, ap is_live dead)))
   where

@@ -1,6 +1,7 @@
 -- A block is granted where the store likes: in a room that nothing live has. What fits still does, with an object more.
 use Rattle.std.specs.Prelude.{nat_eq, nat_le, nat_lt, ◌&&◌, if◌then◌else◌}
-use Rattle.std.proofs.Common.{◌≡◌, ℕ, ◌+◌, ◌*◌, ◌/◌, ◌%◌, ◌^◌, ◌≤◌, ◌<◌, ◌⊎◌, inl, inr, ⊎_elim, true, List, ◌∷◌, Option, Some, None, refl, sym, ap, subst, ◌∙◌, arith}
+use Rattle.std.proofs.Common.{◌≡◌, ℕ, ◌+◌, ◌*◌, ◌/◌, ◌%◌, ◌^◌, ◌≤◌, ◌<◌, ◌⊎◌, inl, inr, ⊎_elim, true, List, ◌∷◌, Option, Some, None, refl, sym, ap, subst, ◌∙◌}
+use Rattle.std.proofs.Common.{arith}
 use Rattle.std.proofs.lemmas.Bool.{eqb-true, leb-true, le-leb, lt-ltb, ne_eqb, eq-eqb, and_parts, and_from, cases_eq, cases_lt}
 use Rattle.std.proofs.lemmas.Bool.Decides.{nat_tests}
 use Rattle.arena_laws.specs.declared.owner.Owner.{Owner}
@@ -122,7 +123,8 @@ module _ (n : Areas) (few : n.statics ≤ 2 ^ 20) (within : n.stack ≤ longest_
       ⊎_elim
       (λ (over : x < at + width). ⊎_elim
       (λ (under : at < x + bytes). ⊎_elim
-      (λ (later : x < at). absurd (its_room.clear at c.who (held.owned at low (omega (arith, high, within, some))) (omega (arith, later)) (omega (arith, under, bound))))
+      (λ (later : x < at). absurd (its_room.clear at c.who (held.owned at low (omega (arith, high, within, some))) (omega (arith, later))
+      (omega (arith, under, bound))))
       (λ (first : at ≤ x). absurd (its_room.clear x c.who (held.owned x (omega (arith, low, first)) (omega (arith, over, high, within))) (omega arith)
       (omega (arith, some_room))))
       (cases_lt x at))

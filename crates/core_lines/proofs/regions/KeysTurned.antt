@@ -11,7 +11,8 @@ use Rattle.arena_laws.specs.Lawful.{standing_as}
 use Rattle.rv32_machine.specs.State.{Areas}
 use Rattle.core_meaning.specs.Memory.{Region, Frame, Own, Born, Standing, Dead, Memory, same_region, with_standing}
 use Rattle.core_lines.specs.Machines.{Store}
-use Rattle.core_lines.specs.Lies.{Maps, Activation, Name, Slot, Cell, PartLies, Lies, CellGround, Ground, Fits, TagOf, Held, IsNumber, Known, IsNamed, HoldsBlocks}
+use Rattle.core_lines.specs.Lies.{Maps, Activation, Name, Slot, Cell, PartLies, Lies, CellGround, Ground, Fits, TagOf, Held, IsNumber, Known, IsNamed}
+use Rattle.core_lines.specs.Lies.{HoldsBlocks}
 use Rattle.core_lines.proofs.homes.Homes.{spares_standing, Changed}
 use Rattle.core_lines.proofs.memory.Fitting.{if_split}
 use Rattle.core_meaning.proofs.Spots.{region_same}

@@ -53,7 +53,7 @@ use Rattle.core_lines.proofs.regions.BlockBytes.{wants}
 use Rattle.core_lines.proofs.regions.GrantCalls.{Wanted, Object, block_answered}
 use Rattle.core_lines.proofs.regions.StoreCalls.{call_goes, then_kept}
 use Rattle.core_lines.proofs.operations.Needing.{word_goes, pointer_goes, birth_goes, checked_goes}
-use Rattle.core_lines.proofs.frames.Bodies.{with_config, IsIn, GoesHolding}
+use Rattle.core_lines.proofs.frames.Going.{with_config, IsIn, GoesHolding}
 use Rattle.core_lines.proofs.operations.PartOperations.{with_memory_holding}
 use Rattle.core_lines.proofs.operations.Registers.{having, AtHolding, IsServed}
 use Rattle.core_lines.proofs.regions.RegionCalls.{region_new_goes}

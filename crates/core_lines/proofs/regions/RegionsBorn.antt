@@ -203,8 +203,8 @@ module _ (n : Areas) (m : Maps) (fs : List Activation) (mem : Memory) (b : ℕ �
     zero_is_heap = numbered_extends.number 0 0 k.zero_is_heap;
     heap_is_zero = other_birth 0 (λ e. omega (arith, e, low)) ∙ k.heap_is_zero;
     single = λ e o at is known.
-        let i = k.single e o at (sym (other_standing e (λ same. not_single tag now stands (sym its_standing ∙ ap (λ c. mem'.standing (Born c)) (sym same) ∙ is))) ∙ is)
-        known in
+        let i = k.single e o at
+        (sym (other_standing e (λ same. not_single tag now stands (sym its_standing ∙ ap (λ c. mem'.standing (Born c)) (sym same) ∙ is))) ∙ is) known in
         record { room = i.room; owned = i.owned; birth = i.birth };
     made = k.made;
     near = k.near;

@@ -221,7 +221,8 @@ module _ (n : Areas) (m : Maps) (fs : List Activation) (mem : Memory) (b : ℕ �
     zero_is_heap = k.zero_is_heap;
     heap_is_zero = k.heap_is_zero;
     single = λ e o at is known.
-        let i = k.single e o at (still_stands n m fs mem b st f holds_blocks d (is_of h) freeing.holdings.standing freeing.holdings.counts other_owner named_on e Single (λ dead. cc dead) is).1 known in
+        let i = k.single e o at (still_stands n m fs mem b st f holds_blocks d (is_of h) freeing.holdings.standing freeing.holdings.counts
+        other_owner named_on e Single (λ dead. cc dead) is).1 known in
         record {
           room = i.room;
           owned = ap (λ w. if is_of h w then None else w) i.owned;

@@ -84,7 +84,8 @@ IsRefusing st asked answer e = HasNoRoom st asked answer e ⊎ (lawfully asked a
 module _ (w : World) (order : IsInOrder w) (x : Waiting) (outer : List Waiting) (mem mem' : Memory) where
   -- behind it, with other registers, memory and store, where no address and no number is lost
   behind_call : (place : ℕ) (P Q : Maps → (ℕ → ℕ) → Type 0) (s : Machine) (a : AtWith w x outer mem place P s) (m : Maps) (st : Store) (new : ℕ → ℕ)
-      → Changed w.areas a.maps m (a.frame ∷ a.others) mem mem' s.bytes st → Stays new s.registers → Q m new → AtWith w x outer mem' (place + 4) Q (state_at (place + 4) new s.bytes st)
+      → Changed w.areas a.maps m (a.frame ∷ a.others) mem mem' s.bytes st → Stays new s.registers → Q m new
+      → AtWith w x outer mem' (place + 4) Q (state_at (place + 4) new s.bytes st)
   behind_call place P Q s a m st new c stay holds = record {
     maps = m;
     frame = a.frame;

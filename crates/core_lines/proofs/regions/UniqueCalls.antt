@@ -156,13 +156,15 @@ module _ (w : World) (order : IsInOrder w) (x : Waiting) (outer : List Waiting) 
       let third = keep_code keeps x.fn.passed 10 t in
       let has_both = has_first w place (first ++ second) third has in
       let same : bytes % 2 ^ 32 ≡ bytes = omega (arith, small) in
-      call_goes w order x outer mem born_alone hs 7 (omega arith) (λ a b. UniqueAlloc a) event Sized Block (λ answer a b s. refl) alone_answered most active rest
+      call_goes w order x outer mem born_alone hs 7 (omega arith) (λ a b. UniqueAlloc a) event Sized Block (λ answer a b s. refl) alone_answered
+      most active rest
       place first (AtHolding w x outer mem place hs) (λ m registers v k. k)
       (comes_then w _ (AtWith w x outer mem place (Others x hs)) _ (without_code w order x outer mem hs place)
       (puts_into w order x outer mem 9 (bytes % 2 ^ 32) place (Others x hs) (λ m registers. Sized m registers × Others x hs m registers) (omega arith) refl
       (has_first w place first second has_both)
       (λ m new old is kept h. (is ∙ same, argument_changes x hs m new old kept h)))) has_both
-      (then_kept w order x outer hs born_alone most active rest t place (first ++ second) (Pointer (record { region = Born mem.births; object = 0; cell = 0 }) 0)
+      (then_kept w order x outer hs born_alone most active rest t place (first ++ second)
+      (Pointer (record { region = Born mem.births; object = 0; cell = 0 }) 0)
       named keeps after follows has goes)
 
 -- ---- it is freed
@@ -191,7 +193,8 @@ module _ (w : World) (order : IsInOrder w) (x : Waiting) (outer : List Waiting) 
         number = 0;
         held = without_alone at block.room st.holdings;
         is = ap (λ o. frees_alone at o st.holdings) block.owned
-            ∙ ap (λ c. if c then record { says = Ok 0; after = without_alone at block.room st.holdings } else refuses NotABlock st.holdings) (eq-eqb at at refl);
+            ∙ ap (λ c. if c then record { says = Ok 0; after = without_alone at block.room st.holdings } else refuses NotABlock st.holdings)
+            (eq-eqb at at refl);
         shows = ap (λ e. events.UniqueFree e) block.birth;
         maps = a.maps;
         changed = alone_freed w.areas a.maps (a.frame ∷ a.others) mem s.bytes st a.stands.fits known a.stands.holds_blocks d at single block;

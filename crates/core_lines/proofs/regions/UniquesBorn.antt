@@ -13,7 +13,8 @@ use Rattle.rv32_machine.specs.State.{Areas}
 use Rattle.core_meaning.specs.Memory.{Born, Single, Pointer, Part, Memory, is_live, same_region, with_object}
 use Rattle.core_meaning.specs.Operations.{born}
 use Rattle.core_lines.specs.Machines.{Store}
-use Rattle.core_lines.specs.Lies.{Maps, Shows, Activation, Name, Slot, Cell, PartLies, Lies, Among, birth_in, Fits, TagOf, IsNumber, Known, IsNamed, HoldsBlocks, Stacked}
+use Rattle.core_lines.specs.Lies.{Maps, Shows, Activation, Name, Slot, Cell, PartLies, Lies, Among, birth_in, Fits, TagOf, IsNumber, Known, IsNamed}
+use Rattle.core_lines.specs.Lies.{HoldsBlocks, Stacked}
 use Rattle.core_lines.proofs.homes.Homes.{spares_standing, spares_then, Changed}
 use Rattle.core_lines.proofs.memory.Growing.{placed, ObjectFits}
 use Rattle.core_lines.proofs.memory.Knowing.{no_parts}

@@ -4,8 +4,8 @@ use Rattle.arena_laws.specs.declared.owner.Owner.{Owner}
 use Rattle.arena_laws.specs.declared.standing.Standing.{Standing}
 use Rattle.arena_laws.specs.Counts.{Counts, fresh_counts}
 
--- A store: its pages, what each live number stands for, whose each live address is (a region's or key's, or the unique block's that begins at an
--- address and has so many bytes of room), and its counts. Its bytes stand apart, by address: no call but a store of a byte changes one.
+-- A store: its pages, what each live number stands for, the owner of each live address (a region, a key, or a unique block, by its first address and
+-- the bytes of its room), and its counts. Its bytes stand apart, by address: no call but a store of a byte changes one.
 pub record Holdings : Type 0 where
   pub pages : ℕ
   pub standing : ℕ → Option Standing

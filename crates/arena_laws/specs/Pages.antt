@@ -1,4 +1,4 @@
--- Which requests are refused by a store of so many pages: a count over the requests alone, with no store in it. Regions, keys and unique blocks
+-- Which requests a store with a number of pages refuses: a count over the requests alone, with no store in it. Regions, keys and unique blocks
 -- are named by one count of births from 1 on; the heap is 0. No page was used at first. Requests are in order: they name what is live, and
 -- a key is open where a block is asked of it.
 use Rattle.std.specs.Prelude.{ℕ, suc, Bool, false, List, [], ◌∷◌, if◌then◌else◌}

@@ -12,8 +12,8 @@ pub const PAGE: u32 = 4096;
 /// The most bytes of a region's block.
 pub const LIMIT: u32 = 0x10_0000;
 
-/// The bytes of a region's block, for so many that are asked for, up to 1,048,576: rounded up to 8,
-/// and 8 for none. Above that there is no block, and the answer is 0.
+/// The bytes that a region's block takes, for the bytes asked for: these rounded up to a multiple of
+/// 8, and 8 for none. Above 1,048,576 there is no block, and the answer is 0.
 pub fn room_for(bytes: u32) -> u32
     ensures room { bytes ≤ block_limit → result ≡ room_of bytes }
     ensures none { block_limit < bytes → result ≡ 0 }
@@ -33,8 +33,8 @@ pub fn run_for(room: u32) -> u32
     (room + 4095) / PAGE
 }
 
-/// The bytes of a unique block's slot, for so many that are asked for: the smallest class that holds
-/// them, and 4,096 where none does.
+/// The bytes of a unique block's slot, for the bytes asked for: the smallest class that holds them,
+/// and 4,096 where none does.
 pub fn class_for(bytes: u32) -> u32
     ensures { result ≡ class_of bytes }
 {

@@ -36,7 +36,7 @@ impl Found {
     }
 }
 
-/// What is found of a command with this status and an image of so many pages, which said this between devices. No case is done where memory is wanting.
+/// What a run between devices gave: its status, the pages of its image, and what it printed. Answers `AllocError` if the status is that of no memory.
 pub fn found_between(
     status: u8,
     pages: Option<u32>,

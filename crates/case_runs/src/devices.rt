@@ -29,7 +29,7 @@ impl<'a> Read for Script<'a> {
     }
 }
 
-/// Keeps what it takes, and takes no more than so many bytes at a call; fails at the call of one number, and takes nothing at that of another.
+/// Keeps what it takes, at most `most` bytes at a call. It fails at one call, and takes nothing at another, each given by its number.
 #[derive(Drop)]
 pub struct Tape {
     pub bytes: Vec<u8>,

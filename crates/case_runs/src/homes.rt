@@ -21,7 +21,7 @@ fn write_homes(
     write!(written, "\n")
 }
 
-/// The homes of so many functions, in a line each.
+/// The homes of the first `functions` functions, one line for each.
 fn lines_of(alloc: Global, labelled: &Labelled, functions: usize) -> Result<Found, AllocError> {
     let mut written = String::new(alloc);
     for function in 0..functions {

@@ -118,7 +118,7 @@ fn shows_least<S: BlockStore>(
     }
 }
 
-/// The calls of a loop, so many times, and the pages of a region that is freed.
+/// The calls of a loop, how often they are made, and the number of pages that a command gives.
 #[derive(Clone, Copy)]
 struct Work<'a> {
     name: &'a str,
@@ -162,10 +162,10 @@ fn drive<S: BlockStore>(rt: &HostRuntime, store: &mut S, work: Work<'_>) -> io::
 /// Makes a store, and its calls: whether all were granted. The words are STORE LOOP TIMES PAGES.
 ///
 /// STORE is `paged` or `plain`, with 4,096 pages. LOOP is `regions` (a region, 1,000 blocks of 16 bytes, and
-/// the region freed), `blocks` (a unique block of 24 bytes, and that freed), `frees` (a region of so many
-/// PAGES is made and freed), `large` (a region with one block of 1,048,576 bytes, which a store of so many
-/// pages has 15 times), or `none`. Of `frees` and `large` the nanoseconds are written, of a whole region
-/// and of its freeing.
+/// the region freed), `blocks` (a unique block of 24 bytes, and that freed), `frees` (a region of PAGES pages
+/// is made and freed), `large` (a region with one block of 1,048,576 bytes, of which a store with 4,096 pages
+/// holds 15), or `none`. For `frees` and `large` the nanoseconds of a whole region and of its freeing are
+/// written.
 pub fn makes_calls(rt: &HostRuntime, words: &[String]) -> io::Result<bool> {
     let [store, name, times, pages] = words else {
         return Ok(false);

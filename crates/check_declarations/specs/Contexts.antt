@@ -21,12 +21,12 @@ pub record Suits (c : Context) (known : List RegionNamed) (g : Env) : Type 0 whe
   pub in_loop : c.in_loop ≡ g.in_loop
   pub in_switch : c.in_switch ≡ g.in_switch
 
--- All that is in scope is known, and the locals after the first so many are those of the innermost block.
+-- All that is in scope is known. The locals after the first `outer` ones are those of the innermost block.
 pub record StandsIn (c : Context) (names : List RegionNamed) (outer : ℕ) (s : Scope) (g : Env) : Type 0 where
   pub known : Knows s g
   pub suits : Suits c names g
   pub block : IsBlock outer s g
 
--- the region names that stay where a block is left: the first so many
+-- the region names that stay when a block is left: the first `count`
 abbrev pub kept_to : ℕ → List RegionNamed → List RegionNamed
 kept_to count names = drop (length names - count) names

@@ -19,7 +19,7 @@ use Rattle.check_declarations.specs.declared.local.Judged.{Judged}
 
 -- ---- types
 
--- a struct or union stands earlier than so many items, by these tables
+-- whether a struct or union stands before the item with this number, by these tables
 abbrev pub stands_before : Tables → ℕ → StaticType → Bool
 stands_before g item (Struct tag rs) = tag_earlier item (tag_in g tag)
 stands_before g item (Union tag rs) = tag_earlier item (tag_in g tag)
@@ -30,7 +30,7 @@ abbrev pub elements_fit : Option ℕ → StaticType → Bool
 elements_fit None t = true
 elements_fit (Some n) t = nat_lt 0 n && is_element t
 
--- what a local may be, or an array of so many elements, by these tables
+-- what a local may be, or an array with a number of elements, by these tables
 abbrev pub could_be : Tables → ℕ → Option ℕ → Bool → StaticType → Bool
 could_be g item count set t = (set || has_beginning g t) && (not (is_void t) && (stands_before g item t && elements_fit count t))
 

@@ -114,9 +114,9 @@ fn could_be(tables: &Tables, item: u32, of: &CType, count: Option<u32>, set: boo
         && elements_fit(count, of)
 }
 
-/// The type of a variable, or of the elements of an array of so many, at fault at this place where one after so many items can't be of
-/// it: with no value set it needs a beginning, it isn't `void`, a struct or union stands earlier, an array has elements that may be in
-/// one, and it has at most 4,096 bytes.
+/// The type of a variable, or of the elements of an array. It is a fault at this place if the item with this number can't have a
+/// variable of it: with no value set the type needs a beginning, it isn't `void`, its struct or union stands earlier, an array's
+/// elements may be in one, and the variable has at most 4,096 bytes.
 pub fn fitted<'p>(
     tables: &Tables,
     item: u32,

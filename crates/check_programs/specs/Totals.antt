@@ -12,7 +12,7 @@ abbrev pub counted : Total → List Static → Option Fault
 counted (code.Bytes n) more = earliest (total_faults n more)
 counted (code.Passed at) more = Some (fault size_rule at)
 
--- the fault of so many bytes, of which the last object stands at this place, and of more objects after them
+-- the fault of a number of bytes, where the last object counted stands at this place, and of more objects after it
 abbrev pub counted_at : ℕ → ℕ → List Static → Option Fault
 counted_at n at more = earliest (if_passed (nat_le n most_static_bytes) at (total_faults n more))
 

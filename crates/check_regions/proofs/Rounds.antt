@@ -1,4 +1,4 @@
--- Marks of regions, and regions that reach others by bounds in so many steps.
+-- Marks of regions, and regions that reach others by bounds in a number of steps.
 use Rattle.std.specs.Prelude.{length, max, nat_eq, replicate, slice_get, slice_set, unwrap_or, ◌&&◌, ◌||◌, ◌≤◌, ◌<◌}
 use Rattle.std.proofs.Common.{◌≡◌, ℕ, zero, suc, Bool, true, false, List, [], ◌∷◌, refl, sym, ◌∙◌, ap, subst, arith}
 use Rattle.std.proofs.lemmas.List.{length-replicate, length-set}

@@ -1,4 +1,4 @@
--- A walk over bounds, level by level: what is marked is what reaches in so many steps.
+-- A walk over bounds, level by level: after a number of levels, the marked regions are those that reach in as many steps.
 use Rattle.std.specs.Prelude.{length, nat_lt, ◌==◌, ◌||◌, ◌≤◌, ◌++◌}
 use Rattle.std.proofs.Common.{◌≡◌, ℕ, zero, suc, Bool, true, false, List, [], ◌∷◌, refl, sym, ◌∙◌, ap, ap₂, subst, arith}
 use Rattle.std.proofs.lemmas.Bool.{eqb-true}

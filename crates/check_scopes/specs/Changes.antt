@@ -17,7 +17,7 @@ with_known x w s = record s { locals = known x w ∷ s.locals }
 abbrev pub entered : Scope → Scope
 entered s = record s { regions = with_begun Block s.regions }
 
--- a block is left: only so many locals stay, and the regions up to a mark
+-- a block is left: the first `count` locals stay, and the regions up to a mark
 abbrev pub left : ℕ → RegionMark → Scope → Scope
 left count mark s = record s { locals = dropped_to count s.locals; regions = first_of mark.names mark.opened s.regions }
 
@@ -26,7 +26,7 @@ abbrev pub AllAround : ℕ → List rules.Local → Type 0
 AllAround block [] = Unit {0}
 AllAround block (l ∷ ls) = (l.block ≤ block) × AllAround block ls
 
--- The locals after the first so many are those of the innermost block.
+-- The locals after the first `outer` ones are those of the innermost block.
 pub record IsBlock (outer : ℕ) (s : Scope) (g : Env) : Type 0 where
   pub second : (x : List ℕ) → is_after s.locals outer x ≡ is_second g.locals g.block x
   pub within : outer ≤ length s.locals

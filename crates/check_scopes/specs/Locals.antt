@@ -15,12 +15,12 @@ abbrev pub find_what : List Known → List ℕ → Option What
 find_what [] x = None
 find_what (l ∷ ls) x = (if bytes_eq l.name x then Some l.what else find_what ls x)
 
--- whether there is one of a name after the first so many
+-- whether a local of this name stands after the first `outer` ones
 abbrev pub is_after : List Known → ℕ → List ℕ → Bool
 is_after [] outer x = false
 is_after (l ∷ ls) outer x = (nat_le outer (length ls) && bytes_eq l.name x) || is_after ls outer x
 
--- only so many stay, the earliest
+-- only the earliest `n` locals stay
 abbrev pub dropped_to : ℕ → List Known → List Known
 dropped_to n [] = []
 dropped_to n (l ∷ ls) = (if nat_le n (length ls) then dropped_to n ls else l ∷ ls)

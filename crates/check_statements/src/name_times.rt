@@ -39,7 +39,7 @@ impl<'c> NameTimes<'c> {
         }
     }
 
-    /// Counts a name once more. If the number is over a usize, memory has run out; no text has so many names.
+    /// Counts a name once more. If the number is over a usize, memory has run out: no text has as many names as that.
     pub(crate) fn add(&mut self, name: &'c [u8]) -> Result<(), AllocError>
         ensures { OnOk result ((x : List ℕ) → times_of self.new x ≡ one_if (bytes_eq name.entry.now x) + times_of self.old x) }
     {

@@ -93,7 +93,7 @@ pub record AreJudged (js : List Judged) (done : code_tags.JudgedTags) : Type 0 w
   pub tables : tables_of done.tables ≡ tags_first (builtins (entries js))
   pub fault : faults_of done.fault ≡ earliest (all_tag_faults js)
 
--- a struct or union that was judged before so many items: it has its own name
+-- a struct or union that was judged before the item with this number: it has its own name
 abbrev pub IsBefore : ℕ → List ℕ → Entry → Type 0
 IsBefore i x (OfTag t) = (t.text ≡ x) × (nat_lt t.order i ≡ true)
 IsBefore i x e = Unit {0}

@@ -70,13 +70,13 @@ foreign_in ss x = find_region (foreign_names ss) x
 
 -- ---- by what the type is
 
--- what a global's name means, by its fault: a variable, or an array of so many elements
+-- what a global's name means, by its fault: a variable, or an array with a number of elements
 abbrev pub meaning_by : Option found.Fault → Option ℕ → CType → Meaning
 meaning_by None None t = Variable t Heap
 meaning_by None (Some n) t = Array t Heap
 meaning_by (Some f) count t = NotKnown
 
--- whether so many elements are as many as a pointer leads to, where it is a thin one
+-- whether `n` elements are at least as many as a pointer leads to, if it is a thin one
 abbrev pub are_enough : ℕ → Option Layer → Bool
 are_enough n (Some (pointer.Thin bound r)) = nat_le (elements_of (reach_of bound)) n
 are_enough n (Some (pointer.Fat r)) = true
@@ -93,12 +93,12 @@ faults_by g i v = faults_of v ++ initial_faults g i v
 abbrev pub entry_by : Env → Initial → Verdict StaticType → Entry
 entry_by g i v = OfValue (what_after (faults_by g i v) (what_of TheHeap (count_of i) v))
 
--- how many bytes one element has, or so many
+-- the bytes of one element, or of an array with a number of them
 abbrev pub bytes_of : Option ℕ → ℕ → ℕ
 bytes_of None n = n
 bytes_of (Some k) n = k * n
 
--- how many bytes a global of a type, or an array of so many elements of it, has in the data
+-- the bytes in the data of a global of this type, or of an array of it with a number of elements
 abbrev pub bytes_by : Tables → Option ℕ → Verdict StaticType → ℕ
 bytes_by g count (Of t) = rounded_up (variable_size g count t) 8
 bytes_by g count v = 0

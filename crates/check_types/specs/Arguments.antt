@@ -14,7 +14,7 @@ written_arguments b = []
 abbrev pub named_spots : List tree.RegionName → List Spot
 named_spots rs = map (λ r. spot false (Some r)) rs
 
--- the places of arguments, where the tag has so many region parameters
+-- the places of arguments, by the number of the tag's region parameters
 abbrev pub spots_by : ℕ → List tree.RegionName → List Spot
 spots_by n [] = replicate n (spot false None)
 spots_by n (r ∷ rs) = named_spots (r ∷ rs)

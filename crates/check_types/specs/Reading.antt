@@ -49,7 +49,7 @@ abbrev pub found_of : Option Region → Found
 found_of None = Missing
 found_of (Some r) = Is r
 
--- A pointer of this sign. None: a fat pointer that would be unique, or a thin one to so many elements that it can't be.
+-- A pointer of this sign. None: a fat pointer that would be unique, or a thin one with a number of elements that none can have.
 abbrev pub made : Sign → Found → PartialType → Option PartialType
 made sign.Fat IsUnique t = None
 made sign.Fat f t = Some (Fat (as_region f) t)

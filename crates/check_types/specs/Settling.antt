@@ -19,7 +19,7 @@ outer_found (Some (pointer.Thin n r)) = Is (region_of r)
 outer_found (Some (pointer.Fat r)) = Is (region_of r)
 outer_found (Some (pointer.Unique n)) = IsUnique
 
--- what a type leads to through so many pointers
+-- what a type leads to through this number of pointers
 abbrev pub reached : ℕ → Option StaticType → Option StaticType
 reached zero s = s
 reached (suc n) s = reached n (pointee_of s)

@@ -87,7 +87,7 @@ pointed_on names t b =
 
 -- ---- a type of structs or unions
 
--- what was read in code of its region arguments and pointers, where its tag has so many region parameters, by the regions that were found and their faults
+-- what the code read of the type's region arguments and pointers, by the number of its tag's region parameters, the regions found and their faults
 pub record IsRead (t : TypeName) (n : ℕ) (y : List Found × List Fault) (arguments : List (Option RegionId)) (layers : Option (List WrittenLayer))
     (bad : Option code_fault.Fault) : Type 0 where
   pub of_base : List Found
@@ -98,7 +98,7 @@ pub record IsRead (t : TypeName) (n : ℕ) (y : List Found × List Fault) (argum
   pub pointers : (b : PartialType) → pointers_to t.pointers of_pointers (Some b) ≡ led_by layers b
   pub fault : faults_of bad ≡ earliest y.1
 
--- the places of its regions, where its tag has so many region parameters
+-- the places of its regions, by the number of its tag's region parameters
 abbrev pub tagged_spots : ℕ → TypeName → List Spot
 tagged_spots n t = spots_by n (written_arguments t.base) ++ map (λ q. spot true q.region) t.pointers
 

@@ -70,8 +70,8 @@ fn arguments_of<'a>(base: &'a BaseType<'_>, union: bool, tag: &[u8]) -> &'a [Reg
     }
 }
 
-/// The region arguments of the union, or else the struct, of this tag to which a type leads through so many pointers. Of another
-/// type there are none.
+/// The region arguments of this tag's union, or else its struct, where a type leads to it through `depth` pointers. Another type
+/// has none.
 fn arguments_at<'a>(
     source: Option<&'a CType<'_>>,
     depth: usize,
@@ -131,7 +131,7 @@ fn or_heap(region: Option<RegionId>) -> RegionId
 }
 
 impl<'p> WrittenBase<'p> {
-    /// The base with its missing regions from what a type leads to through so many pointers.
+    /// The base, its missing regions taken from what a type leads to through `depth` pointers.
     pub(crate) fn filled(
         &self,
         alloc: Global,

@@ -63,7 +63,7 @@ pub enum Command<'a> {
         stack_pages: Pages,
         shows_why: bool,
     },
-    /// Compiles a source and runs it, for at most so many instructions.
+    /// Compiles a source and runs it, for at most `steps` instructions.
     Run {
         input: &'a str,
         pages: Pages,
@@ -74,7 +74,7 @@ pub enum Command<'a> {
         shows_where: bool,
         shows_stats: bool,
     },
-    /// Runs a source by its meaning, with so many units of fuel.
+    /// Runs a source by its meaning, with `fuel` units of fuel.
     Eval {
         input: &'a str,
         fuel: u64,
@@ -82,7 +82,7 @@ pub enum Command<'a> {
         shows_why: bool,
         shows_where: bool,
     },
-    /// Runs an image, for at most so many instructions.
+    /// Runs an image, for at most `steps` instructions.
     Exec {
         input: &'a str,
         steps: u64,

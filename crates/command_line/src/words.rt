@@ -86,7 +86,7 @@ fn compile<'a>(input: &'a str, matches: &ArgMatches<'a>) -> Option<Command<'a>> 
     })
 }
 
-/// What a command is given that goes on for at most so many steps.
+/// What a command is given whose run has a limit of steps.
 fn bounded<'a>(name: &str, input: &'a str, matches: &ArgMatches<'a>) -> Option<Command<'a>> {
     let steps = matches.get_one("steps")?;
     let shows_ending = matches.get_flag("ending");

@@ -125,7 +125,7 @@ abbrev pub standing_words : List (Option Standing) → List ℕ
 standing_words [] = []
 standing_words (s ∷ rest) = standing_word s ∷ standing_words rest
 
--- all tables but the arena's bytes, one behind the other
+-- all tables but the arena's bytes, in order
 abbrev pub tables_of : Plain → List ℕ
 tables_of s = s.ever_used ∷ s.owner ++ s.used ++ s.last ++ standing_words s.standing ++ s.slots
 
@@ -177,7 +177,7 @@ pub record IsCleared (word : ℕ) (old new : List ℕ) : Type 0 where
   pub long : length new ≡ length old
   pub each : (q : ℕ) → slice_index new q ≡ (if nat_eq (slice_index old q) word then 0 else slice_index old q)
 
--- the word is written at so many places
+-- the word is written to a number of places, from one on
 abbrev pub filled : ℕ → ℕ → ℕ → List ℕ → List ℕ
 filled zero from word words = words
 filled (suc n) from word words = slice_set (filled n from word words) (from + n) word

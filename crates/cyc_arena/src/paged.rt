@@ -65,7 +65,7 @@ pub struct PagedStore<R: Blocks> {
 }
 
 impl PagedStore<UniqueBlocks> {
-    /// A store of so many pages, all free, whose bytes are 0. Pages where `pages` isn't 1 to 4,096,
+    /// A store of `pages` pages, all free, whose bytes are 0. Pages where `pages` isn't 1 to 4,096,
     /// looked for first; Memory where the allocator refuses.
     pub fn new(alloc: Global, pages: u32) -> Result<PagedStore<UniqueBlocks>, PagesFault>
         ensures made { IfOk result (λ s. held_by blocks.held blocks.tag_of s.keys.regions ≡ fresh pages) }

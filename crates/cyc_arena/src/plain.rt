@@ -41,7 +41,7 @@ impl Model for PlainStore {
 }
 
 impl PlainStore {
-    /// A store of so many pages, all free, whose bytes are 0. Pages where `pages` isn't 1 to 4,096,
+    /// A store of `pages` pages, all free, whose bytes are 0. Pages where `pages` isn't 1 to 4,096,
     /// looked for first; Memory where the allocator refuses.
     pub fn new(alloc: Global, pages: u32) -> Result<PlainStore, PagesFault>
         ensures made { IfOk result (λ s. holdings_of s ≡ fresh pages) }
@@ -113,7 +113,7 @@ impl PlainStore {
         self.standing[number as usize] = None;
     }
 
-    /// Makes the first page never used the heap's or a number's, with a block of so many bytes.
+    /// Gives the first page never used to the heap or a number, with a block of `room` bytes.
     fn extend(&mut self, number: u32, room: u32)
         requires takes { takes_blocks number (standing_at self.old.standing number) ≡ true }
         requires page { self.old.ever_used < length self.old.owner }
@@ -129,7 +129,7 @@ impl PlainStore {
         self.ever_used += 1;
     }
 
-    /// Makes a run of pages never used the heap's or a number's, with a block of so many bytes.
+    /// Gives a run of pages never used to the heap or a number, with a block of `room` bytes.
     fn run(&mut self, number: u32, room: u32)
         requires takes { takes_blocks number (standing_at self.old.standing number) ≡ true }
         requires eights { room % 8 ≡ 0 }

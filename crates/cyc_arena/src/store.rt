@@ -34,7 +34,7 @@ pub trait BlockStore {
         ensures full { is_refused_full result ≡ is_short RegionNew (holdings self.old) }
         ensures memory { answer_of result ≡ Lacks → may_lack ≡ true };
 
-    /// A block of so many bytes in the region of a handle: its address, a multiple of 8. Handle 0
+    /// A block of `bytes` bytes in the region of a handle: its address, a multiple of 8. Handle 0
     /// is the heap, and an open key's number is its region's handle. The room is the bytes rounded
     /// up to 8 (0 to 8), and meets no live room. BadHandle where the number is no such handle, looked
     /// for first; Full above 1,048,576 bytes. A room above 4,096 takes a run of neighbouring pages that
@@ -53,7 +53,7 @@ pub trait BlockStore {
         ensures does { Does (unit_result result) (holdings self.new) (region_free handle (holdings self.old)) }
         ensures bytes { byte_at self.new ≡ byte_at self.old };
 
-    /// A unique block of so many bytes: its address, a multiple of 8. The room is the smallest of
+    /// A unique block of `bytes` bytes: its address, a multiple of 8. The room is the smallest of
     /// 32, 64, 128, 256, 512, 1,024, 2,048 and 4,096 that holds it, and meets no live room. Full
     /// above 4,096 bytes, or where no page of that class has a free slot and no page is free;
     /// Memory where the store lacks host memory.

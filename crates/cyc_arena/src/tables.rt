@@ -49,7 +49,7 @@ pub(crate) fn clear(words: &mut Vec<u32>, word: u32)
     }
 }
 
-/// Writes this word at so many places.
+/// Writes this word to `count` places, from one on.
 pub(crate) fn fill(words: &mut Vec<u32>, from: usize, count: usize, word: u32)
     requires { from + count ≤ length words.old.items }
     ensures { words.new.items ≡ filled count from word words.old.items }

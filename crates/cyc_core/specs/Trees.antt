@@ -62,7 +62,7 @@ cell_bytes cell.Handle = 4
 cell_bytes cell.Tagged = 8
 cell_bytes cell.TaggedFat = 16
 
--- so many words from a byte on that hold nothing
+-- a number of words, from a byte on, that hold nothing
 abbrev pub blank_words : ℕ → ℕ → List PartShape
 blank_words at zero = []
 blank_words at (suc n) = record { offset = at; width = 4; first = memory.Blank } ∷ blank_words (at + 4) n

@@ -28,6 +28,6 @@ pub struct Layout {
 pub enum Local {
     /// An object of one cell.
     Scalar(Cell),
-    /// An object of so many elements with this layout, one behind the other.
+    /// An object with a number of elements of this layout, one after the other.
     Whole(Rc<Layout>, u32),
 }

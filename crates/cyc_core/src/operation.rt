@@ -7,7 +7,7 @@ ghost use Rattle.cyc_core.specs.Trees.{cell_bytes, cell_width};
 #[derive(Clone, Copy)]
 pub struct Temporary(pub u32);
 
-/// A local: that of the block so many blocks out, with this number among the block's locals.
+/// A local: how many blocks out its block is, and its number among that block's locals.
 #[derive(Clone, Copy)]
 pub struct Variable {
     /// How many blocks out the local's block is; 0 is the innermost one.
@@ -176,10 +176,10 @@ pub enum Operation {
     Get(Temporary, Variable, Width),
     /// The local gets what the temporary holds, or the lowest byte of its word.
     Put(Variable, Width, Temporary),
-    /// The first temporary gets a pointer that leads so many cells and so many bytes further than the second one's.
+    /// The first temporary gets the second one's pointer, moved by a number of cells and their bytes.
     Offset(Temporary, Temporary, u32, u32),
-    /// The first temporary gets a pointer to that element which the third's word says, from the element on to which the second one's pointer leads. An
-    /// element has so many cells and so many bytes.
+    /// The first temporary gets a pointer to the element with the number in the third one, where the second one's pointer leads to element 0.
+    /// The numbers are the cells and the bytes of an element.
     Element(Temporary, Temporary, Temporary, u32, u32),
     /// The first temporary gets the part at the distance from where the second points.
     Load(Temporary, Temporary, Distance),

@@ -37,9 +37,9 @@ pub enum Datum {
     Text(Vec<u8>),
     /// A pointer to the first element of the global or string of a number.
     Address(usize),
-    /// A fat pointer to the first element of the global or string of a number, with so many elements.
+    /// A fat pointer to the first element of the global or string of a number, and how many elements that has.
     Bounds(usize, u32),
-    /// An object of so many elements of a layout, which begins as the layout's cells do: numbers with 0, pointers with NULL.
+    /// An object with a number of elements of a layout, which begins as the layout's cells do: numbers with 0, pointers with NULL.
     Whole(Rc<Layout>, u32),
 }
 

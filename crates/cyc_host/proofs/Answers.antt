@@ -1,4 +1,4 @@
--- The answers of a store, one behind the other: those that a run took, and then any others.
+-- The answers of a store, in order: those that a run took, and then any others.
 use Rattle.std.proofs.Common.{◌≡◌, ℕ, zero, suc, List, [], ◌∷◌, ◌++◌, refl}
 use Rattle.arena_laws.specs.Lawful.{Answer}
 

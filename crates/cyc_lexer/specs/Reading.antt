@@ -15,7 +15,7 @@ abbrev pub run : (ℕ → Bool) → List ℕ → ℕ
 run test [] = 0
 run test (b ∷ bs) = if test b then suc (run test bs) else 0
 
--- so many bytes more
+-- a length, if there is one, and `n` bytes more
 abbrev pub longer : ℕ → Option ℕ → Option ℕ
 longer n None = None
 longer n (Some m) = Some (n + m)

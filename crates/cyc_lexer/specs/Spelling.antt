@@ -147,7 +147,7 @@ abbrev pub with_character : Option (ℕ × ℕ) → (ℕ → List ℕ) → List 
 with_character None rest = []
 with_character (Some c) rest = c.0 ∷ rest c.1
 
--- the bytes that the characters at the front mean, as far as there are characters, and so many of them at most
+-- the bytes that the characters at the front mean, up to where there is none, and at most a number of them
 abbrev pub characters_in : ℕ → ℕ → List ℕ → List ℕ
 characters_in zero quote bytes = []
 characters_in (suc most) quote bytes = with_character (character_at quote bytes) (λ n. characters_in most quote (drop n bytes))

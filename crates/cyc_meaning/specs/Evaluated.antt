@@ -15,7 +15,7 @@ IsReadNext p input units byte =
     (rest : List SourceEvent)
     × ((source_run p (input ++ byte ∷ []) (suc units)).events ≡ (source_run p input units).events ++ Visible (ByteRead (Some byte)) ∷ rest)
 
--- How so many of `fuel` units have left the run. Its own endings come with all the fuel that there is. A read fault comes where a unit is left, and
+-- How a run with `units` of the `fuel` units ends. Its own endings come with all the fuel that there is. A read fault comes where a unit is left, and
 -- the run reads a byte with it. Anything may be due where a write failed, or the host has no memory.
 abbrev pub EndsAs : EvalEnding → Program → (fuel units : ℕ) → (input : List ℕ) → Type 0
 EndsAs (ending.Ended status) p fuel units input = (units ≡ fuel) × ((source_run p input units).ending ≡ SourceEnding.Ended (word status))

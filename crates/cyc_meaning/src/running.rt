@@ -10,7 +10,7 @@ use cyc_words::{Input, Output};
 use lower_checks::lower;
 use std::alloc::Global;
 
-/// Runs a checked program by the meaning of its source, with so many units of fuel.
+/// Runs a checked program by the meaning of its source, with `fuel` units.
 ///
 /// Ends as the definition does: with the program's status, by a raise, or with `Running` where a unit is due and none is
 /// left. `WriteFault` comes in place of any other ending, where a write failed or took no byte; `ReadFault` where a read

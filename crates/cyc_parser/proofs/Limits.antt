@@ -1,4 +1,4 @@
--- The place of the first token behind so many.
+-- The place of the first token over a limit.
 use Rattle.std.proofs.Common.{◌≡◌, ◌∙◌, ℕ, ◌<◌, List, map, length, drop, get_or, sym, ap, arith}
 use Rattle.std.proofs.lemmas.List.{drop-map, drop_more, length-map}
 use Rattle.cyc_lexer.specs.declared.token.Token.{Token}

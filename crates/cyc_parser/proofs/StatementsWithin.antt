@@ -1,4 +1,4 @@
--- Declarations and statements in which at most so many phrases nest, and the tokens that would go on with them.
+-- Declarations and statements in which phrases nest up to a limit, and the tokens that would go on with them.
 use Rattle.std.proofs.Common.{◌≡◌, ◌&&◌, ◌||◌, ℕ, suc, ◌+◌, max, arith, Bool, true, false, List}
 use Rattle.cyc_lexer.specs.declared.token.Keyword.TheVariants as word
 use Rattle.cyc_lexer.specs.declared.token.TokenKind.{TokenKind}

@@ -13,7 +13,7 @@ use Rattle.cyc_types.specs.declared.cell.Cell.{Cell}
 use Rattle.cyc_types.specs.declared.tag.Known.{Known}
 use Rattle.source_typing.specs.Tables as rules
 
--- a cell by the kind of its shape, so many bytes from the first
+-- a cell by the kind of its shape, and its offset in bytes from the first
 pub record KindAt : Type 0 where
   pub offset : ℕ
   pub kind : Option Kind

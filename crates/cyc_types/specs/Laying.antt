@@ -30,7 +30,7 @@ all_waiting es (w ∷ ws) = all_waiting es ws ++ waiting_cells es w
 abbrev pub whole_cells : List Entry → Laying → List KindAt
 whole_cells es l = cells_of l.cells.items ++ all_waiting es l.waiting.items
 
--- bytes from so many on aren't too many
+-- bytes from this offset on aren't too many
 abbrev pub EndsIn : ℕ → Option Extent → Type 0
 EndsIn at None = ⊥
 EndsIn at (Some e) = at + e.size ≤ most_bytes
@@ -74,7 +74,7 @@ waiting_steps es (w ∷ ws) = all_steps (found_steps es) (waiting_parts w) + wai
 
 -- ---- one more part
 
--- one laying after another, with more cells, in so many steps at most
+-- one laying after another, with more cells, in at most `steps` steps
 pub record Goes (es : List Entry) (more : List KindAt) (steps : ℕ) (from to : Laying) : Type 0 where
   pub cells : whole_cells es to ≡ cells_of from.cells.items ++ (more ++ all_waiting es from.waiting.items)
   pub within : AreWithin es from.waiting.items → AreWithin es to.waiting.items

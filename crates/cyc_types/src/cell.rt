@@ -23,7 +23,7 @@ pub struct Layout<'p> {
     pub extent: Extent,
 }
 
-/// Appends a scalar's cell, so many bytes from the first.
+/// Appends a scalar's cell, at an offset in bytes from the first.
 pub(crate) fn push_scalar<'p>(
     cells: &mut Vec<Cell<'p>>,
     offset: u32,

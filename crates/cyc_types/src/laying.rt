@@ -47,7 +47,7 @@ fn take_next<'t, 'p>(waiting: &mut Vec<Waiting<'t, 'p>>) -> Option<Waiting<'t, '
 }
 
 impl<'p> Tables<'p> {
-    /// Goes into a struct by its tag, so many bytes from the type's first; what isn't declared has no cells.
+    /// Goes into a struct by its tag, at an offset in bytes from the type's first; a struct that isn't declared has no cells.
     fn lay_struct<'t>(
         &'t self,
         laying: &mut Laying<'t, 'p>,
@@ -94,7 +94,7 @@ impl<'p> Tables<'p> {
         Ok(())
     }
 
-    /// Lays a type, so many bytes from the first.
+    /// Lays a type, at an offset in bytes from the first.
     fn lay<'t>(
         &'t self,
         laying: &mut Laying<'t, 'p>,

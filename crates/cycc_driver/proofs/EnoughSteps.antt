@@ -1,4 +1,4 @@
--- Where a run may make so many steps that it comes to its meaning's end: it ends there, unless it is cut short.
+-- A run that may make enough steps to come to its meaning's end: it ends there, unless it is cut short.
 use Rattle.std.proofs.Common.{◌≡◌, ℕ, ◌+◌, ◌-◌, ◌≤◌, List, Option, inl, inr, true, refl, sym, ap, subst, ◌∙◌, arith, add_comm, add-sub_of_le}
 use Rattle.std.specs.Io.KnownBytes.{Appends}
 use Rattle.cyc_words.specs.Words.{word}

@@ -29,7 +29,7 @@ IsImplementedBy program parts =
     (arena : ℕ → ℕ) (start : Arrays) → ((at : ℕ) → arena at < 256) → IsStart parts (fresh parts.pages) arena start → (input : List ℕ) → AreBytes input
     → Implements (frame_bound_of (world_of program)) (areas_of start) (state_of start) input (meaning_of program input)
 
--- The image of an accepted text, with so many pages of the arena and of the stack: it is of version 2, and implements the program that the text spells.
+-- The image of an accepted text, with these pages of the arena and of the stack: it is of version 2, and implements the program that the text spells.
 pub record IsTextImage (text : List ℕ) (pages stack_pages : ℕ) (bytes : List ℕ) : Type 0 where
   pub program : Program
   pub accepted : IsAcceptedAs text program
@@ -120,7 +120,7 @@ EndsOrIsStopped ending.WriteFault meant old new = Unit {0}
 EndsOrIsStopped ending.StepLimit meant old new = ⊥
 EndsOrIsStopped (ending.Fault fault) meant old new = ⊥
 
--- A run between a reader and a writer of at most so many steps, of the image of an accepted text, as `compile` gives it, from its start on.
+-- A run between a reader and a writer, of at most `steps` steps from its start on, of the image that `compile` gives for an accepted text.
 pub record IsTextRun (text : List ℕ) (pages stack_pages steps : ℕ) (why : Ending) (reader_old reader_new writer_old writer_new : Option (List ℕ)) : Type 0 where
   pub bytes : List ℕ
   pub image : IsTextImage text pages stack_pages bytes

@@ -177,7 +177,8 @@ fn lay_out(alloc: Global, checked: &Checked) -> Result<Placed, CompileFault>
     }
 }
 
-/// The image of an accepted text, of version 2, for a machine whose arena and whose stack have so many pages of 4,096 bytes.
+/// The image of an accepted text, of version 2, for a machine with these numbers of pages of 4,096 bytes
+/// for its arena and its stack.
 ///
 /// Refuses what `check` refuses, with the same fault; a text whose code is over 1,048,576 bytes, with
 /// `TooLarge` at line 1, column 1; and with `Memory` where no host memory is left.

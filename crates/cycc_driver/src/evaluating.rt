@@ -13,7 +13,7 @@ use cyc_meaning::eval;
 use cyc_words::{Input, Output};
 use std::alloc::Global;
 
-/// Runs a text by the meaning of its source, with so many units of fuel: a turn of a loop takes one, and a call.
+/// Runs a text by the meaning of its source, with `fuel` units: an iteration of a loop takes one, and a call.
 ///
 /// Refuses what `check` refuses, before anything is read or written. Otherwise answers how the run ended, and `stop` gets where, unless the
 /// host has no memory for it.

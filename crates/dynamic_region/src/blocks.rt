@@ -14,7 +14,7 @@ use unique_blocks::UniqueRefusal;
 
 /// Regions with unique blocks beside them, whose pages and addresses are theirs alone.
 pub trait Blocks: Regions {
-    /// A unique block of so many bytes: its address, a multiple of 8. The room is the smallest class
+    /// A unique block of `bytes` bytes: its address, a multiple of 8. The room is the smallest class
     /// that holds it. Full above 4,096 bytes, or where no page of that class has a free slot and no
     /// page is free.
     fn unique_alloc(&mut self, bytes: u32) -> Result<u32, UniqueRefusal>
@@ -41,7 +41,7 @@ pub trait Blocks: Regions {
 }
 
 impl<R: Blocks> Keys<R> {
-    /// A unique block of so many bytes: its address, a multiple of 8. The room is the smallest class
+    /// A unique block of `bytes` bytes: its address, a multiple of 8. The room is the smallest class
     /// that holds it. Full above 4,096 bytes, or where no page of that class has a free slot and no
     /// page is free.
     pub fn unique_alloc(&mut self, bytes: u32) -> Result<u32, UniqueRefusal>

@@ -219,7 +219,7 @@ impl<R: Regions> Keys<R> {
         made
     }
 
-    /// A block of so many bytes in a live region, in the heap (0), or in an open key's region under
+    /// A block of `bytes` bytes in a live region, in the heap (0), or in an open key's region under
     /// the key's number: its address, a multiple of 8. BadHandle where the number is no such handle (a
     /// closed key's too); Full above 1,048,576 bytes, or where a page or a run of pages is
     /// needed and there is none.

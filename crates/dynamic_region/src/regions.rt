@@ -43,7 +43,7 @@ pub trait Regions {
         ensures touched { touches self.new ≡ (if is_some result then 6 + reads_link (holdings self.old) else 0) }
         ensures unchanged { is_some result ≡ false → headers self.new ≡ headers self.old };
 
-    /// A block of so many bytes in a live region, or in the heap (0): its address, a multiple of 8.
+    /// A block of `bytes` bytes in a live region, or in the heap (0): its address, a multiple of 8.
     /// BadHandle where the handle is of no live region; Full above 1,048,576 bytes, or where a page or
     /// a run of pages is needed and there is none.
     fn region_alloc(&mut self, handle: Handle, bytes: u32) -> Result<u32, Refusal>

@@ -11,7 +11,7 @@ use Rattle.rv32_machine.specs.Shortage.{IsShortage, asked_at}
 use Rattle.rv32_machine.specs.Implements.{Meaning, Implements, Reaches}
 use Rattle.exhaustion_proof.specs.Room.{HasRoom, is_refused_after}
 
--- in each of so many steps the store refuses for want of room exactly where its counts do
+-- in each of `count` steps the store refuses for lack of space exactly where its counts do
 abbrev pub AreExact : Areas → ℕ → Run → Type 0
 AreExact n count r =
     (k : ℕ) → k < count → let now = run_steps n k r in IsShortage n (asked_at n now.state) now.state.holdings (step n (now.answers 0) now.state).shown

@@ -1,4 +1,4 @@
--- What events want of an arena of so many pages, all free at first: a count over the events alone, with no store in it.
+-- What events need of an arena with a number of pages, all free at first: a count over the events alone, with no store in it.
 use Rattle.std.specs.Prelude.{◌≡◌, ℕ, Bool, true, false, List, [], ◌∷◌, ◌++◌, Option, Some, None}
 use Rattle.cyc_words.specs.Events as events
 use Rattle.cyc_words.specs.Events.{Event, SourceEvent, Visible, Called, Returned, visible}
@@ -34,7 +34,7 @@ abbrev pub refused_if : Option pages.Request → ByBirth → Bool
 refused_if None b = false
 refused_if (Some q) b = is_refused q b.counts
 
--- with so many pages, the counts refuse an event after these
+-- with `count` pages, the counts refuse an event after these
 abbrev pub is_refused_after : ℕ → List Event → Event → Bool
 is_refused_after count before e = refused_if (asked e) (counts_after before (unborn count))
 

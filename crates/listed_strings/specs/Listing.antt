@@ -33,7 +33,7 @@ abbrev pub AddsTo : {X : Type 0} → (List X → List meaning.Literal) → List 
 AddsTo strings old all i now =
     (more : List meaning.Literal) → listed now ++ (strings (drop i all) ++ more) ≡ listed old ++ (strings all ++ more)
 
--- memory was never wanting, and what was listed is of these, with so many behind
+-- no allocation failed, and what was listed is the strings of the first `i` of these
 pub record AreListed {X : Type 0} (strings : List X → List meaning.Literal) (old : Literals) (all : List X) (i : ℕ) (now : Literals) : Type 0 where
   pub sound : old.failed ≡ false
   pub adds : AddsTo strings old.all.items all i now.all.items

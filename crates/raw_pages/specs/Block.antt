@@ -4,7 +4,7 @@ use base.Fml.{Fml, fsep, fwand, froom, ffalse}
 use mir.Syntax.{Ty, ty_struct, ty_array, ty_int, tcons, tnil, w8, w32}
 use denote.RawPtr.{Ptr, block_ptr, null_ptr}
 
--- the type that a block of so many pages is allocated for
+-- the type that a block of `pages` pages is allocated for
 abbrev pub block_type : ℕ → Ty
 block_type pages = ty_struct [] (tcons (ty_array (ty_int w32) (16 * pages)) (tcons (ty_array (ty_int w8) (4096 * pages)) tnil))
 

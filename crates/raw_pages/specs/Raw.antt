@@ -15,7 +15,7 @@ count r = length r.words / 16
 abbrev pub word_at : Raw → ℕ → ℕ → ℕ
 word_at r page field = slice_index r.words (16 * page + field)
 
--- so many pages, all of whose words and bytes are 0
+-- `pages` pages, all of whose words and bytes are 0
 pub record AreZero (pages : ℕ) (r : Raw) : Type 0 where
   pub headers : length r.words ≡ 16 * pages
   pub payload : length r.bytes ≡ 4096 * pages

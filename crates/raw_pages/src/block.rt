@@ -9,7 +9,7 @@ mod rows;
 
 pub(crate) use rows::{allocate, filled, free};
 
-/// The right to give back a block of so many pages, whose rows are out.
+/// The right to give back a block of pages whose rows are out.
 pub struct Block<A: Allocator> {
     start: *mut u8,
     pages: usize,

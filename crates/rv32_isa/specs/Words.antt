@@ -28,7 +28,7 @@ assembled (JType value rd offset) = value + rd * 2 ^ 7 + unsigned 21 offset / 2 
 assembled (FenceType value rd rs1 upper) = value + rd * 2 ^ 7 + rs1 * 2 ^ 15 + upper * 2 ^ 20
 assembled (Alone value) = value
 
--- a number that has a two's complement in so many bits, and an even one
+-- a number that has a two's complement in `count` bits, and an even one
 abbrev pub IsSigned : ℕ → ℤ → Type 0
 IsSigned count z = (unsigned count z < 2 ^ count) × (signed count (unsigned count z) ≡ z)
 

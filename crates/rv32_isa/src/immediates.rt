@@ -93,7 +93,7 @@ impl Model for BranchOffset {
 }
 
 impl BranchOffset {
-    /// The offset of so many bytes.
+    /// The offset of `value` bytes.
     pub fn new(value: i32) -> Self
         requires low { negsuc 4095 ≤ℤ value }
         requires high { value ≤ℤ pos 4095 }
@@ -169,7 +169,7 @@ impl Model for JumpOffset {
 }
 
 impl JumpOffset {
-    /// The offset of so many bytes.
+    /// The offset of `value` bytes.
     pub fn new(value: i32) -> Self
         requires low { negsuc 1048575 ≤ℤ value }
         requires high { value ≤ℤ pos 1048575 }

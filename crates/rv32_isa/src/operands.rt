@@ -127,7 +127,7 @@ impl Model for ShiftAmount {
 }
 
 impl ShiftAmount {
-    /// A shift by so many bits.
+    /// A shift by `count` bits.
     pub fn new(count: u8) -> Self
         requires { count < 32 }
         ensures { result ≡ count }

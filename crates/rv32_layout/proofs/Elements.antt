@@ -1,4 +1,4 @@
--- Elements of a layout, one behind the other: their bytes, and how many these are.
+-- Elements of a layout, in order: their bytes, and how many these are.
 use Rattle.std.proofs.Common.{◌≡◌, ℕ, zero, suc, ◌+◌, ◌*◌, ◌^◌, ◌<◌, ◌≤◌, List, ◌++◌, map, length, sym, ap, ◌∙◌, arith}
 use Rattle.std.proofs.Math.Nat.{suc-mul, zero-mul}
 use Rattle.std.proofs.lemmas.Nat.{mul-lt}

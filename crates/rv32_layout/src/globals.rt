@@ -38,7 +38,7 @@ fn within(offset: usize) -> Option<usize>
     }
 }
 
-/// Where cells end that lie one behind the other from an offset on, if that is within the limit.
+/// Where cells end that lie in order from an offset on, if that is within the limit.
 fn cells_end(start: usize, cells: &[CellLayout]) -> Option<usize>
     requires { start ≤ data_limit }
     ensures some { IfSome result (λ end. (end ≡ start + cells_size cells.now) × (end ≤ data_limit)) }
@@ -54,7 +54,7 @@ fn cells_end(start: usize, cells: &[CellLayout]) -> Option<usize>
     Some(at)
 }
 
-/// Where so many elements of a layout end that lie one behind the other from an offset on, if that is within the limit.
+/// Where `count` elements of a layout end that lie in order from an offset on, if that is within the limit.
 #[tactic(auto, using(crate::proofs::Elements::one_or_more, crate::proofs::Elements::product_small))]
 fn elements_end(start: usize, layout: &Layout, count: u32) -> Option<usize>
     requires { start ≤ data_limit }
@@ -107,7 +107,7 @@ fn are_too_large(globals: &[Datum]) -> bool
     false
 }
 
-/// Appends so many zeros.
+/// Appends `count` zeros.
 fn put_zeros(bytes: &mut Vec<u8>, count: usize) -> Result<(), AllocError>
     ensures { OnOk result (bytes.new.items ≡ bytes.old.items ++ zeros count) }
 {
@@ -117,7 +117,7 @@ fn put_zeros(bytes: &mut Vec<u8>, count: usize) -> Result<(), AllocError>
     Ok(())
 }
 
-/// Appends a zero for each byte of so many elements of a layout, which are within the limit.
+/// Appends a zero for each byte of `count` elements of a layout, which are within the limit.
 fn put_whole(bytes: &mut Vec<u8>, layout: &Layout, count: u32) -> Result<(), AllocError>
     requires { count * cells_size layout.now.cells.items ≤ data_limit }
     ensures { OnOk result (bytes.new.items ≡ bytes.old.items ++ zeros (count * cells_size layout.now.cells.items)) }
@@ -167,7 +167,7 @@ fn put_address(bytes: &mut Vec<u8>, offsets: &[u64], object: usize) -> Result<()
     Ok(())
 }
 
-/// Appends a fat pointer to the first of so many elements of the global or string of a number.
+/// Appends a fat pointer to the first element of the global or string of a number, and how many elements that has.
 fn put_bounds(
     bytes: &mut Vec<u8>,
     offsets: &[u64],

@@ -98,8 +98,8 @@ abbrev pub Reaches : Run → Meaning → ℕ → Type 0
 Reaches r m fuel =
     (is_cut_short (ending_of r) ≡ true) ⊎ (IsBeginning (visible (m.events fuel)) r.events × EndsWith (m.ending fuel) (visible (m.events fuel)) r)
 
--- The machine does on the input what the meaning says: each run of so many instructions, whatever the store answers, agrees with it at some amount of fuel; each
--- amount of fuel is reached by some number of instructions, the same whatever the store answers; and each load and store lies where it may.
+-- The machine does on the input what the meaning says. Each run of some number of instructions agrees with it at some amount of fuel, for all answers of the
+-- store. Each amount of fuel is reached by some number of instructions, the same for all answers. Each load and store lies where it may.
 pub record Implements (bound : List ℕ → ℕ) (n : Areas) (s : State) (input : List ℕ) (m : Meaning) : Type 0 where
   pub each_run : (answers : ℕ → Answer) (count : ℕ) → (fuel : ℕ) × Agrees bound n (run_steps n count (from s input answers)) m fuel
   pub each_fuel : (fuel : ℕ) → (count : ℕ) × ((answers : ℕ → Answer) → Reaches (run_steps n count (from s input answers)) m fuel)

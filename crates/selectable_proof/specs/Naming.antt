@@ -51,8 +51,8 @@ use Rattle.core_meaning.specs.Core.{
 use Rattle.core_meaning.specs.Layouts.{IsLayout, IsFull, IsZero}
 use Rattle.core_meaning.specs.Selectable.{AreLayouts, IsLocal}
 
--- An operation within blocks that have so many locals each, the innermost first, in a function of so many unnamed values, over so many objects of
--- the data.
+-- An operation names what there is: within blocks with these numbers of locals, the innermost first, in a function with `own` unnamed values, over
+-- `objects` objects of the data.
 abbrev pub NamesIn : List ℕ → (own objects : ℕ) → Operation → Type 0
 NamesIn blocks own objects (Constant t w) = Unit {0}
 NamesIn blocks own objects (NullPointer t) = Unit {0}

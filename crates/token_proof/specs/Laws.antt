@@ -7,7 +7,7 @@ use Rattle.source_grammar.specs.Grammar.{IsProgram}
 use Rattle.source_meaning.specs.Programs.{world_of}
 use Rattle.source_lowering.specs.Bounds.{routines_size}
 
--- a program has at least so many tokens as its functions are large
+-- a program has at least as many tokens as the size of its functions
 abbrev pub TokensPay : Type 0
 TokensPay = (p : Program) (tokens : Tokens) → IsProgram p tokens → routines_size (world_of p).functions ≤ length tokens
 

@@ -122,7 +122,7 @@ slots_of_class pages s c = tally pages (λ p. if is_of_class s c p then s.live p
 
 -- ---- what is true of them
 
--- the chains' first pages are kept in the order of the classes: the place of the class that holds so many bytes
+-- the chains' first pages are kept in the order of the classes: the place of the smallest class that holds `bytes` bytes
 abbrev pub place_of : ℕ → ℕ
 place_of bytes =
     (if nat_le bytes 32 then 0 else

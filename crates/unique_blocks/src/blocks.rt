@@ -108,7 +108,7 @@ impl UniqueBlocks {
         BASE + PAGE * page + slot * class
     }
 
-    /// A unique block of so many bytes: its address, a multiple of 8. The room is the smallest of
+    /// A unique block of `bytes` bytes: its address, a multiple of 8. The room is the smallest of
     /// 32, 64, 128, 256, 512, 1,024, 2,048 and 4,096 that holds it, and meets no live room. Full
     /// above 4,096 bytes, or where no page of that class has a vacant slot and no page is free.
     pub fn unique_alloc(&mut self, bytes: u32) -> Result<u32, UniqueRefusal>
@@ -220,7 +220,7 @@ impl UniqueBlocks {
         made
     }
 
-    /// A block of so many bytes in a live region, or in the heap (0): its address, a multiple of 8.
+    /// A block of `bytes` bytes in a live region, or in the heap (0): its address, a multiple of 8.
     /// The room is the bytes rounded up to 8 (0 to 8), and meets no live room. BadHandle where the
     /// handle is of no live region, looked for first; Full above 1,048,576 bytes. A room above 4,096
     /// takes a run of neighbouring pages that were never used, and is Full where fewer are left; the

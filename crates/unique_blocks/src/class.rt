@@ -3,7 +3,7 @@
 ghost use Rattle.std.specs.Prelude.{◌≡◌, ◌<◌};
 ghost use Rattle.unique_blocks.specs.Slots.{place_of};
 
-/// The place among the eight of the smallest class that holds so many bytes.
+/// The place, among the eight classes, of the smallest one that holds `bytes` bytes.
 pub(crate) fn place_for(bytes: u32) -> usize
     ensures place { result ≡ place_of bytes }
     ensures few { result < 8 }

@@ -24,7 +24,7 @@ use cyc_words::{Counted, Input, Output};
 use std::alloc::{AllocError, Global};
 use std::test::Fail;
 
-/// How a program ends on an input with so many units of fuel; none where a call fails, or other bytes are written.
+/// How a program ends on an input, with these units of fuel; none where a call fails, or other bytes are written.
 fn ending_of(
     alloc: Global,
     program: &Program,

@@ -53,7 +53,7 @@ fn images_are_written(rt: HostRuntime) -> Result<(), Fail> {
     Ok(())
 }
 
-/// Whether parts fit with so many of these bytes as their code and as their data.
+/// Whether parts of these lengths fit, where code and data are taken from the start of these bytes.
 fn do_fit(
     zeros: &[u8],
     entry: u32,
@@ -70,7 +70,7 @@ fn do_fit(
     Some(parts.fits())
 }
 
-/// Whether parts fit or don't as a row says: with an entry, so many bytes of code and of data, and so many pages of the arena and of the stack.
+/// Whether parts fit or don't as a row says. It has the entry, the bytes of the code and of the data, and the pages of the arena and of the stack.
 pub fn are_limits(alloc: Global, row: &str) -> Result<bool, AllocError> {
     let (wanted, rest) = parted(row);
     let (entry, rest) = parted(rest);

@@ -35,7 +35,7 @@ fn loaded(alloc: Global, parts: &Parts<'_>) -> Result<Image, Fail> {
     }
 }
 
-/// The image of so many pages with this code.
+/// The image with this code and this number of pages.
 fn image_of(alloc: Global, words: &str, pages: u32) -> Result<Image, Fail> {
     let code = code_of(alloc, words)?;
     let parts = Parts {

@@ -33,7 +33,7 @@ fn put_end(lines: &mut Vec<Line>, is_jump: bool, behind: Instr) -> Result<(), Al
     put(lines, behind)
 }
 
-/// Adds so many instructions.
+/// Adds `count` instructions.
 fn fill(lines: &mut Vec<Line>, count: u16) -> Result<(), AllocError> {
     for _ in 0..count {
         put(lines, nothing())?;

@@ -1,8 +1,8 @@
 // Runs of short programs between a reader and a writer that stumble.
 //
 // In a row of a machine `input` has the read that fails, and the text that is read; `output` the most bytes that are taken at a call, the write that
-// stumbles, how it does, and what is written. Without them nothing is read, and all is taken. `run` makes so many runs of so many steps, and says how the last
-// one ends, how many bytes are written then, and how many reads and writes there were and failed.
+// stumbles, how it does, and what is written. Without them nothing is read, and all is taken. `run` has the number of runs and the steps of each, and says
+// how the last one ends, how many bytes are written then, and how many reads and writes there were and failed.
 
 use crate::devices::{Script, Tape};
 use crate::texts::{number_of, parted};
@@ -41,7 +41,7 @@ impl Devices {
         true
     }
 
-    /// How the last of so many runs of so many steps ends.
+    /// How the last of `times` runs ends, each of at most `steps` steps.
     fn ending_of<S: BlockStore>(
         &mut self,
         machine: &mut Machine<S>,

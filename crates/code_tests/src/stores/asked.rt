@@ -12,7 +12,7 @@ pub type Said = Result<u32, &'static str>;
 
 /// What calls are made on.
 pub trait Asked {
-    /// A call, on the region or key of this number, or at the address so many bytes behind a block.
+    /// A call, on the region or key `base`, or at the address that is `number` bytes behind `base`.
     fn ask(&mut self, call: Call, base: u32, number: u32) -> Said;
 
     /// Stores a byte of the arena; false outside it.

@@ -9,8 +9,8 @@ use std::alloc::{AllocError, Allocator};
 use std::marker::PhantomData;
 use std_alloc::vec::{Lodged, lodge};
 
-/// A block for so many pages: sixteen words a page, and 4,096 bytes a page behind them. No place of
-/// them is written.
+/// A block of `pages` pages: sixteen words for each page, then 4,096 bytes for each page.
+/// None of them is written.
 pub(crate) fn allocate<A: Allocator>(
     alloc: &A,
     pages: usize,

@@ -177,6 +177,7 @@ fn run(rt: &HostRuntime) -> io::Result<bool> {
     does(rt, &words)
 }
 
+/// Does what the command line says, and fails where something was refused or a call failed.
 fn main(rt: HostRuntime) -> ExitCode {
     match run(&rt) {
         Ok(true) => ExitCode::SUCCESS,

@@ -43,7 +43,7 @@ impl Read for Script {
     }
 }
 
-/// Takes so many bytes at a call at most, and looks whether they are a text's, as far as that goes; at the call of that number it takes nothing or fails.
+/// Takes at most `most` bytes at a call, and compares them with a text. At one call, given by its number, it takes nothing or fails.
 /// What takes no byte at any call can't be flushed behind one.
 #[derive(Drop)]
 pub struct Tape {
@@ -88,6 +88,7 @@ impl Tape {
         self.is_right && self.taken == self.wanted.len()
     }
 
+    /// Takes a byte, and compares it with the text's next one.
     fn take(&mut self, byte: u8) {
         if let Some(wanted) = self.wanted.get(self.taken) {
             self.is_right = self.is_right && said(*wanted) == byte;

@@ -45,6 +45,7 @@ fn suffixed(program: &Program) -> Option<(&Expression, &[Suffix])> {
     }
 }
 
+/// Whether the first statement makes a union, with `.`, an index and `->` behind it.
 fn is_union_value(program: &Program) -> bool {
     matches!(
         suffixed(program),
@@ -55,6 +56,7 @@ fn is_union_value(program: &Program) -> bool {
     )
 }
 
+/// Whether the first statement is a variable with two members behind it.
 fn is_variable(program: &Program) -> bool {
     matches!(
         suffixed(program),

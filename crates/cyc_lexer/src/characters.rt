@@ -35,6 +35,7 @@ fn is_plain(quote: u8, byte: u8) -> bool
     32 <= byte && byte <= 126 && byte != b'\\' && byte != quote
 }
 
+/// Whether both bytes are hexadecimal digits.
 fn are_hexadecimal(high: u8, low: u8) -> bool
     ensures { result ≡ (is_hexadecimal_digit high && is_hexadecimal_digit low) }
 {

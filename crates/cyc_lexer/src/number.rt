@@ -6,6 +6,7 @@ ghost use Rattle.cyc_lexer.specs.Reading.{is_digit_to, digits_value, digits_of, 
 use crate::bytes::{digit_value, is_digit, is_hexadecimal_digit, is_octal_digit};
 use crate::token::TokenKind;
 
+/// Whether a byte is a digit to this base: 8, 10, or else 16.
 fn is_digit_to(base: u64, byte: u8) -> bool
     ensures { result ≡ is_digit_to base byte }
 {
@@ -37,6 +38,7 @@ fn digits_value(base: u64, digits: &[u8]) -> Option<u32>
     Some(value as u32)
 }
 
+/// What digits stand for, to the base that their first bytes say, if each is one and the number fits.
 fn digits_of(digits: &[u8]) -> Option<u32>
     ensures { result ≡ digits_of digits.now }
 {

@@ -21,6 +21,7 @@ fn word_at(bytes: &[u8]) -> Option<(TokenKind, usize)>
     }
 }
 
+/// The number at the front, and its length.
 fn number_at(bytes: &[u8]) -> Option<(TokenKind, usize)>
     ensures { result ≡ number_at bytes.now }
 {

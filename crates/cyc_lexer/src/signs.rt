@@ -48,6 +48,7 @@ pub(crate) static SIGNS: [(Sign, &[u8]); 39] = [
     (Sign::Question, b"?"),
 ];
 
+/// Whether bytes begin with these.
 fn begins_with(front: &[u8], bytes: &[u8]) -> bool
     ensures { result ≡ begins_with front.now bytes.now }
 {

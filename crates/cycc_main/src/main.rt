@@ -17,7 +17,7 @@ use std::io::Read;
 use std::process::ExitCode;
 use std::{fs, io};
 
-/// The bytes of a file, so many at most.
+/// The bytes of a file, at most `most` of them.
 fn bytes_of(rt: &HostRuntime, path: &str, most: u64) -> io::Result<Vec<u8>> {
     let mut bytes = Vec::new(rt.alloc());
     File::open(rt, path)?.take(most).read_to_end(&mut bytes)?;
@@ -182,6 +182,7 @@ fn run(rt: &HostRuntime) -> Result<u8, AllocError> {
     }
 }
 
+/// Does what the command line says, and exits with its status.
 fn main(rt: HostRuntime) -> ExitCode {
     match run(&rt) {
         Ok(status) => ExitCode::from(status),

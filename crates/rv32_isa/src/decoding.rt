@@ -7,72 +7,84 @@ use crate::immediates::{BranchOffset, JumpOffset, Signed12};
 use crate::instruction::Instr;
 use crate::operands::{FenceBits, Register, ShiftAmount, Upper20};
 
+/// The opcode of a word: its bits 6 to 0.
 fn opcode(word: u32) -> u32
     ensures { result ≡ bits word 6 0 }
 {
     word & 0x7f
 }
 
+/// The field funct3 of a word: its bits 14 to 12.
 fn funct3(word: u32) -> u32
     ensures { result ≡ bits word 14 12 }
 {
     word >> 12 & 7
 }
 
+/// The field funct7 of a word: its bits 31 to 25.
 fn funct7(word: u32) -> u32
     ensures { result ≡ bits word 31 25 }
 {
     word >> 25
 }
 
+/// The register rd of a word: its bits 11 to 7.
 fn rd(word: u32) -> Register
     ensures { result ≡ rd word }
 {
     Register::new((word >> 7 & 31) as u8)
 }
 
+/// The register rs1 of a word: its bits 19 to 15.
 fn rs1(word: u32) -> Register
     ensures { result ≡ rs1 word }
 {
     Register::new((word >> 15 & 31) as u8)
 }
 
+/// The register rs2 of a word: its bits 24 to 20.
 fn rs2(word: u32) -> Register
     ensures { result ≡ rs2 word }
 {
     Register::new((word >> 20 & 31) as u8)
 }
 
+/// The shift amount of a word: its bits 24 to 20.
 fn shift_amount(word: u32) -> ShiftAmount
     ensures { result ≡ bits word 24 20 }
 {
     ShiftAmount::new((word >> 20 & 31) as u8)
 }
 
+/// The immediate of a U-type word: its bits 31 to 12.
 fn upper(word: u32) -> Upper20
     ensures { result ≡ bits word 31 12 }
 {
     Upper20::new(word >> 12)
 }
 
+/// The bits of a fence: its word's bits 31 to 20.
 fn fence_bits(word: u32) -> FenceBits
     ensures { result ≡ bits word 31 20 }
 {
     FenceBits::new(word >> 20)
 }
 
+/// The immediate of an I-type word.
 fn i_immediate(word: u32) -> Signed12
     ensures { result ≡ i_immediate word }
 {
     Signed12::from_bits(word >> 20)
 }
 
+/// The immediate of an S-type word.
 fn s_immediate(word: u32) -> Signed12
     ensures { result ≡ s_immediate word }
 {
     Signed12::from_bits((word >> 25 << 5) | (word >> 7 & 31))
 }
 
+/// The offset of a B-type word.
 fn b_immediate(word: u32) -> BranchOffset
     ensures { result ≡ b_immediate word }
 {
@@ -84,6 +96,7 @@ fn b_immediate(word: u32) -> BranchOffset
     )
 }
 
+/// The offset of a J-type word.
 fn j_immediate(word: u32) -> JumpOffset
     ensures { result ≡ j_immediate word }
 {
@@ -121,6 +134,7 @@ pub fn rows_are_apart()
     ensures { IsApart rows }
 {}
 
+/// The instruction of a word with the opcode of branches, if there is one.
 #[tactic(auto, using(crate::proofs::Fields::branch_rows))]
 fn decode_branch(word: u32) -> Option<Instr>
     requires { bits word 6 0 ≡ 0x63 }
@@ -140,6 +154,7 @@ fn decode_branch(word: u32) -> Option<Instr>
     }
 }
 
+/// The instruction of a word with the opcode of loads, if there is one.
 #[tactic(auto, using(crate::proofs::Fields::load_rows))]
 fn decode_load(word: u32) -> Option<Instr>
     requires { bits word 6 0 ≡ 0x03 }
@@ -158,6 +173,7 @@ fn decode_load(word: u32) -> Option<Instr>
     }
 }
 
+/// The instruction of a word with the opcode of stores, if there is one.
 #[tactic(auto, using(crate::proofs::Fields::store_rows))]
 fn decode_store(word: u32) -> Option<Instr>
     requires { bits word 6 0 ≡ 0x23 }
@@ -174,6 +190,7 @@ fn decode_store(word: u32) -> Option<Instr>
     }
 }
 
+/// The instruction of a word with the opcode of operations with an immediate, if there is one.
 #[tactic(auto, using(crate::proofs::Fields::immediate_rows))]
 fn decode_immediate(word: u32) -> Option<Instr>
     requires { bits word 6 0 ≡ 0x13 }
@@ -195,6 +212,7 @@ fn decode_immediate(word: u32) -> Option<Instr>
     }
 }
 
+/// The right shift by an immediate that a word is, if funct7 names one.
 #[tactic(auto, using(crate::proofs::Fields::shift_right_rows))]
 fn decode_shift_right(word: u32) -> Option<Instr>
     requires opcode { bits word 6 0 ≡ 0x13 }
@@ -211,6 +229,7 @@ fn decode_shift_right(word: u32) -> Option<Instr>
     }
 }
 
+/// The instruction of a word with the opcode of operations on registers, if there is one.
 #[tactic(auto, using(crate::proofs::Fields::register_none_rows))]
 fn decode_register(word: u32) -> Option<Instr>
     requires { bits word 6 0 ≡ 0x33 }
@@ -224,6 +243,7 @@ fn decode_register(word: u32) -> Option<Instr>
     }
 }
 
+/// The operation on registers that a word is, where funct7 is 0.
 #[tactic(auto, using(crate::proofs::Fields::register_base_rows))]
 fn decode_register_base(word: u32) -> Option<Instr>
     requires opcode { bits word 6 0 ≡ 0x33 }
@@ -246,6 +266,7 @@ fn decode_register_base(word: u32) -> Option<Instr>
     }
 }
 
+/// The operation on registers that a word is, where funct7 is 32: `sub` or `sra`.
 #[tactic(auto, using(crate::proofs::Fields::register_other_rows))]
 fn decode_register_other(word: u32) -> Option<Instr>
     requires opcode { bits word 6 0 ≡ 0x33 }
@@ -262,6 +283,7 @@ fn decode_register_other(word: u32) -> Option<Instr>
     }
 }
 
+/// The operation of the extension M that a word is, where funct7 is 1.
 #[tactic(auto, using(crate::proofs::Fields::register_multiply_rows))]
 fn decode_register_multiply(word: u32) -> Option<Instr>
     requires opcode { bits word 6 0 ≡ 0x33 }
@@ -284,6 +306,7 @@ fn decode_register_multiply(word: u32) -> Option<Instr>
     }
 }
 
+/// The instruction of a word with the opcode of the system: `ecall` or `ebreak`.
 #[tactic(auto, using(crate::proofs::Fields::system_rows))]
 fn decode_system(word: u32) -> Option<Instr>
     requires { bits word 6 0 ≡ 0x73 }

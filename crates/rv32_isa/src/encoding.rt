@@ -15,6 +15,7 @@ pub fn encode(instr: Instr) -> u32
     word_of(instr)
 }
 
+/// The R-type word of these registers, over the bits that the instruction fixes.
 fn r_word(value: u32, rd: Register, rs1: Register, rs2: Register) -> u32
     requires { value < 2 ^ 31 }
     ensures word { result ≡ assembled (RType value rd rs1 rs2) }
@@ -23,6 +24,7 @@ fn r_word(value: u32, rd: Register, rs1: Register, rs2: Register) -> u32
     value + rd.number() as u32 * 128 + rs1.number() as u32 * 32768 + rs2.number() as u32 * 1048576
 }
 
+/// The word of a shift by an immediate, over the bits that the instruction fixes.
 fn shift_word(value: u32, rd: Register, rs1: Register, count: ShiftAmount) -> u32
     requires { value < 2 ^ 31 }
     ensures word { result ≡ assembled (RType value rd rs1 count) }
@@ -31,6 +33,7 @@ fn shift_word(value: u32, rd: Register, rs1: Register, count: ShiftAmount) -> u3
     value + rd.number() as u32 * 128 + rs1.number() as u32 * 32768 + count.count() as u32 * 1048576
 }
 
+/// The word of a fence, over the bits that the instruction fixes.
 fn fence_word(value: u32, rd: Register, rs1: Register, bits: FenceBits) -> u32
     requires { value < 28800 }
     ensures word { result ≡ assembled (FenceType value rd rs1 bits) }
@@ -39,6 +42,7 @@ fn fence_word(value: u32, rd: Register, rs1: Register, bits: FenceBits) -> u32
     value + rd.number() as u32 * 128 + rs1.number() as u32 * 32768 + bits.bits() * 1048576
 }
 
+/// The I-type word of these operands, over the bits that the instruction fixes.
 fn i_word(value: u32, rd: Register, rs1: Register, imm: Signed12) -> u32
     requires { value < 28800 }
     ensures word { result ≡ assembled (IType value rd rs1 imm) }
@@ -47,6 +51,7 @@ fn i_word(value: u32, rd: Register, rs1: Register, imm: Signed12) -> u32
     value + rd.number() as u32 * 128 + rs1.number() as u32 * 32768 + imm.bits() * 1048576
 }
 
+/// The S-type word of these operands, over the bits that the instruction fixes.
 fn s_word(value: u32, rs1: Register, rs2: Register, imm: Signed12) -> u32
     requires { value < 28800 }
     ensures word { result ≡ assembled (SType value rs1 rs2 imm) }
@@ -60,6 +65,7 @@ fn s_word(value: u32, rs1: Register, rs2: Register, imm: Signed12) -> u32
         + bits / 32 * 33554432
 }
 
+/// The B-type word of these operands, over the bits that the instruction fixes.
 fn b_word(value: u32, rs1: Register, rs2: Register, offset: BranchOffset) -> u32
     requires { value < 28800 }
     ensures word { result ≡ assembled (BType value rs1 rs2 offset) }
@@ -71,6 +77,7 @@ fn b_word(value: u32, rs1: Register, rs2: Register, offset: BranchOffset) -> u32
     value + low + rs1.number() as u32 * 32768 + rs2.number() as u32 * 1048576 + high
 }
 
+/// The U-type word of these operands, over the bits that the instruction fixes.
 fn u_word(value: u32, rd: Register, imm: Upper20) -> u32
     requires { value < 128 }
     ensures word { result ≡ assembled (UType value rd imm) }
@@ -79,6 +86,7 @@ fn u_word(value: u32, rd: Register, imm: Upper20) -> u32
     value + rd.number() as u32 * 128 + imm.bits() * 4096
 }
 
+/// The J-type word of these operands, over the bits that the instruction fixes.
 fn j_word(value: u32, rd: Register, offset: JumpOffset) -> u32
     requires { value < 128 }
     ensures word { result ≡ assembled (JType value rd offset) }
@@ -90,6 +98,7 @@ fn j_word(value: u32, rd: Register, offset: JumpOffset) -> u32
     value + rd.number() as u32 * 128 + low + high
 }
 
+/// The word of an instruction: its fixed bits, and its operands in their fields.
 fn word_of(instr: Instr) -> u32
     ensures word { result ≡ assembled (layout instr) }
     ensures operands { Fits (layout instr) }

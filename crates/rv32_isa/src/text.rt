@@ -18,6 +18,7 @@ impl fmt::Display for Register {
     }
 }
 
+/// Writes a name and three registers.
 fn write_registers<W: fmt::Write>(
     f: &mut fmt::Formatter<W>,
     name: &str,
@@ -30,6 +31,7 @@ fn write_registers<W: fmt::Write>(
     write!(f, "{name} {a}, {b}, {c}")
 }
 
+/// Writes a name, two registers and an unsigned number.
 fn write_number<W: fmt::Write>(
     f: &mut fmt::Formatter<W>,
     name: &str,
@@ -42,6 +44,7 @@ fn write_number<W: fmt::Write>(
     write!(f, "{name} {a}, {b}, {number}")
 }
 
+/// Writes a name, two registers and a signed number.
 fn write_signed<W: fmt::Write>(
     f: &mut fmt::Formatter<W>,
     name: &str,
@@ -54,6 +57,7 @@ fn write_signed<W: fmt::Write>(
     write!(f, "{name} {a}, {b}, {number}")
 }
 
+/// Writes a name, a register, and an address by its offset and base.
 fn write_memory<W: fmt::Write>(
     f: &mut fmt::Formatter<W>,
     name: &str,
@@ -66,6 +70,7 @@ fn write_memory<W: fmt::Write>(
     write!(f, "{name} {a}, {offset}({base})")
 }
 
+/// Writes a name, a register and the bits of an upper immediate.
 fn write_upper<W: fmt::Write>(
     f: &mut fmt::Formatter<W>,
     name: &str,
@@ -77,6 +82,7 @@ fn write_upper<W: fmt::Write>(
     write!(f, "{name} {a}, {bits}")
 }
 
+/// Writes a name, a register and the offset of a jump.
 fn write_jump<W: fmt::Write>(
     f: &mut fmt::Formatter<W>,
     name: &str,
@@ -221,6 +227,7 @@ impl fmt::Display for Instr {
     }
 }
 
+/// Writes a name and its operands.
 fn write_parts<W: fmt::Write>(
     f: &mut fmt::Formatter<W>,
     name: &str,

@@ -52,6 +52,7 @@ fn whole_statement(level: Level) -> Statement {
 }
 
 impl Reader {
+    /// A reader that has read nothing yet.
     fn new(alloc: Global) -> Self {
         Reader {
             alloc,
@@ -62,6 +63,7 @@ impl Reader {
         }
     }
 
+    /// Begins a level, to which the next statements belong.
     fn open(&mut self, sort: Sort) -> Option<()> {
         let level = Level {
             sort,
@@ -72,16 +74,19 @@ impl Reader {
         self.levels.push(level).ok()
     }
 
+    /// Ends the first statements of the innermost level: those read next are its body.
     fn turn(&mut self) -> Option<()> {
         let level = self.levels.last_mut()?;
         mem::swap(&mut level.first, &mut level.body);
         Some(())
     }
 
+    /// Appends a statement to the innermost level.
     fn add(&mut self, statement: Statement) -> Option<()> {
         self.levels.last_mut()?.body.push(statement).ok()
     }
 
+    /// Appends a function with this level's locals and body.
     fn add_function(&mut self, parameters: u32, level: Level) -> Option<()> {
         let function = Function {
             parameters,
@@ -94,6 +99,7 @@ impl Reader {
         self.functions.push(function).ok()
     }
 
+    /// Ends the innermost level: it is a function, or a statement of the level around it.
     fn close(&mut self) -> Option<()> {
         let level = self.levels.pop()?;
         match level.sort {
@@ -102,6 +108,7 @@ impl Reader {
         }
     }
 
+    /// Keeps the temporaries of a row as arguments of the next call.
     fn pass(&mut self, row: Row) -> Option<()> {
         for number in row.numbers.iter().take(row.count) {
             self.passed.push(Temporary(*number)).ok()?;
@@ -109,6 +116,7 @@ impl Reader {
         Some(())
     }
 
+    /// Appends a call with the arguments that were kept.
     fn call(&mut self, row: Row) -> Option<()> {
         let [function, first, second, third, _] = row.numbers;
         let results = words_of([first, second, third], row.count.saturating_sub(1));
@@ -116,6 +124,7 @@ impl Reader {
         self.add(Statement::Call(results, function as usize, passed, Origin(0)))
     }
 
+    /// Appends what a row has: a global, a local or a statement.
     fn part(&mut self, row: Row) -> Option<()> {
         if let Some(datum) = datum_of(self.alloc, row) {
             return self.globals.push(datum).ok();
@@ -127,6 +136,7 @@ impl Reader {
         self.add(statement)
     }
 
+    /// Reads one row.
     fn read(&mut self, text: &str) -> Option<()> {
         let row = row_of(text)?;
         let [number, _, _, _, _] = row.numbers;
@@ -144,6 +154,7 @@ impl Reader {
         }
     }
 
+    /// Reads the rows of a line.
     fn read_line(&mut self, line: &str) -> Option<()> {
         for text in line.split("; ") {
             self.read(text)?;

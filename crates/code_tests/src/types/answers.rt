@@ -85,6 +85,7 @@ fn outer_name(one: Option<Layer>, other: Option<Layer>) -> &'static str {
     }
 }
 
+/// `yes` for what holds, or else `no`.
 fn yes_or_no(holds: bool) -> &'static str {
     if holds { "yes" } else { "no" }
 }
@@ -138,7 +139,7 @@ pub fn extent_of(tables: &Tables<'static>, of: &CType) -> (u32, u32) {
     }
 }
 
-/// Whether the first cells lie so many bytes from the first, one by one.
+/// Whether the first cells have these offsets, in this order.
 fn are_at(cells: &[Cell], offsets: &str) -> bool {
     let mut are_right = true;
     for (cell, offset) in cells.iter().zip(offsets.split(' ')) {
@@ -147,7 +148,7 @@ fn are_at(cells: &[Cell], offsets: &str) -> bool {
     are_right
 }
 
-/// Whether a layout has so many cells, of which the first holds this, and the first ones lie at these offsets.
+/// Whether a layout has `count` cells, the first of this kind, and the first ones at these offsets.
 fn has_cells(found: &Layout, count: usize, first: &str, offsets: &str) -> bool {
     let held = match found.cells.first() {
         Some(cell) => Some(cell.scalar),

@@ -61,7 +61,7 @@ abbrev pub operation_count : Operation → ℕ
 operation_count (RegionAlloc t h n layout) = 2
 operation_count operation = 1
 
--- what a choice counts for a branch that has so many operations: an exception alone counts with its choice
+-- what a choice counts for a branch with this number of operations: an exception alone counts with its choice
 abbrev pub branch_count : Statements → ℕ → ℕ
 branch_count (MoreStatements (Raise kind) NoStatements) operations = 0
 branch_count ss operations = operations

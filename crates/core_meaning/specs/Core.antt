@@ -38,7 +38,7 @@ pub data Operation : Type 0 where
   Move : (t x : ℕ) → Operation
   Narrow : (t x : ℕ) → Operation
   Apply : (operation : Binary) (t x y : ℕ) → Operation
-  -- `t` gets a pointer to a local of the block so many blocks out, an unnamed value, a global or string; or so many cells on from p; or to element i
+  -- `t` gets a pointer: to a local of the block that is `out` blocks out, an unnamed value, a global or string; `cells` cells on from p; or to element i
   LocalAddress : (t out local : ℕ) → Operation
   OwnAddress : (t object : ℕ) → Operation
   DataAddress : (t object : ℕ) → Operation
@@ -71,7 +71,7 @@ pub data Operation : Type 0 where
   KeyClose : (k : ℕ) → Operation
   KeyFree : (k : ℕ) → Operation
 
--- so many elements of a layout, one after the other
+-- a number of elements of a layout, one after the other
 pub record Local : Type 0 where
   pub layout : Layout
   pub count : ℕ

@@ -3,7 +3,7 @@
 use Rattle.std.specs.Prelude.{◌≡◌, ℕ, ◌+◌, ◌%◌, ◌≤◌, ◌<◌, ◌⊎◌, ◌&&◌, false, nat_eq, List, [], ◌∷◌, Some, slice_get}
 use Rattle.core_meaning.specs.Memory.{Content, Blank, Word, Null, Pointer, Birth, PartShape, Layout, shape_in}
 
--- so many bytes from one place on, and so many from another, don't meet
+-- two ranges of bytes, each given by its first byte and its width, don't overlap
 abbrev pub Apart : ℕ → ℕ → ℕ → ℕ → Type 0
 Apart at width at' width' = (at + width ≤ at') ⊎ (at' + width' ≤ at)
 
@@ -51,9 +51,9 @@ pub record IsZero (l : Layout) : Type 0 where
 abbrev pub one_part : ℕ → Content → Layout
 one_part width first = record { cells = (record { offset = 0; width = width; first = first } ∷ []) ∷ []; bytes = width }
 
--- ---- parts one behind the other
+-- ---- adjacent parts
 
--- Bytes and words that lie one behind the other, the first at an offset; where the last one ends.
+-- Bytes and words that lie one after the other without a gap, the first at an offset; where the last one ends.
 abbrev pub AreJoined : ℕ → List PartShape → Type 0
 AreJoined at [] = Unit {0}
 AreJoined at (s ∷ ss) = (s.offset ≡ at) × ((s.width ≡ 1) ⊎ (s.width ≡ 4)) × AreJoined (at + s.width) ss

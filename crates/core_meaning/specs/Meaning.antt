@@ -1,4 +1,4 @@
--- What Core does on an input, with so many units of fuel: a run as a tree of steps, cut where fuel is due.
+-- What Core does on an input, with an amount of fuel: a run as a tree of steps, cut where fuel is due.
 use Rattle.std.specs.Prelude.{ℕ, zero, suc, ◌+◌, nat_eq, if◌then◌else◌, Option, Some, None, List, [], ◌∷◌, slice_get, length}
 use Rattle.cyc_words.specs.Events.{SourceEnding}
 use Rattle.step_trees.specs.Trees.{Stops, Says, Turns, Calls, Outcome, Bodies, run}

@@ -77,7 +77,7 @@ use Rattle.core_meaning.specs.Core.{
 use Rattle.core_meaning.specs.Words.{truth, two}
 use Rattle.core_meaning.specs.Steps.{Config, with_temp, with_memory, Visible, Step, stuck, word_of, pointer_of, birth_of, needed, checked}
 
--- the part at a distance from a pointer has to lie so many bytes on, and to be so wide
+-- the part at a distance from a pointer has to lie at the distance's bytes, and to have its width
 abbrev pub reached : Memory → Distance → Spot → ℕ → (Spot → Part → Step) → Step
 reached m d s b next =
     needed (part_at m (beyond s d.cells) d.part) (λ p.
@@ -122,15 +122,15 @@ same_place m Blank y next = stuck
 same_place m (Word n) y next = stuck
 same_place m (Birth d) y next = stuck
 
--- so many bytes, and not more than a word says
+-- a number of bytes, and the greatest word if it is more
 abbrev pub saturated : ℕ → ℕ
 saturated n = (if nat_lt n (2 ^ 32) then n else 2 ^ 32 - 1)
 
--- no object that is granted has so many bytes
+-- more bytes than an object that is granted has
 abbrev pub too_far : ℕ
 too_far = 2 ^ 25
 
--- a part lies so many bytes on
+-- whether a part has this offset in bytes
 abbrev pub lies_at : Option Part → ℕ → Bool
 lies_at None b = false
 lies_at (Some p) b = nat_eq p.offset b
@@ -157,7 +157,7 @@ abbrev pub are_laid : Memory → Spot → ℕ → List (List PartShape) → Bool
 are_laid m s b [] = true
 are_laid m s b (x ∷ xs) = are_parts m s b 0 x && are_laid m (beyond s 1) b xs
 
--- and those of so many elements of a layout
+-- and those of a number of elements of a layout
 abbrev pub are_elements : Memory → Spot → ℕ → Layout → ℕ → Bool
 are_elements m s b l zero = true
 are_elements m s b l (suc n) = are_laid m s b l.cells && are_elements m (beyond s (length l.cells)) (b + l.bytes) l n
@@ -169,7 +169,7 @@ is_there m l s b = is_live (m.standing s.region) && are_laid m s b l.cells
 abbrev pub same_object : Spot → Spot → Bool
 same_object s t = same_region s.region t.region && nat_eq s.object t.object
 
--- how many cells on from a spot another one of its object is, if it is among the next so many
+-- how many cells lie between a spot and another one of its object, if that is one of the `count` cells from the first spot on
 abbrev pub cells_on : ℕ → Spot → Spot → Option ℕ
 cells_on count s t = (if same_object t s && (nat_le s.cell t.cell && nat_lt t.cell (s.cell + count)) then Some (t.cell - s.cell) else None)
 
@@ -182,7 +182,7 @@ abbrev pub content_from : Part → Option Part → Option Part
 content_from p None = Some p
 content_from p (Some q) = Some (record p { content = q.content })
 
--- the spot so many cells on from another one
+-- the spot that is a number of cells on from another one
 abbrev pub on_from : Spot → Option ℕ → Spot
 on_from s None = s
 on_from s (Some k) = beyond s k
@@ -208,7 +208,7 @@ abbrev pub begun : Part → Option PartShape → Part
 begun p None = p
 begun p (Some s) = record p { content = s.first }
 
--- the parts of so many elements of a layout from a spot on get what they begin with
+-- the parts of `count` elements of a layout, from a spot on, get what they begin with
 abbrev pub cleared : Layout → ℕ → Spot → Memory → Memory
 cleared l count to m = record m { parts = λ t j. cleared_part (in_element l (cells_on (count * length l.cells) to t)) j (m.parts t j) }
   where

@@ -76,7 +76,7 @@ abbrev pub AreBelow : ℕ → List ℕ → Type 0
 AreBelow most [] = Unit {0}
 AreBelow most (t ∷ ts) = (t < most) × AreBelow most ts
 
--- the block so many blocks out has the local
+-- the block that is `out` blocks out has the local
 abbrev pub IsLocal : List ℕ → ℕ → ℕ → Type 0
 IsLocal [] out local = ⊥
 IsLocal (n ∷ ns) zero local = local < n

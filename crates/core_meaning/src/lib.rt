@@ -2,6 +2,6 @@
 //! operations, with the source's memory, number for number.
 //!
 //! specs/Core has the language, specs/Memory its memory, specs/Operations what each operation does,
-//! and specs/Meaning a run of a program on an input with so many units of fuel; docs/CORE.md is the
+//! and specs/Meaning a run of a program on an input with an amount of fuel; docs/CORE.md is the
 //! page to read beside them. There is no code. Stands on `step_trees` and `cyc_words`.
 #![tactic(auto)]

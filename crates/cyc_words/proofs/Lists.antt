@@ -1,4 +1,4 @@
--- Elements of two lists, one behind the other.
+-- Elements of two lists that are joined.
 use Rattle.std.proofs.Common.{◌≡◌, ℕ, zero, suc, ◌<◌, List, [], ◌∷◌, ◌++◌, length, refl, arith}
 use Rattle.std.specs.Prelude.{slice_get}
 

@@ -11,11 +11,11 @@ pub data Event : Type 0 where
   ByteWritten : (byte : ℕ) → Event
   -- a region is born
   RegionNew : (region : ℕ) → Event
-  -- a block of so many bytes in a region
+  -- a block with a number of bytes in a region
   RegionAlloc : (region bytes : ℕ) → Event
   -- a region ends, with all its blocks
   RegionFree : (region : ℕ) → Event
-  -- a unique block of so many bytes is born
+  -- a unique block with a number of bytes is born
   UniqueAlloc : (block bytes : ℕ) → Event
   -- a unique block ends
   UniqueFree : (block : ℕ) → Event

@@ -15,9 +15,8 @@ ghost use Rattle.source_lowering.specs.Lowered.{
   suffix_values,
 };
 ghost use Rattle.source_lowering.specs.Members.{words_in};
-ghost use Rattle.source_lowering.specs.Lowerable.{Takes, TakesPlace, TakesSuffixes};
+ghost use Rattle.source_lowering.specs.Lowerable.{Takes, TakesIndices, TakesPlace, TakesSuffixes};
 ghost use Rattle.cyc_tree.specs.Room.{room, suffix_room};
-ghost use Rattle.source_lowering.proofs.expressions.Indices.{TakesIndices};
 ghost use Rattle.lower_checks.specs.Reaching.{
   IsLeftAt,
   TakesSuffixed,

@@ -200,6 +200,13 @@ abbrev mutual
   TakesMade w names (p ∷ ps) NoExpressions = ⊥
   TakesMade w names (p ∷ ps) (MoreExpressions first others) = TakesMember p.shape (TakesWhole w names first) (Takes w names first) × TakesMade w names ps others
 
+-- the indices among suffixes are taken, each as a value
+abbrev pub TakesIndices : World → List Named → Suffixes → Type 0
+TakesIndices w names NoSuffixes = Unit {0}
+TakesIndices w names (Index index others) = Takes w names index × TakesIndices w names others
+TakesIndices w names (Dot f others) = TakesIndices w names others
+TakesIndices w names (Arrow f others) = TakesIndices w names others
+
 -- ---- structs and unions that are assigned
 
 -- what is assigned: a struct, a union, a word or a fat pointer

@@ -39,6 +39,7 @@ use Rattle.source_lowering.specs.Lowerable.{
   TakesLinks,
   TakesNew,
   TakesSuffixes,
+  TakesIndices,
   TakesPrefix,
   TakesPointer,
   TakesMember,
@@ -55,7 +56,7 @@ use Rattle.source_lowering.specs.Lowerable.{
   TakesItems,
   TakesClauses,
 }
-use Rattle.source_lowering.proofs.expressions.Indices.{TakesIndices, indices_taken}
+use Rattle.source_lowering.proofs.expressions.Indices.{indices_taken}
 use Rattle.source_meaning.specs.Shapes.{settled_by}
 use Rattle.source_lowering.specs.Programs.{names_behind}
 

@@ -19,7 +19,7 @@ use Rattle.source_lowering.specs.Members.{words_in}
 use Rattle.source_lowering.specs.Lowered.{argument_words, static_shape, new_shape, linked_shape, operator_code, call_parameters, values_by, expression_values}
 use Rattle.source_lowering.specs.Lowered.{suffix_values, all_values, link_values, new_values, whole_values, made_values, expression_code, place_code, put_code}
 use Rattle.source_lowering.specs.Lowered.{element_names, links_code, all_code, any_code, arguments_code, new_code, whole_code, members_code, member_code}
-use Rattle.source_lowering.specs.Lowerable.{AreObjects, TakesPlace, Takes, TakesAll, TakesLinks, TakesNew, TakesWhole, TakesMade}
+use Rattle.source_lowering.specs.Lowerable.{AreObjects, TakesPlace, Takes, TakesAll, TakesLinks, TakesNew, TakesWhole, TakesMade, TakesIndices}
 use Rattle.source_lowering.proofs.Structs.{struct_made as struct_is_made}
 use Rattle.source_lowering.proofs.memory.StructCells.{AllHaveCells}
 use Rattle.source_lowering.proofs.memory.Members.{have_cells}
@@ -33,7 +33,7 @@ use Rattle.source_lowering.proofs.expressions.Forms.{number_agrees, character_ag
 use Rattle.source_lowering.proofs.expressions.Places.{IsPlaced, variable_placed, address_agrees, null_agrees}
 use Rattle.source_lowering.proofs.expressions.ValuePlaces.{target_stored}
 use Rattle.source_lowering.proofs.expressions.Reaching.{placed_reached}
-use Rattle.source_lowering.proofs.expressions.Indices.{TakesIndices, IndicesAs}
+use Rattle.source_lowering.proofs.expressions.Indices.{IndicesAs}
 use Rattle.source_lowering.proofs.expressions.Suffixed.{primary_left, left_shape, suffixed_same}
 use Rattle.source_lowering.proofs.values.Joined.{AllAs, all_none, all_more, all_gives, AnyAs, any_none, any_more, any_gives}
 use Rattle.source_lowering.proofs.expressions.EachCall.{Passed, AllValues, call_values, call_agrees}

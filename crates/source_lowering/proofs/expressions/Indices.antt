@@ -5,16 +5,9 @@ use Rattle.source_meaning.specs.Shapes.{Shape, pointee}
 use Rattle.source_meaning.specs.Steps.{World, Scope}
 use Rattle.source_meaning.specs.Expressions.{sense}
 use Rattle.source_lowering.specs.Lowered.{Named, static_shape, member_shape, suffix_values, expression_code}
-use Rattle.source_lowering.specs.Lowerable.{Takes, TakesMembers, TakesSuffixes}
+use Rattle.source_lowering.specs.Lowerable.{TakesMembers, TakesSuffixes, TakesIndices}
 use Rattle.source_lowering.specs.Simulation.{Point}
 use Rattle.source_lowering.proofs.expressions.Variables.{Agrees}
-
--- all of them are taken
-abbrev pub TakesIndices : World → List Named → Suffixes → Type 0
-TakesIndices w names NoSuffixes = Unit {0}
-TakesIndices w names (Index index others) = Takes w names index × TakesIndices w names others
-TakesIndices w names (Dot f others) = TakesIndices w names others
-TakesIndices w names (Arrow f others) = TakesIndices w names others
 
 further_taken : (w : World) (names : List Named) (suffixes : Suffixes) (s : Shape) → TakesMembers w names suffixes s → TakesIndices w names suffixes
 further_taken w names NoSuffixes s h = tt

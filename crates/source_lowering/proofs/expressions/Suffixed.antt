@@ -4,11 +4,11 @@ use Rattle.cyc_tree.specs.Tree.{Expression, Suffixes}
 use Rattle.source_meaning.specs.Steps.{World, Scope}
 use Rattle.source_meaning.specs.Expressions.{sense}
 use Rattle.source_lowering.specs.Lowered.{Named, Left, left_of, static_shape, suffix_values, expression_values, suffixed_code, expression_code, place_code}
-use Rattle.source_lowering.specs.Lowerable.{TakesPlace, Takes, TakesSuffixes}
+use Rattle.source_lowering.specs.Lowerable.{TakesPlace, Takes, TakesSuffixes, TakesIndices}
 use Rattle.source_lowering.proofs.expressions.Variables.{Agrees}
 use Rattle.source_lowering.proofs.expressions.Places.{IsPlaced}
 use Rattle.source_lowering.proofs.expressions.Numbered.{AreNumbered, numbered_first, numbered_after}
-use Rattle.source_lowering.proofs.expressions.Indices.{TakesIndices, indices_taken, IndicesAs}
+use Rattle.source_lowering.proofs.expressions.Indices.{indices_taken, IndicesAs}
 use Rattle.source_lowering.proofs.expressions.Suffixing.{MemberAs, suffixes_shape, suffixes_same}
 use Rattle.source_lowering.proofs.expressions.Known.{Known, place_in, IsKnown}
 

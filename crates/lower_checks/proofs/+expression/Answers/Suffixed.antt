@@ -4,8 +4,8 @@ use Rattle.cyc_tree.proofs.Forms.{suffixed_tree}
 use Rattle.cyc_tree.specs.View.{expression_tree, suffix_tree, suffixes_of}
 use Rattle.cyc_tree.specs.Tree.{Suffixes}
 use Rattle.cyc_tree.specs.declared.expression.Expression.TheFolds.{the_lemmas}
-use Rattle.source_lowering.specs.Lowerable.{Takes, TakesMembers, TakesPlace, TakesSuffixes}
-use Rattle.source_lowering.proofs.expressions.Indices.{TakesIndices, indices_taken}
+use Rattle.source_lowering.specs.Lowerable.{Takes, TakesIndices, TakesMembers, TakesPlace, TakesSuffixes}
+use Rattle.source_lowering.proofs.expressions.Indices.{indices_taken}
 use Rattle.source_lowering.specs.Lowered.{expression_code, place_code, static_shape, suffix_values}
 use Rattle.cyc_tree.specs.Room.{room, suffix_room}
 use Rattle.lower_checks.specs.Reaching.{IsLeftAt, Place, TakesSuffixed, further_place, indices_code, indices_in, place_at_once, reached_place, suffixed_left}

@@ -70,7 +70,7 @@ impl Drop for Constant {
 pub enum Initial {
     /// The beginning of its type.
     None,
-    /// An array of so many elements.
+    /// An array with this number of elements.
     Array(u32),
     Constant(Constant),
 }

@@ -10,7 +10,7 @@ use crate::name::{Name, RegionName, TypeName};
 pub enum Initializer {
     /// The beginning of its type.
     None,
-    /// An array of so many elements.
+    /// An array with this number of elements.
     Array(u32),
     /// A value.
     Value(Expression),

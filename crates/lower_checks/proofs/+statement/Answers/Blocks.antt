@@ -150,11 +150,11 @@ statement::lower_items-lower_declared-requires t c =
     let result = shape_tree c.args.shape.now in
     let n = c.each.item-index in
     let names = names_of c.each.locals in
-    let d = declaration_tree c.deref-in-Declare.result.now in
+    let d = declaration_tree c.deref.result.now in
     let others = items_of (map item_tree (drop (n + 1) c.args.items.now)) in
     let here = left_items c.args.items.now n c.item-item.result (OneItem.Declare d) c.each-test.true c.item-item.is
     (ap item_tree c.in-Declare.is ∙ declare_tree c.in-Declare.declaration
-    ∙ ap (λ e. OneItem.Declare (declaration_tree e)) (sym c.deref-in-Declare.ensures)) in
+    ∙ ap (λ e. OneItem.Declare (declaration_tree e)) (sym c.deref.ensures)) in
     let room : HasRoom c.each.regions.all (declaration_room d + item_room others) =
     subst (λ (x : BlockItems). HasRoom c.each.regions.all (item_room x)) here c.each.invariant.room in
     record {
@@ -224,10 +224,10 @@ statement::lower_items-each-preserved t c =
     let values = values_of a ++ item_values w (names_of c.args.locals.now) index_0 all in
     elim c.match-item.branch [
       | statement::lower_items-in-Declare v ↦
-          let d = declaration_tree v.deref-in-Declare.result.now in
+          let d = declaration_tree v.deref.result.now in
           let here : left ≡ Declare d others = left_items items n item (OneItem.Declare d) c.each-test.true c.item-item.is
           (ap item_tree v.in-Declare.is ∙ declare_tree v.in-Declare.declaration
-          ∙ ap (λ e. OneItem.Declare (declaration_tree e)) (sym v.deref-in-Declare.ensures)) in
+          ∙ ap (λ e. OneItem.Declare (declaration_tree e)) (sym v.deref.ensures)) in
           let room : HasRoom c.each.regions.all (declaration_room d + item_room others) =
           subst (λ (x : BlockItems). HasRoom c.each.regions.all (item_room x)) here c.each.invariant.room in
           let roomy : HasRoom v.with-regions.result.all (item_room others) = omega (arith, room, declaration_least d, v.with-regions.ensures.all) in
@@ -249,7 +249,7 @@ statement::lower_items-each-preserved t c =
                 let regions_are : inside ≡ regions_with d h =
                 ap (λ r. regions_tree r c.match-item.all.items) v.regions-is ∙ ap (λ os. regions_tree v.with-regions.result os.items) v.all-is
                 ∙ v.with-regions.ensures.regions (subst IsSound v.body-is sound)
-                ∙ ap (λ e. regions_with (declaration_tree e) h) (v.deref-in-Declare-2.ensures ∙ sym v.deref-in-Declare.ensures) in
+                ∙ ap (λ e. regions_with (declaration_tree e) h) (v.deref-in-Declare.ensures ∙ sym v.deref.ensures) in
                 record {
                   within = declared_within d h inside first regions_are invariant.within;
                   code = record {

@@ -18,7 +18,7 @@ use Rattle.lower_checks.proofs.simple.lower_simple.Goals as goal
 pub lower_exchange-requires : goal.lower_exchange-requires
 lower_exchange-requires c =
     let is = ap source_tree c.in-Exchange.is ∙ exchange_tree c.in-Exchange.left c.in-Exchange.right
-    ∙ sym (ap₂ (λ l r. Statement.Exchange (expression_tree l) (expression_tree r)) c.deref-in-Exchange.ensures c.deref-in-Exchange-2.ensures) in
+    ∙ sym (ap₂ (λ l r. Statement.Exchange (expression_tree l) (expression_tree r)) c.deref.ensures c.deref-in-Exchange.ensures) in
     record {
       room = let asked = subst (λ s. HasRoom c.args.around.all (statement_room s)) is c.requires.room in
           omega (arith, c.value-to.ensures, asked);
@@ -35,8 +35,8 @@ returns-in-Exchange c sound =
     let a = c.args.body.now in
     let own = next_of a in
     let z = c.lower_exchange.new.body in
-    let left = expression_tree c.deref-in-Exchange.result.now in
-    let right = expression_tree c.deref-in-Exchange-2.result.now in
+    let left = expression_tree c.deref.result.now in
+    let right = expression_tree c.deref-in-Exchange.result.now in
     let x = side_of names left in
     let y = side_of names right in
     let to_is : c.value-to.result.0 ≡ h.all = c.value-to.ensures in
@@ -48,7 +48,7 @@ returns-in-Exchange c sound =
     (expression_values w names left ++ expression_values w names right)) to_is (c.lower_exchange.ensures.writes sound) in
     subst (λ s. IsWritten a z (statement_code w result names h own s) (statement_values w names s))
     (sym (ap source_tree c.in-Exchange.is ∙ exchange_tree c.in-Exchange.left c.in-Exchange.right
-    ∙ sym (ap₂ (λ l r. Statement.Exchange (expression_tree l) (expression_tree r)) c.deref-in-Exchange.ensures c.deref-in-Exchange-2.ensures))) done
+    ∙ sym (ap₂ (λ l r. Statement.Exchange (expression_tree l) (expression_tree r)) c.deref.ensures c.deref-in-Exchange.ensures))) done
 
 pub lower_free-requires : goal.lower_free-requires
 lower_free-requires c = omega (arith, c.value-to.ensures, c.requires.room, statement_least (source_tree c.args.statement.now))

@@ -167,7 +167,7 @@ items_fault-each-preserved t c =
     → faults_of c.match-item.fault ≡ earliest (item_faults g reached (item_tree item)) =
     elim c.match-item.branch [
       | items_fault-in-Declare+in_ok-fault-in-Declare w ↦ λ g h. ap (λ o. faults_of o) w.fault-is ∙ w.in_ok-fault-in-Declare.ensures.fault g h
-          ∙ ap (λ d. earliest (item_faults g reached (OneItem.Declare (declaration_tree d)))) w.deref-in-Declare.ensures
+          ∙ ap (λ d. earliest (item_faults g reached (OneItem.Declare (declaration_tree d)))) w.deref.ensures
           ∙ ap (λ i. earliest (item_faults g reached i)) (sym (declare_tree w.in-Declare.declaration) ∙ ap item_tree (sym w.in-Declare.is))
       | items_fault-in-Execute+in_ok-fault-in-Execute w ↦ λ g h. ap (λ o. faults_of o) w.fault-is
           ∙ w.in_ok-fault-in-Execute.ensures.fault g h.known h.suits h.block.around
@@ -182,7 +182,7 @@ items_fault-each-preserved t c =
           (subst (λ i. StandsIn context w.declare.new.names outer w.declare.new.scope (scope_behind g i))
           (sym (declare_tree w.in-Declare.declaration) ∙ ap item_tree (sym w.in-Declare.is))
           (subst (λ d. StandsIn context w.declare.new.names outer w.declare.new.scope (scope_behind g (OneItem.Declare (declaration_tree d))))
-          w.deref-in-Declare.ensures (w.in_ok-fault-in-Declare.ensures.known g h))))
+          w.deref.ensures (w.in_ok-fault-in-Declare.ensures.known g h))))
       | items_fault-in-Execute+in_ok-fault-in-Execute w ↦ λ g h. subst (λ s. StandsIn context later outer s (scope_behind g (item_tree item)))
           (sym (w.scope-is ∙ w.in_ok-fault-in-Execute.ensures.scope))
           (subst (λ ns. StandsIn context ns outer c.each.scope (scope_behind g (item_tree item)))

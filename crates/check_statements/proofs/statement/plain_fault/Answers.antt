@@ -19,10 +19,10 @@ returns-in-Exchange c g ns reached h suits plain =
     (sym (ap statement_tree x.is ∙ exchange_tree x.left x.right))
     (subst (λ l. IfOk c.exchange_fault.result (λ f. faults_of f
     ≡ earliest (statement_faults g reached (Statement.Exchange (expression_tree l) (expression_tree x.right.value)))))
-    c.deref-in-Exchange.ensures
+    c.deref.ensures
     (subst (λ r. IfOk c.exchange_fault.result (λ f. faults_of f
-    ≡ earliest (statement_faults g reached (Statement.Exchange (expression_tree c.deref-in-Exchange.result.now) (expression_tree r)))))
-    c.deref-in-Exchange-2.ensures (c.exchange_fault.ensures g h)))
+    ≡ earliest (statement_faults g reached (Statement.Exchange (expression_tree c.deref.result.now) (expression_tree r)))))
+    c.deref-in-Exchange.ensures (c.exchange_fault.ensures g h)))
 
 pub returns-in-Break : goal.returns-in-Break
 returns-in-Break c g ns reached h suits plain =

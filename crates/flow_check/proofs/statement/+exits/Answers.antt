@@ -197,9 +197,9 @@ items_exits-each-preserved t c =
           ap (λ s. step_before s (exits_of_items (scope_behind g (item_tree item)) (items_of rest))) w.step-is
           ∙ ap (λ i. declared_before w.in_ok-declared-in-Declare.field-0 (exits_of_items (scope_behind g i) (items_of rest))) (sym is)
           ∙ subst (λ e. declared_before w.in_ok-declared-in-Declare.field-0 (exits_of_items (scope_behind g (OneItem.Declare (declaration_tree e))) (items_of rest))
-          ≡ exits_of_items g (items_of (OneItem.Declare (declaration_tree e) ∷ rest))) w.deref-in-Declare.ensures
+          ≡ exits_of_items g (items_of (OneItem.Declare (declaration_tree e) ∷ rest))) w.deref.ensures
           (w.in_ok-declared-in-Declare.ensures.before g
-          (exits_of_items (scope_behind g (OneItem.Declare (declaration_tree w.deref-in-Declare.result.now))) (items_of rest)) h)
+          (exits_of_items (scope_behind g (OneItem.Declare (declaration_tree w.deref.result.now))) (items_of rest)) h)
           ∙ ap (λ i. exits_of_items g (items_of (i ∷ rest))) is
       | items_exits-in-Execute+in_ok-exits-in-Execute w ↦ λ g h rest.
           let e = statement_tree w.in-Execute.statement in
@@ -219,7 +219,7 @@ items_exits-each-preserved t c =
           (subst (λ i. Stands context w.declared.new.names outer w.declared.new.scope (scope_behind g i))
           (sym (declare_tree w.in-Declare.declaration) ∙ ap item_tree (sym w.in-Declare.is))
           (subst (λ e. Stands context w.declared.new.names outer w.declared.new.scope (scope_behind g (OneItem.Declare (declaration_tree e))))
-          w.deref-in-Declare.ensures (w.in_ok-declared-in-Declare.ensures.known g h))))
+          w.deref.ensures (w.in_ok-declared-in-Declare.ensures.known g h))))
       | items_exits-in-Execute+in_ok-exits-in-Execute w ↦ λ g h. subst (λ s. Stands context later outer s (scope_behind g (item_tree item)))
           (sym (w.scope-is ∙ w.in_ok-exits-in-Execute.ensures.scope))
           (subst (λ ns. Stands context ns outer c.each.scope (scope_behind g (item_tree item)))

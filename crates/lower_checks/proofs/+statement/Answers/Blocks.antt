@@ -293,7 +293,7 @@ statement::lower_items-each-preserved t c =
                 let these = statement_values w names s in
                 let here_code = statement_code w result names h own s in
                 let stated = subst (λ os. IsWritten b v.lower_statement.new.body (statement_code w result names (regions_tree c.each.regions os) own s) these)
-                v.deref.ensures.value one in
+                v.deref-in-Execute.ensures.value one in
                 let done = subst (λ q. IsWritten b q here_code these) (sym v.body-is) stated in
                 let regions_are : inside ≡ h =
                 ap (λ r. regions_tree r c.match-item.all.items) v.regions-is ∙ ap (λ os. regions_tree c.each.regions os.items) v.all-is in

@@ -70,7 +70,7 @@ pub fn end_lines(lines: &mut Vec<Line>, body: &[Statement])
     }
 }
 
-/// Keeps the lines behind the first so many, if they are reached.
+/// Keeps the lines behind the first `kept`, if they are reached.
 pub fn keep_reached(lines: &mut Vec<Line>, kept: usize, reached: bool)
     ensures { lines.new.items ≡ (if reached then lines.old.items else take kept lines.old.items) }
 {

@@ -120,7 +120,7 @@ pub fn put_copied(lines: &mut Vec<Line>, to: Register, from: Register) -> Result
     }
 }
 
-/// Appends what puts the address so many bytes from the stack pointer on into a register.
+/// Appends what puts into a register the address this number of bytes above the stack pointer.
 pub fn put_address(lines: &mut Vec<Line>, to: Register, distance: u64) -> Result<(), AllocError>
     ensures { OnOk result (lines.new.items ≡ lines.old.items ++ address_code to distance) }
 {
@@ -133,7 +133,7 @@ pub fn put_address(lines: &mut Vec<Line>, to: Register, distance: u64) -> Result
     }
 }
 
-/// Appends what puts into a register the address so many bytes further than that in another one.
+/// Appends what puts into a register the address this number of bytes above that in another one.
 pub fn put_further(
     lines: &mut Vec<Line>,
     to: Register,
@@ -163,7 +163,7 @@ fn put_far(
     put_three(lines, high, Instr::Add(ADDRESS, ADDRESS, from), next)
 }
 
-/// Where a slot of a frame begins. Fails where that is over the greatest u64: no memory has so many slots.
+/// Where a slot of a frame begins. Fails where that is over the greatest u64: no memory has that many slots.
 pub fn offset_of(slot: u64) -> Result<u64, AllocError>
     ensures { IfOk result (λ n. n ≡ 4 * slot) }
 {
@@ -209,7 +209,7 @@ fn read(to: Register, width: Width, from: Register, distance: u64) -> Instr
     }
 }
 
-/// Appends what loads a byte or a word, so many bytes from an address in a register on, into another one.
+/// Appends what loads a byte or a word, this number of bytes above an address in a register, into another one.
 pub fn put_read(
     lines: &mut Vec<Line>,
     to: Register,
@@ -236,7 +236,7 @@ fn write(value: Register, width: Width, from: Register, distance: u64) -> Instr
     }
 }
 
-/// Appends what stores a byte or a word of a register, so many bytes from an address in another one on.
+/// Appends what stores a byte or a word of a register, this number of bytes above an address in another one.
 pub fn put_write(
     lines: &mut Vec<Line>,
     value: Register,

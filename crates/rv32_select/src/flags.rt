@@ -1,4 +1,4 @@
-// Flags of temporaries, one for each, and what is behind the first so many of a list.
+// Flags of temporaries, one for each, and what is behind the first items of a list.
 
 ghost use Rattle.std.specs.Prelude.{◌≡◌, ◌||◌, drop, IfOk, OnOk};
 ghost use Rattle.core_lines.specs.Homes.{flag_at};
@@ -64,7 +64,7 @@ fn is_either_set(first: &[bool], second: &[bool], number: usize) -> bool
     flag_at(first, number) || flag_at(second, number)
 }
 
-/// What is behind the first so many of a list.
+/// What is behind the first `count` items of a list.
 #[tactic(auto, using(std::proofs::lemmas::List::drop_min))]
 pub fn behind<T>(items: &[T], count: usize) -> &[T]
     ensures { result.now ≡ drop count items.now }

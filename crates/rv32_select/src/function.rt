@@ -34,13 +34,13 @@ use rv32_isa::{BranchOffset, Instr, Register, Signed12};
 use rv32_machine::{EXIT, STACK_REFUSED};
 use std::alloc::{AllocError, Global};
 
-/// No stack has so many bytes.
+/// A number of bytes that no stack has.
 const TOO_MANY: u64 = 0x0200_0000;
 
 /// The address at which the stack begins.
 const STACK_BASE: u64 = 0x0040_0000;
 
-/// Frames below so many bytes are taken and given back by one instruction each.
+/// Frames below this number of bytes are taken and given back by one instruction each.
 const SMALL: u64 = 2048;
 
 /// The bytes of a frame in which blocks reach so high: rounded up to 16, and no more than no stack has.
@@ -99,7 +99,7 @@ fn put_refusal(lines: &mut Vec<Line>) -> Result<(), AllocError>
     put_environment(lines, STACK_REFUSED)
 }
 
-/// Appends the test that the stack has room for so many bytes, which is refused where it has not.
+/// Appends the test that the stack has room for this number of bytes, which is refused where it has not.
 fn put_stack_test(lines: &mut Vec<Line>, bytes: u64) -> Result<(), AllocError>
     ensures { OnOk result (lines.new.items ≡ lines.old.items ++ test_code bytes) }
 {

@@ -99,7 +99,7 @@ fn different(to: Register, left: Register, number: u64) -> Option<Instructions>
     }
 }
 
-/// A shift of a register by so many bits, if it has so many.
+/// A shift of a register by this number of bits, if that is under 32.
 fn shift(operation: Binary, to: Register, left: Register, number: u64) -> Option<Instructions>
     requires { is_shift operation ≡ true }
     ensures { option_map instruction_lines result ≡ immediate_code (binary_tree operation) to left number }

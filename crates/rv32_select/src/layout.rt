@@ -14,7 +14,7 @@ use cyc_core::{Datum, Function, Layout, Local, Statement};
 use rv32_isa::Register;
 use std::alloc::{AllocError, Global};
 
-/// The bytes of so many elements of a layout.
+/// The bytes of this number of elements of a layout.
 fn whole_bytes(layout: &Layout, count: u32) -> u64
     ensures { result ≡ count * layout.now.bytes }
 {
@@ -44,7 +44,7 @@ fn datum_bytes(global: &Datum) -> u64
     }
 }
 
-/// The sum of two numbers of bytes, slots or labels. Fails where that is over the greatest u64: no host's memory has so many.
+/// The sum of two numbers of bytes, slots or labels. Fails where that is over the greatest u64: no host's memory has that many.
 pub fn sum(first: u64, second: u64) -> Result<u64, AllocError>
     ensures { IfOk result (λ n. n ≡ first + second) }
 {
@@ -84,7 +84,7 @@ pub fn end_from(low: u64, locals: &[Local], homes: &[Register]) -> Result<u64, A
     Ok(at)
 }
 
-/// Appends where what has so many bytes begins that lies behind an offset. Answers where it ends.
+/// Appends where an object of this number of bytes begins that lies behind an offset. Answers where it ends.
 fn lay(offsets: &mut Vec<u64>, at: u64, bytes: u64) -> Result<u64, AllocError>
     ensures begin { OnOk result (offsets.new.items ≡ offsets.old.items ++ rounded at ∷ []) }
     ensures end { IfOk result (λ n. n ≡ rounded at + bytes) }
@@ -134,8 +134,8 @@ fn greater(first: u64, second: u64) -> u64
     if first <= second { second } else { first }
 }
 
-/// How high the locals of all blocks of a statement reach that begins at an offset, of a function whose locals have these homes: so many of them are
-/// named before it, and then before what comes behind it.
+/// How high the locals of all blocks of a statement reach that begins at an offset, of a function whose locals have these homes. `named` says how
+/// many of them are named before it, and then before what comes behind it.
 #[cycle(highest)]
 fn highest(
     low: u64,

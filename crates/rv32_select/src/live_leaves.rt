@@ -31,7 +31,7 @@ pub fn live_operation(
     Ok(())
 }
 
-/// Goes back over a request for so many elements of a region.
+/// Goes back over a request for elements of a region, as many as a temporary says.
 pub fn live_request(
     saves: &mut Vec<bool>,
     held: &Known,

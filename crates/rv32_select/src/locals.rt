@@ -81,7 +81,7 @@ pub fn put_put(
     }
 }
 
-/// Appends what gives a temporary the address so many bytes from the stack pointer on.
+/// Appends what gives a temporary the address this number of bytes above the stack pointer.
 pub fn put_own_address(
     lines: &mut Vec<Line>,
     place: &Place,

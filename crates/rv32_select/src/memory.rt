@@ -19,7 +19,7 @@ use cyc_core::{Binary, Distance, Temporary};
 use rv32_isa::{Instr, Register, ShiftAmount};
 use std::alloc::AllocError;
 
-/// Appends what gives a temporary the address so many bytes behind that in another one.
+/// Appends what gives a temporary the address this number of bytes above that in another one.
 pub fn put_offset(
     lines: &mut Vec<Line>,
     place: &Place,
@@ -80,7 +80,7 @@ fn put_times(lines: &mut Vec<Line>, left: Register, bytes: u32) -> Result<(), Al
     }
 }
 
-/// Appends what puts the address of an element of so many bytes, which are not one, into a register.
+/// Appends what puts the address of an element of this number of bytes, which is not 1, into a register.
 fn put_long_element(
     lines: &mut Vec<Line>,
     place: &Place,
@@ -98,7 +98,7 @@ fn put_long_element(
     put(lines, Instr::Add(to, FIRST, from))
 }
 
-/// Appends what puts the address of an element of so many bytes into a register.
+/// Appends what puts the address of an element of this number of bytes into a register.
 fn put_element_address(
     lines: &mut Vec<Line>,
     place: &Place,
@@ -116,7 +116,7 @@ fn put_element_address(
     }
 }
 
-/// Appends what gives a temporary the address of an element of so many bytes.
+/// Appends what gives a temporary the address of an element of this number of bytes.
 pub fn put_element(
     lines: &mut Vec<Line>,
     place: &Place,

@@ -97,7 +97,7 @@ impl Place {
         }
     }
 
-    /// Goes on to the start of a function with so many slots, whose locals' homes are known here.
+    /// Goes on to the start of a function with this number of slots, whose locals' homes are known here.
     fn settle(&mut self, function: &Function, slots: u64, exit: usize) -> Result<(), AllocError>
         requires slots { slots ≡ slots_of (function_tree function.now) }
         requires homes { self.old.homes.items ≡ homes_in (function_tree function.now) }
@@ -166,7 +166,7 @@ impl Place {
         self.held = point.held;
     }
 
-    /// Goes back to where so many locals were named. Nothing is known of temporaries there.
+    /// Goes back to where this number of locals was named. Nothing is known of temporaries there.
     pub fn go_back(&mut self, named: usize)
         ensures place { surroundings self.new ≡ holding [] (naming (drop named self.old.homes.items) (surroundings self.old)) }
         ensures homes { self.new.homes.items ≡ self.old.homes.items }
@@ -265,7 +265,7 @@ impl Place {
         nth(&self.own, object)
     }
 
-    /// The address of a global. Fails where that is over the greatest u64: no memory has so many globals.
+    /// The address of a global. Fails where that is over the greatest u64: no memory has that many globals.
     pub fn data_address(&self, object: usize) -> Result<u64, AllocError>
         ensures { IfOk result (λ n. n ≡ data_base + nth (surroundings self.now).statics object) }
     {

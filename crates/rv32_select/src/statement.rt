@@ -39,7 +39,7 @@ pub struct Ways {
     pub again: usize,
 }
 
-/// The label after one. Fails where labels run out: no memory has so many lines.
+/// The label after one. Fails where labels run out: no memory has that many lines.
 pub fn following(label: usize) -> Result<usize, AllocError>
     ensures { IfOk result (λ n. n ≡ label + 1) }
 {

@@ -45,7 +45,7 @@ fn are_words(layout: &Layout) -> bool
     true
 }
 
-/// Appends what puts the end of so many bytes, which begin where the first operand says, into the register that ends are compared with.
+/// Appends what puts the end of this number of bytes, which begin where the first operand says, into the register that ends are compared with.
 fn put_end(lines: &mut Vec<Line>, bytes: u32) -> Result<(), AllocError>
     ensures { OnOk result (lines.new.items ≡ lines.old.items ++ further_code 7 5 bytes) }
 {
@@ -115,14 +115,14 @@ pub fn put_copy(
     put_copy_loop(lines, are_words(layout))
 }
 
-/// The bytes of so many elements of a layout, as a word.
+/// The bytes of this number of elements of a layout, as a word.
 fn bytes_in(layout: &Layout, count: u32) -> u32
     ensures { result ≡ bytes_in (layout_tree layout.now) count }
 {
     count.wrapping_mul(layout.bytes)
 }
 
-/// Appends what gives so many elements of a layout, from where a temporary points on, what they begin as: nothing where they have no bytes.
+/// Appends what gives this number of elements of a layout, from where a temporary points on, what they begin as: nothing where they have no bytes.
 pub fn put_clear(
     lines: &mut Vec<Line>,
     place: &Place,
@@ -143,7 +143,7 @@ pub fn put_clear(
 }
 
 /// Appends what puts the bytes of as many objects as the first operand says into the register of the second argument: all ones where a word can't say
-/// so many.
+/// that number.
 fn put_bytes(lines: &mut Vec<Line>, bytes: u32) -> Result<(), AllocError>
     ensures { OnOk result (lines.new.items ≡ lines.old.items ++ bytes_code bytes) }
 {

@@ -46,7 +46,7 @@ use crate::words::lower_stores;
 use cyc_core::{Binary, Operation, Statement, Temporary, Variable, Width};
 use cyc_tree::{Expression, Name};
 
-/// Appends what asks for a block for so many objects of a shape as the next temporary says, in the region of the handle in a temporary,
+/// Appends what asks for a block for objects of a shape, whose number the next temporary holds, in the region of the handle in a temporary,
 /// which gets a pointer to the first one.
 fn lower_request(program: &Table<'_>, shape: &Shape<'_>, body: &mut Body<'_>, to: Temporary)
     requires room { HasRoom to.0 1 }
@@ -249,7 +249,7 @@ fn lower_indexed<'p>(
     lower_within(scope.program, body, inside, to);
 }
 
-/// Appends what makes an array of so many elements as the next temporary says, in the region of the handle in a temporary, which gets a
+/// Appends what makes an array of elements, whose number the next temporary holds, in the region of the handle in a temporary, which gets a
 /// pointer to the first one; gives the shape of the fat pointer to them. The index is among the names of the scope.
 #[cycle(expression)]
 fn lower_elements<'p>(

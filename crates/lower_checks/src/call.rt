@@ -69,7 +69,7 @@ fn passed_from(alloc: Global, count: u32, first: Temporary) -> Result<Vec<Tempor
     Ok(passed)
 }
 
-/// The call of a function, to which so many words are passed, from this temporary on.
+/// The call of a function, to which this number of words is passed, from this temporary on.
 fn passing(
     alloc: Global,
     callee: Callee<'_>,
@@ -86,7 +86,7 @@ fn passing(
     Ok(Statement::Call(result, callee.number, passed, at))
 }
 
-/// Appends the call of a function that is found, to which so many words are passed, from this temporary on.
+/// Appends the call of a function that is found, to which this number of words is passed, from this temporary on.
 fn lower_callee(body: &mut Body<'_>, callee: Callee<'_>, words: u32, to: Temporary, at: Origin)
     requires room { HasRoom to.0 (words + 2) }
     ensures { Emits body.old body.new (function_call (Some (routine_of (function_tree callee.entry.function.now))) callee.entry.number words to.0) }
@@ -97,7 +97,7 @@ fn lower_callee(body: &mut Body<'_>, callee: Callee<'_>, words: u32, to: Tempora
     }
 }
 
-/// Appends the call of a function, to which so many words are passed, from this temporary on.
+/// Appends the call of a function, to which this number of words is passed, from this temporary on.
 pub fn lower_call(
     program: &Table<'_>,
     body: &mut Body<'_>,

@@ -52,7 +52,7 @@ fn initial_word(initial: &Initial) -> u32
     }
 }
 
-/// A string, if it has so many bytes with its final 0.
+/// A string, if it has this number of bytes with its final 0.
 fn text_of_length(found: Option<Text>, length: usize) -> Option<Text>
     ensures pointer { text_content (option_map text_value result) 0 ≡ text_content (option_map (own_string length) (option_map text_value found)) 0 }
     ensures bounds { (w : World) (to : SourceShape) →

@@ -45,7 +45,7 @@ fn lower_value_exchange(
     lower_side_written(right, shape, body, next, first);
 }
 
-/// Appends what reads so many words of the union to which a pointer leads into a temporary and those behind it.
+/// Appends what reads this number of words of the union to which a pointer leads into a temporary and those behind it.
 fn lower_words_read(body: &mut Body<'_>, words: u32, to: Temporary, pointer: Temporary)
     requires room { HasRoom to.0 3 }
     requires few { words ≤ 4 }
@@ -57,7 +57,7 @@ fn lower_words_read(body: &mut Body<'_>, words: u32, to: Temporary, pointer: Tem
     }
 }
 
-/// Appends what writes so many words of the union to which a pointer leads, from a temporary and those behind it.
+/// Appends what writes this number of words of the union to which a pointer leads, from a temporary and those behind it.
 fn lower_words_written(body: &mut Body<'_>, words: u32, pointer: Temporary, from: Temporary)
     requires room { HasRoom from.0 3 }
     requires few { words ≤ 4 }
@@ -69,7 +69,7 @@ fn lower_words_written(body: &mut Body<'_>, words: u32, pointer: Temporary, from
     }
 }
 
-/// Appends what exchanges two unions of so many words to which a temporary and the next one lead, by way of those behind.
+/// Appends what exchanges two unions with this number of words to which a temporary and the next one lead, by way of those behind.
 fn lower_union_exchange(words: u32, body: &mut Body<'_>, left: Temporary)
     requires room { HasRoom left.0 9 }
     requires few { words ≤ 4 }

@@ -167,7 +167,7 @@ pub fn lower_fat(body: &mut Body<'_>, operator: Operator, pointer: Temporary)
     }
 }
 
-/// Appends what makes a fat pointer of a thin one of a bound that may be NULL: it has so many elements, and NULL none.
+/// Appends what makes a fat pointer of a thin one of a bound that may be NULL: it has that number of elements, and NULL none.
 fn lower_counted(body: &mut Body<'_>, pointer: Temporary, count: u32)
     requires room { HasRoom pointer.0 2 }
     ensures { Emits body.old body.new
@@ -200,7 +200,7 @@ pub fn lower_to_fat(body: &mut Body<'_>, from: &Shape<'_>, pointer: Temporary)
     }
 }
 
-/// Appends what raises where a fat pointer's index isn't below its count, or fewer elements than so many are left from there on.
+/// Appends what raises where a fat pointer's index isn't below its count, or fewer elements than this number are left from there on.
 fn lower_remaining(body: &mut Body<'_>, pointer: Temporary, least: u32, at: Origin)
     requires room { HasRoom pointer.0 3 }
     ensures { let d = pointer.0 in
@@ -238,7 +238,7 @@ fn lower_one(
     lower_reached(program, element, body, pointer, pointer, bounds);
 }
 
-/// Appends the same; raises also where fewer elements than so many are left from there on.
+/// Appends the same; raises also where fewer elements than this number are left from there on.
 fn lower_several(
     program: &Table<'_>,
     element: &Shape<'_>,

@@ -116,7 +116,7 @@ fn wider(a: Width, b: Width) -> Width
     }
 }
 
-/// Appends cells, each so many bytes further on. Fails only where no host memory is left.
+/// Appends cells, each this number of bytes further on. Fails only where no host memory is left.
 fn push_moved(cells: &mut Vec<CellLayout>, by: u32, more: &[CellLayout]) -> Result<(), AllocError>
     requires by { by ≤ 4096 }
     requires near { AreNear more.now }
@@ -255,7 +255,7 @@ impl<'p> Structs<'p> {
         }
     }
 
-    /// Appends the cells of a shape, so many bytes on: of an integer, a pointer, a handle, a key, or a union or a struct that is known.
+    /// Appends the cells of a shape, this number of bytes on: of an integer, a pointer, a handle, a key, or a union or a struct that is known.
     fn push_shape(
         &self,
         cells: &mut Vec<CellLayout>,

@@ -167,7 +167,7 @@ fn left_by(opened: bool, handle: Temporary) -> Operation
     }
 }
 
-/// Appends what leaves so many of the regions in scope, the innermost first.
+/// Appends what leaves this number of the regions in scope, the innermost first.
 pub fn lower_leaving(body: &mut Body<'_>, opened: &[bool], all: u32, count: u32)
     ensures { Emits body.old body.new (leaving_code (reverse opened.now) all count) }
 {
@@ -220,7 +220,7 @@ pub fn lower_return<'p>(
     lower_result(body, shape, to);
 }
 
-/// Appends a statement that leaves so many regions, when these are left.
+/// Appends a statement that leaves this number of regions, when these are left.
 pub fn lower_left(
     body: &mut Body<'_>,
     around: RegionsAround,

@@ -30,7 +30,7 @@ use crate::words::lower_loads;
 use cyc_core::{Operation, Origin, Temporary};
 use cyc_tree::{Member, Suffix};
 
-/// What lies so many cells and bytes from where a pointer leads, and its shape.
+/// A place by its distance, in cells and bytes, from where a pointer leads, and its shape.
 #[derive(Clone, Copy)]
 pub struct Reached<'p> {
     pub shape: Shape<'p>,

@@ -15,7 +15,7 @@ pub struct Named<'p> {
     pub index: usize,
 }
 
-/// The temporary so many behind one.
+/// The temporary whose number is greater than another's by a count.
 pub fn behind(temporary: Temporary, by: u32) -> Temporary
     requires { HasRoom temporary.0 by }
     ensures { result.0 ≡ temporary.0 + by }

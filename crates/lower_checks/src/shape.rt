@@ -25,9 +25,9 @@ use std::alloc::{AllocError, Global};
 /// To how many elements a thin pointer leads, from where it points on, and whether it may be NULL.
 #[derive(Clone, Copy)]
 pub enum Reach {
-    /// It may be NULL, and leads to so many else.
+    /// It may be NULL, and leads to this number of elements else.
     MayBeNull(u32),
-    /// It is never NULL, and leads to so many.
+    /// It is never NULL, and leads to this number of elements.
     NeverNull(u32),
 }
 
@@ -107,7 +107,7 @@ pub enum Shape<'p> {
     Char,
     /// `void`
     Void,
-    /// A pointer to so many elements: how many, whether it may be NULL, whether it is unique, and what it leads to.
+    /// A pointer to a number of elements: how many, whether it may be NULL, whether it is unique, and what it leads to.
     Thin(Reach, Owner, Written<'p>),
     /// A pointer to one object as `&`, `new` and `rnew` give it, never NULL: whether it is unique, the pointers that it leads to, one after
     /// the other, and what the last one leads to.

@@ -23,7 +23,7 @@ fn no_room() -> Room
     }
 }
 
-/// What takes so many words.
+/// The room of this number of words.
 fn words(count: u32) -> Room
     requires { count ≤ 3 }
     ensures { room_tree result ≡ bytes_and (4 * count) 4 }

@@ -29,7 +29,7 @@ impl<'p> Stored<'p> {
         Stored::One(Shape::of(of))
     }
 
-    /// An array of so many elements of a type as it is written.
+    /// An array with this number of elements of a type as it is written.
     pub fn array(of: &'p TypeName, count: u32) -> Stored<'p>
         ensures { stored_tree result ≡ ArrayShape count (settled (written (type_tree of.entry.now))) }
     {

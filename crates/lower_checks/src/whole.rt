@@ -58,7 +58,7 @@ use crate::words::{lower_held_stores, lower_set_tag, lower_stores};
 use cyc_core::{Operation, Origin, Temporary};
 use cyc_tree::{Expression, Member, Prefix};
 
-/// Where a member goes: so many cells and bytes from where the pointer in a temporary leads.
+/// Where a member goes: its distance, in cells and bytes, from where the pointer in a temporary leads.
 #[derive(Clone, Copy)]
 struct Slot {
     to: Temporary,

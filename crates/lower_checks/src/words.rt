@@ -76,7 +76,7 @@ pub fn lower_stores(body: &mut Body<'_>, reached: &Reached<'_>, pointer: Tempora
     }
 }
 
-/// How far it is to a part of a union, which lies so many bytes behind its tag.
+/// How far it is to a part of a union, which lies this number of bytes behind its tag.
 pub fn held_part(part: u32, bytes: u32) -> Distance
     requires { bytes ≡ 4 * part }
     ensures { distance_tree result ≡ part_at 0 0 part }

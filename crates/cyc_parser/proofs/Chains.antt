@@ -22,12 +22,12 @@ some_links : (first : Expression) (ls : List code_link.Link) → (ls ≡ [] → 
 some_links first [] some = absurd (some refl)
 some_links first (l ∷ ls) some = refl
 
-pub is_chained : (box : Box code.Expression Global) (links : Vec code_link.Link Global) (first : code.Expression) → box.value ≡ first
-    → false ≡ (vec_len links == 0)
-    → expression_tree (form.Chain box links) ≡ chained (expression_tree first) (links_of (map link_tree links.items))
-is_chained box links first same some =
-    chain_tree box links ∙ ap (λ (e : code.Expression). Chain (expression_tree e) (links_of (map link_tree links.items))) same
-    ∙ some_links (expression_tree first) links.items (has_items links some)
+pub is_chained : (box : Box code.Expression Global) (links kept : Vec code_link.Link Global) (first : code.Expression) → box.value ≡ first
+    → kept.items ≡ links.items → false ≡ (vec_len links == 0)
+    → expression_tree (form.Chain box kept) ≡ chained (expression_tree first) (links_of (map link_tree links.items))
+is_chained box links kept first same all some =
+    chain_tree box kept ∙ ap (λ (e : code.Expression). Chain (expression_tree e) (links_of (map link_tree kept.items))) same
+    ∙ ap (λ ls. Chain (expression_tree first) (links_of (map link_tree ls))) all ∙ some_links (expression_tree first) links.items (has_items links some)
 
 -- ---- operands of `&&` and `||`
 

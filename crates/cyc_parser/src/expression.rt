@@ -11,6 +11,7 @@ use crate::cursor::Cursor;
 use crate::fault::{ParseFault, Parsed};
 use crate::first::{begins_prefixed, begins_suffix, begins_unary};
 use crate::level::{boxed, is_unary, linked, next_operator};
+use crate::lists::without_spare;
 use crate::literal::literal;
 use crate::operator::{LOOSEST, Level, prefix_of, tighter};
 use cyc_lexer::{Keyword, Sign};
@@ -348,7 +349,7 @@ fn listed(alloc: Global, depth: u32, cursor: &mut Cursor<'_, '_>) -> Parsed<Vec<
     'more: loop {
         expressions.push(expression(alloc, depth, cursor)?)?;
         if !cursor.eat(Sign::Comma) {
-            return Ok(expressions);
+            return Ok(without_spare(expressions));
         }
     }
 }
@@ -373,7 +374,7 @@ fn suffixes(
     'more: while begins_suffix(cursor.kind()) {
         suffixes.push(suffix(alloc, depth, cursor)?)?;
     }
-    Ok(suffixes)
+    Ok(without_spare(suffixes))
 }
 
 /// Reads a suffix of a primary expression.

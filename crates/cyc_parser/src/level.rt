@@ -9,6 +9,7 @@ ghost use Rattle.cyc_parser.specs.Parts.{chained};
 
 use crate::cursor::Cursor;
 use crate::fault::Parsed;
+use crate::lists::without_spare;
 use crate::operator::{Level, operator_of};
 use cyc_tree::{Expression, Link, Operator};
 use std::alloc::Global;
@@ -42,7 +43,8 @@ pub fn linked(alloc: Global, first: Expression, links: Vec<Link>) -> Parsed<Expr
     if links.is_empty() {
         Ok(first)
     } else {
-        Ok(Expression::Chain(Box::new(alloc, first)?, links))
+        let first = Box::new(alloc, first)?;
+        Ok(Expression::Chain(first, without_spare(links)))
     }
 }
 

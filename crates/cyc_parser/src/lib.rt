@@ -14,6 +14,7 @@ mod first;
 mod function;
 mod item;
 mod level;
+mod lists;
 mod literal;
 mod operator;
 mod statement;

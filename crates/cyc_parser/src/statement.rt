@@ -12,6 +12,7 @@ use crate::declaration::{declaration, parenthesized_name};
 use crate::expression::{expression, parenthesized};
 use crate::fault::Parsed;
 use crate::first::{begins_clause, begins_declaration, begins_item, begins_statement};
+use crate::lists::without_spare;
 use cyc_lexer::{Keyword, Sign};
 use cyc_tree::{BlockItem, Clause, Pattern, Statement};
 use std::alloc::Global;
@@ -80,7 +81,7 @@ pub fn block_items(alloc: Global, depth: u32, cursor: &mut Cursor<'_, '_>) -> Pa
     'items: while begins_item(cursor.kind()) {
         items.push(block_item(alloc, depth, cursor)?)?;
     }
-    Ok(items)
+    Ok(without_spare(items))
 }
 
 /// Reads a declaration or a statement.

@@ -200,7 +200,7 @@ listed-returns-in_err-expression-clause-reads t c =
 pub listed-returns-then-not-eat-clause-reads : goal.listed-returns-then-not-eat-clause-reads
 listed-returns-then-not-eat-clause-reads t c =
     let one = expression_at c.args.depth in
-    rw c.if-not-eat.ensures.shorter (last_pushed expression_tree one (is_sign sign.Comma) (behind sign.Comma one) c.args.cursor.now
+    rw (c.without_spare.ensures, c.if-not-eat.ensures.shorter) (last_pushed expression_tree one (is_sign sign.Comma) (behind sign.Comma one) c.args.cursor.now
     c.more.expressions.items c.push.new.self.items c.in_ok-expression.field-0 c.more.cursor c.expression.new.cursor c.more.invariant.read
     c.in_ok-push.ensures.items c.in_ok-expression.ensures.reads c.in_ok-expression.ensures.shorter (sym c.if-not-eat.ensures.next))
 
@@ -238,5 +238,5 @@ pub suffixes-returns-clause-reads : goal.suffixes-returns-clause-reads
 suffixes-returns-clause-reads t c =
     let next : next_is begins_suffix c.more.cursor ≡ false = ap (passes begins_suffix) (sym c.kind.ensures.next) ∙ sym
     c.begins_suffix.ensures ∙ c.more-test.false in
-    is_done begins_suffix (suffix_by (expression_at c.args.depth)) (map suffix_tree c.more.suffixes.items) c.more.cursor
-    (suffixes_by (expression_at c.args.depth) (option_map name_tree c.args.member) c.args.cursor.now) next c.more.invariant.read
+    rw c.without_spare.ensures (is_done begins_suffix (suffix_by (expression_at c.args.depth)) (map suffix_tree c.more.suffixes.items) c.more.cursor
+    (suffixes_by (expression_at c.args.depth) (option_map name_tree c.args.member) c.args.cursor.now) next c.more.invariant.read)

@@ -59,8 +59,8 @@ unfolding items_by
 block_items-returns-clause-reads t c =
     let next : next_is begins_item c.items.cursor ≡ false =
     ap (passes begins_item) (sym c.kind.ensures.next) ∙ sym c.begins_item.ensures ∙ c.items-test.false in
-    is_done begins_item (item_by (expression_at c.args.depth) (statement_at c.args.depth)) (map item_tree c.items.items.items) c.items.cursor
-    (items_by (expression_at c.args.depth) (statement_at c.args.depth) c.args.cursor.now) next c.items.invariant.0
+    rw c.without_spare.ensures (is_done begins_item (item_by (expression_at c.args.depth) (statement_at c.args.depth)) (map item_tree c.items.items.items)
+    c.items.cursor (items_by (expression_at c.args.depth) (statement_at c.args.depth) c.args.cursor.now) next c.items.invariant.0)
 
 -- ---- clauses
 

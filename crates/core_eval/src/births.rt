@@ -68,7 +68,7 @@ impl Memory {
         }
     }
 
-    /// The region with this number gets a block of so many elements of a layout, if it isn't freed or closed: how many it had before.
+    /// The region with this number gets a block of a number of elements of a layout, if it isn't freed or closed: how many it had before.
     fn allocate_within(
         &mut self,
         alloc: Global,
@@ -90,8 +90,8 @@ impl Memory {
         }
     }
 
-    /// A region that isn't freed or closed gets a block of so many elements of a layout, which hold nothing as yet: where the block begins. Fails
-    /// only where no host memory is left.
+    /// A region that isn't freed or closed gets a block of a number of elements of a layout, which hold nothing as yet: where the block begins.
+    /// Fails only where no host memory is left.
     pub fn allocate(
         &mut self,
         alloc: Global,

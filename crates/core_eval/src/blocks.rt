@@ -41,7 +41,7 @@ fn slot_at(blocks: &VecDeque<Block>, position: usize, index: usize, cell: u64) -
     }
 }
 
-/// What a part of an object of the one that stands there holds, if there is one that lies there and is so wide.
+/// What a part of an object of the one that stands there holds, if there is one that lies there and has this width.
 pub fn value_at(
     blocks: &VecDeque<Block>,
     position: usize,
@@ -78,7 +78,7 @@ pub fn slot_by(blocks: &VecDeque<Block>, number: u64, index: usize, cell: u64) -
     }
 }
 
-/// Stores a value to a part of an object of the one that stands there, if there is one that lies there and is so wide, and answers whether
+/// Stores a value to a part of an object of the one that stands there, if there is one that lies there and has this width, and answers whether
 /// there is.
 pub fn set_at(
     blocks: &mut VecDeque<Block>,
@@ -97,7 +97,7 @@ pub fn set_at(
     }
 }
 
-/// Stores a value to a part of an object of the one with this number, if it isn't left yet and there is one that lies there and is so wide,
+/// Stores a value to a part of an object of the one with this number, if it isn't left yet and there is one that lies there and has this width,
 /// and answers whether there is.
 pub fn set_by(
     blocks: &mut VecDeque<Block>,

@@ -1,4 +1,4 @@
-//! Runs a program of Core by its meaning, between a reader and a writer, with so many units of fuel.
+//! Runs a program of Core by its meaning, between a reader and a writer, with a number of units of fuel.
 //!
 //! `evaluate_core` moves from one statement to the next, and keeps what is still to be done on a stack of its own, callers among
 //! it, so that no program drives the host's stack deeper, however deep its calls and statements are. Its promise is `IsEvaluated`

@@ -8,7 +8,8 @@ use crate::object::offset_in;
 use cyc_core::{CellLayout, Layout};
 use std::alloc::{AllocError, Global};
 
-/// A pointer that goes so many bytes from where its object begins has to lead to a cell: no object that is granted has so many.
+/// A pointer that goes this number of bytes from where its object begins, or more, has to lead to a cell. No object that is granted has this
+/// number of bytes.
 pub const TOO_FAR: u64 = 0x0200_0000;
 
 /// Where the cells of a block of a region lie.
@@ -27,7 +28,7 @@ pub struct LongBlock {
 }
 
 impl LongBlock {
-    /// Whether the cell with this number lies so many bytes on.
+    /// Whether the cell with this number lies this number of bytes on.
     fn lies(&self, cell: u64, byte: u64) -> bool
         ensures { result ≡ lies_in self.now.cells.items self.now.bytes self.now.count cell byte }
     {
@@ -66,7 +67,7 @@ fn copy_of(alloc: Global, cells: &[CellLayout]) -> Result<Vec<CellLayout>, Alloc
     cells.to_vec(alloc)
 }
 
-/// Whether one of these cells lies too far on, in an element that lies so many bytes on.
+/// Whether one of these cells lies too far on, in an element that lies this number of bytes on.
 fn has_far(from: u64, cells: &[CellLayout]) -> bool
     ensures { result ≡ has_far from cells.now }
 {
@@ -78,7 +79,7 @@ fn has_far(from: u64, cells: &[CellLayout]) -> bool
     false
 }
 
-/// Whether a block of so many elements has a cell too far on.
+/// Whether a block of a number of elements has a cell too far on.
 fn is_long(cells: &[CellLayout], bytes: u32, count: u32) -> bool
     ensures { result ≡ is_long cells.now bytes count }
 {
@@ -88,7 +89,7 @@ fn is_long(cells: &[CellLayout], bytes: u32, count: u32) -> bool
     }
 }
 
-/// Keeps where the cells of a new block lie, so many elements of a layout, if one of them lies too far on.
+/// Keeps where the cells of a new block lie, of a number of elements of a layout, if one of them lies too far on.
 pub fn keep_block(
     alloc: Global,
     blocks: &mut Vec<LongBlock>,
@@ -111,7 +112,7 @@ pub fn keep_block(
     Ok(())
 }
 
-/// Whether the block with this number of a region is one of these, and its cell lies so many bytes on.
+/// Whether the block with this number of a region is one of these, and its cell lies this number of bytes on.
 pub fn lies_among(blocks: &[LongBlock], region: u64, object: usize, cell: u64, byte: u64) -> bool
     ensures { result ≡ lies_among (map long_block_of blocks.now) region object cell byte }
 {

@@ -147,7 +147,7 @@ impl Memory {
         self.owns.pop_front();
     }
 
-    /// Where the block so many out stands among the blocks, for a function outside of which there are so many.
+    /// Where the block that lies `out` blocks out stands among the blocks, for a function outside of which there are `base` blocks.
     fn own_position(&self, base: usize, out: usize) -> Option<usize>
         ensures { result ≡ own_position base (map activation_of self.now.blocks.items) out }
     {
@@ -157,7 +157,7 @@ impl Memory {
         }
     }
 
-    /// What the first part of a local holds, for a function outside of which there are so many blocks, if there is one so wide.
+    /// What the first part of a local holds, for a function outside of which there are `base` blocks, if there is one of this width.
     pub fn local(&self, base: usize, variable: Variable, width: Width) -> Option<Value>
         ensures { result ≡ value_of 0 0 width (local_slot base (map activation_of self.now.blocks.items) variable.out variable.index) }
     {
@@ -169,7 +169,7 @@ impl Memory {
         }
     }
 
-    /// The word that a local holds, for a function outside of which there are so many blocks, if it is so wide and of one cell of one word.
+    /// The word that a local holds, for a function outside of which there are `base` blocks, if it has this width and is of one cell of one word.
     pub fn word(&self, base: usize, variable: Variable, width: Width) -> Option<u32>
         ensures { IfSome result (λ word. value_of 0 0 width (local_slot base (map activation_of self.now.blocks.items) variable.out variable.index)
             ≡ Some (Value.Word word)) }
@@ -180,7 +180,7 @@ impl Memory {
         }
     }
 
-    /// A pointer to a local, for a function outside of which there are so many blocks, if there is its block.
+    /// A pointer to a local, for a function outside of which there are `base` blocks, if there is its block.
     pub fn address(&self, base: usize, variable: Variable) -> Option<Value>
         ensures { result ≡ local_address base (map activation_of self.now.blocks.items) variable.out variable.index }
     {
@@ -247,7 +247,7 @@ impl Memory {
         }
     }
 
-    /// Stores a value to the first part of a local, for a function outside of which there are so many blocks, if there is one so wide,
+    /// Stores a value to the first part of a local, for a function outside of which there are `base` blocks, if there is one of this width,
     /// and answers whether there is.
     pub fn set_local(&mut self, base: usize, variable: Variable, width: Width, value: Value) -> bool
         ensures blocks { put_local base (map activation_of self.old.blocks.items) variable.out variable.index width value
@@ -272,7 +272,7 @@ impl Memory {
         }
     }
 
-    /// Stores a value to a part of the object to which a place leads, if there is one that lies there and is so wide, and answers whether there is.
+    /// Stores a value to a part of the object to which a place leads, if there is one that lies there and has this width, and answers whether there is.
     pub fn put_to(&mut self, place: Place, part: Part, value: Value) -> bool
         ensures put { AreOrdered self.old
             → put_to (stored_of self.old) place.area place.object part.cell part.byte part.number part.width value

@@ -9,7 +9,7 @@ use crate::value::{Area, Object, Place, Slot, Value};
 use cyc_core::{Cell, CellLayout, Datum, Layout, Local};
 use std::alloc::{AllocError, Global};
 
-/// How many bytes of the object lie before a byte of the element with this number, of so many bytes.
+/// How many bytes of the object lie before a byte of the element with this number, where each element has `bytes` bytes.
 pub fn offset_in(element: u32, bytes: u32, byte: u32) -> u64
     ensures { result ≡ element * bytes + byte }
 {
@@ -35,7 +35,7 @@ fn held_first(is_begun: bool, cell: Cell) -> Held
     if is_begun { first } else { first.blanked() }
 }
 
-/// A cell of the element with this number, of so many bytes.
+/// A cell of the element with this number, where each element has `bytes` bytes.
 fn slot_from(is_begun: bool, element: u32, bytes: u32, cell: CellLayout) -> Slot
     ensures { result ≡ slot_from is_begun (element * bytes) cell }
 {
@@ -46,7 +46,7 @@ fn slot_from(is_begun: bool, element: u32, bytes: u32, cell: CellLayout) -> Slot
     }
 }
 
-/// The element with this number more, of so many bytes.
+/// The element with this number more, where each element has `bytes` bytes.
 fn push_element(
     slots: &mut Vec<Slot>,
     is_begun: bool,
@@ -62,7 +62,7 @@ fn push_element(
     Ok(())
 }
 
-/// The cells of so many elements of a layout, which hold what they begin as, or nothing as yet. Fails only where no host memory is left.
+/// The cells of a number of elements of a layout, which hold what they begin as, or nothing as yet. Fails only where no host memory is left.
 pub fn block_cells(
     alloc: Global,
     is_begun: bool,

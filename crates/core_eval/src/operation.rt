@@ -155,7 +155,7 @@ fn put<'p>(
     }
 }
 
-/// Gives a temporary a pointer that leads so many cells and bytes further than another one's.
+/// Gives a temporary a pointer that leads these numbers of cells and bytes further than another one's.
 fn offset<'p>(
     frame: &mut Frame,
     memory: &Memory,
@@ -177,7 +177,7 @@ fn offset<'p>(
     }
 }
 
-/// Gives a temporary a pointer to an element of so many cells and bytes, from the one on to which another one's pointer leads: to that which a
+/// Gives a temporary a pointer to an element of these numbers of cells and bytes, from the one on to which another one's pointer leads: to that which a
 /// third one's word says.
 fn element<'p>(
     frame: &mut Frame,

@@ -92,8 +92,8 @@ fn lies_far(memory: &Memory, place: Place) -> Result<bool, AllocError>
     }
 }
 
-/// The place so many cells and so many bytes on, if a pointer may lead there: where that is less than too far from where its object begins, or
-/// a cell lies there. Fails only where over 2^64 - 1 cells or bytes would lie before it, or the block or the function that had the object
+/// The place this number of cells and this number of bytes on, if a pointer may lead there: where that is less than too far from where its
+/// object begins, or a cell lies there. Fails only where over 2^64 - 1 cells or bytes would lie before it, or the block or the function that had the object
 /// is left.
 pub fn lead_on(
     memory: &Memory,

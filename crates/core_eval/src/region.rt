@@ -72,7 +72,7 @@ pub enum Region {
     Freed,
 }
 
-/// A block more, of so many elements of a layout, which hold nothing as yet: how many there were before. Fails only where no host memory is left.
+/// A block more, of a number of elements of a layout, which hold nothing as yet: how many there were before. Fails only where no host memory is left.
 pub fn push_block(
     alloc: Global,
     objects: &mut Vec<Object>,
@@ -89,7 +89,7 @@ pub fn push_block(
 }
 
 impl Region {
-    /// Stores a value to a part of a block, if it isn't freed or closed and there is one that lies there and is so wide, and answers whether there
+    /// Stores a value to a part of a block, if it isn't freed or closed and there is one that lies there and has this width, and answers whether there
     /// is.
     fn put(&mut self, index: usize, part: Part, value: Value) -> bool
         ensures put { put_held index part.cell part.byte part.number part.width value (held_region self.old)
@@ -135,7 +135,7 @@ impl Region {
         }
     }
 
-    /// It gets a block of so many elements of a layout, if it isn't freed or closed: how many it had before.
+    /// It gets a block of a number of elements of a layout, if it isn't freed or closed: how many it had before.
     fn allocate(
         &mut self,
         alloc: Global,
@@ -229,7 +229,7 @@ pub fn turn(regions: &mut Vec<Region>, number: u64, from: Standing, to: Option<S
     }
 }
 
-/// The region with this number gets a block of so many elements of a layout, if it isn't freed or closed: how many it had before.
+/// The region with this number gets a block of a number of elements of a layout, if it isn't freed or closed: how many it had before.
 pub fn allocate(
     alloc: Global,
     regions: &mut Vec<Region>,

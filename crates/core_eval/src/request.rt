@@ -116,8 +116,8 @@ pub fn free_key<'p>(frame: &Frame, memory: &mut Memory, key: Temporary) -> Due<'
     }
 }
 
-/// Gives a temporary a pointer to a new block of the region whose handle another one holds: so many elements of a layout as a third one's
-/// word says.
+/// Gives a temporary a pointer to a new block of the region whose handle another one holds. The block has a number of elements of a
+/// layout: the number is a third one's word.
 pub fn allocate<'p>(
     alloc: Global,
     frame: &mut Frame,

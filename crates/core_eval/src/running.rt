@@ -67,7 +67,7 @@ fn advance<'p>(
     }
 }
 
-/// The ending of a run that is at rest, with so many units left, if it is over.
+/// The ending of a run that is at rest, with this number of units left, if it is over.
 fn ending_of(due: &Due<'_>, left: u64) -> Option<EvalEnding>
     requires { IsAtRest (next_of due.now) }
     ensures over { IfSome result (λ ending. EndsNow ending (next_of due.entry.now) left) }
@@ -224,7 +224,7 @@ fn pay_unit<'p, R: Input, W: Output>(
     }
 }
 
-/// Runs a program of Core by its meaning, with so many units of fuel.
+/// Runs a program of Core by its meaning, with a number of units of fuel.
 ///
 /// Ends as the definition does: with the program's status, with `Running` where a unit is due and none is left, or
 /// `Stuck`. `WriteFault` comes in place of any other ending, where a write failed or took no byte; `ReadFault` where a

@@ -89,7 +89,7 @@ pub struct Slot {
 }
 
 impl Slot {
-    /// What the part with this number holds, if there is one that lies so many bytes on and is so wide.
+    /// What the part with this number holds, if there is one that lies this number of bytes on and has this width.
     fn value(&self, byte: u64, part: u32, width: Width) -> Option<Value>
         ensures { result ≡ value_of byte part width (Some self.now) }
     {
@@ -110,7 +110,8 @@ impl Slot {
         }
     }
 
-    /// Stores a value to the part with this number, if there is one that lies so many bytes on and is so wide, and answers whether there is.
+    /// Stores a value to the part with this number, if there is one that lies this number of bytes on and has this width, and answers whether
+    /// there is.
     fn put(&mut self, byte: u64, part: u32, width: Width, value: Value) -> bool
         ensures put { put_within self.old byte part width value ≡ (if result then Some self.new else None) }
         ensures kept { result ≡ false → self.new ≡ self.old }
@@ -146,7 +147,7 @@ impl Object {
         }
     }
 
-    /// What a part of it holds, if there is one that lies there and is so wide.
+    /// What a part of it holds, if there is one that lies there and has this width.
     fn value(&self, part: Part) -> Option<Value>
         ensures { result ≡ value_of part.byte part.number part.width (slice_get (cells_of self.now) part.cell) }
     {
@@ -220,7 +221,7 @@ impl Object {
         Ok(())
     }
 
-    /// Stores a value to a part of it, if there is one that lies there and is so wide, and answers whether there is.
+    /// Stores a value to a part of it, if there is one that lies there and has this width, and answers whether there is.
     fn put(&mut self, part: Part, value: Value) -> bool
         ensures put { put_cell (cells_of self.old) part.cell part.byte part.number part.width value ≡ (if result then Some (cells_of self.new) else None) }
         ensures kept { result ≡ false → self.new ≡ self.old }
@@ -275,7 +276,7 @@ pub fn slot_in(objects: &[Object], index: usize, cell: u64) -> Option<Slot>
     }
 }
 
-/// What a part of the object with this number holds, if there is one that lies there and is so wide.
+/// What a part of the object with this number holds, if there is one that lies there and has this width.
 pub fn value_in(objects: &[Object], index: usize, part: Part) -> Option<Value>
     ensures { result ≡ value_of part.byte part.number part.width (slot_at (map cells_of objects.now) index part.cell) }
 {
@@ -305,7 +306,7 @@ fn bytes_of(width: Width) -> u64
     }
 }
 
-/// Whether the part of a cell with this number lies so many bytes on, and is so wide.
+/// Whether the part of a cell with this number lies this number of bytes on, and has this width.
 fn is_fit(byte: u64, part: u32, width: Width, slot: &Slot) -> bool
     ensures { result ≡ is_fit byte part width slot.now }
 {
@@ -322,7 +323,7 @@ pub fn is_kept(part: u32, width: Width) -> bool
     part == 0 || is_same(width, Width::Word)
 }
 
-/// What a part of a cell holds, if there is one, and it lies so many bytes on and is so wide.
+/// What a part of a cell holds, if there is one, and it lies this number of bytes on and has this width.
 pub fn value_of(slot: Option<Slot>, byte: u64, part: u32, width: Width) -> Option<Value>
     ensures { result ≡ value_of byte part width slot }
 {
@@ -332,7 +333,7 @@ pub fn value_of(slot: Option<Slot>, byte: u64, part: u32, width: Width) -> Optio
     }
 }
 
-/// Stores a value to a part of the object with this number, if there is one that lies there and is so wide, and answers whether there is.
+/// Stores a value to a part of the object with this number, if there is one that lies there and has this width, and answers whether there is.
 pub fn put_in(objects: &mut Vec<Object>, index: usize, part: Part, value: Value) -> bool
     ensures put { put_in (map cells_of objects.old.items) index part.cell part.byte part.number part.width value
         ≡ (if result then Some (map cells_of objects.new.items) else None) }
@@ -360,7 +361,7 @@ pub fn fill_in(
     }
 }
 
-/// How many cells or bytes lie before what lies so many further on. Fails only where that is over 2^64 - 1.
+/// How many cells or bytes lie before what lies `by` further on, where `before` lie before the first. Fails only where that is over 2^64 - 1.
 pub fn further(before: u64, by: u32) -> Result<u64, AllocError>
     ensures { IfOk result (λ n. n ≡ before + by) }
 {

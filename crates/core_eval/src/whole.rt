@@ -34,8 +34,8 @@ use crate::value::{Place, Slot, Value, further};
 use cyc_core::{CellLayout, Layout, Temporary};
 use std::alloc::{AllocError, Global};
 
-/// Whether what a cell holds has the parts that another has, where so many bytes lie behind the one, and so many behind the other, that
-/// hold nothing. What has more words begins with the parts of what has fewer.
+/// Whether what a cell holds has the parts that another has, where `padding` bytes that hold nothing lie behind the one, and `behind`
+/// such bytes behind the other. What has more words begins with the parts of what has fewer.
 fn has_parts(own: Held, padding: u32, held: Held, behind: u32) -> bool
     ensures { result ≡ has_parts own padding held behind }
 {
@@ -121,7 +121,7 @@ fn are_laid(memory: &Memory, place: Place, cells: &[CellLayout]) -> Result<bool,
     }
 }
 
-/// The place behind an element with so many cells and bytes. Fails only where that has over 2^64 - 1 cells or bytes before it.
+/// The place behind an element with these numbers of cells and bytes. Fails only where that has over 2^64 - 1 cells or bytes before it.
 fn next_element(place: Place, cells: usize, bytes: u32) -> Result<Place, AllocError>
     ensures { IfOk result (λ next. next
         ≡ record { area = place.area; object = place.object; byte = place.byte + bytes; cell = place.cell + cells }) }
@@ -139,7 +139,7 @@ fn next_element(place: Place, cells: usize, bytes: u32) -> Result<Place, AllocEr
     }
 }
 
-/// Whether a place leads to so many elements of a layout. Fails only where a place behind one of them has over 2^64 - 1 cells or bytes before it,
+/// Whether a place leads to a number of elements of a layout. Fails only where a place behind one of them has over 2^64 - 1 cells or bytes before it,
 /// or a cell lies as one of theirs and may have a pointer in another part.
 fn has_elements(
     memory: &Memory,
@@ -222,7 +222,7 @@ fn push_element(values: &mut Vec<Held>, cells: &[CellLayout]) -> Result<(), Allo
     Ok(())
 }
 
-/// What the cells of so many elements begin as.
+/// What the cells of a number of elements begin as.
 fn first_elements(alloc: Global, cells: &[CellLayout], count: u32) -> Result<Vec<Held>, AllocError>
     ensures { IfOk result (λ values. values.items ≡ first_elements cells.now count) }
 {

@@ -43,8 +43,7 @@ pub fn linked(alloc: Global, first: Expression, links: Vec<Link>) -> Parsed<Expr
     if links.is_empty() {
         Ok(first)
     } else {
-        let first = Box::new(alloc, first)?;
-        Ok(Expression::Chain(first, without_spare(links)))
+        Ok(Expression::Chain(Box::new(alloc, first)?, without_spare(links)))
     }
 }
 

@@ -28,7 +28,7 @@ use check_expressions::judge;
 use check_regions::RegionNames;
 use check_scopes::Scope;
 use cyc_tree::{BlockItem, Clause, Expression, Name, Pattern, Statement};
-use flow_effects::{Exits, Step, all_before};
+use flow_effects::{Exits, Step, add_step, all_before};
 use std::alloc::{AllocError, Global};
 
 /// The summary of an expression statement.
@@ -277,7 +277,7 @@ pub(crate) fn items_exits<'p>(
                 Step::Executed(exits(scope, names, alloc, context, statement)?)
             }
         };
-        steps.push(step)?;
+        add_step(&mut steps, step)?;
     }
     all_before(alloc, steps, Exits::ends())
 }

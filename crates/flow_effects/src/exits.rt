@@ -62,6 +62,17 @@ impl Exits {
         Exits::ends_after(Passed::nothing())
     }
 
+    /// Whether it is that of a statement that does nothing, as far as its parts show at once.
+    pub fn does_nothing(&self) -> bool
+        ensures { result ≡ true → exits_of self.now ≡ ends }
+    {
+        self.falls
+            && self.whole.table.count == 0
+            && self.whole.always.is_none()
+            && self.breaks.is_none()
+            && self.continues.is_none()
+    }
+
     /// A `break`.
     pub fn breaks() -> Exits
         ensures { exits_of result ≡ exits None (Some no_effects) None (faults_always None) }

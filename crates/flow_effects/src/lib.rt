@@ -19,5 +19,5 @@ mod ways;
 
 pub use exits::Exits;
 pub use passed::{Begun, Passed};
-pub use steps::{Declared, Loan, Step, all_before};
+pub use steps::{Declared, Loan, Step, add_step, all_before};
 pub use used::{Usage, Used};

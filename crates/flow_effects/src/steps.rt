@@ -1,6 +1,7 @@
 // The steps of a block or a `switch`, one after another.
 
-ghost use Rattle.std.specs.Prelude.{◌≡◌, IfOk};
+ghost use Rattle.std.specs.Prelude.{◌≡◌, ◌++◌, ◌∷◌, [], IfOk, OnOk, true};
+ghost use Rattle.flow_summaries.specs.Exits.{Exits as Summary};
 ghost use Rattle.flow_effects.specs.Exits.{exits_of};
 ghost use Rattle.flow_effects.specs.Steps.{all_before, declared_before, lent_if, step_before};
 
@@ -65,6 +66,16 @@ impl Declared {
 }
 
 impl Step {
+    /// Whether it is a statement that does nothing, as far as its parts show at once.
+    fn does_nothing(&self) -> bool
+        ensures { result ≡ true → (w : Summary) → step_before self.now w ≡ w }
+    {
+        match self {
+            Step::Executed(exits) => exits.does_nothing(),
+            Step::Declared(_) | Step::Way(_) => false,
+        }
+    }
+
     /// The summary of this step and what comes after it.
     fn before(self, alloc: Global, rest: Exits) -> Result<Exits, AllocError>
         ensures { IfOk result (λ w. exits_of w ≡ step_before self (exits_of rest)) }
@@ -75,6 +86,16 @@ impl Step {
             Step::Way(first) => first.either(alloc, rest),
         }
     }
+}
+
+/// Adds a step, where it does anything: an empty statement takes no space.
+pub fn add_step(steps: &mut Vec<Step>, step: Step) -> Result<(), AllocError>
+    ensures { OnOk result ((w : Summary) → all_before steps.new.items w ≡ all_before (steps.old.items ++ step ∷ []) w) }
+{
+    if step.does_nothing() {
+        return Ok(());
+    }
+    Ok(steps.push(step)?)
 }
 
 /// The summary of all steps in order, and `last` after them.

@@ -251,10 +251,13 @@ items_exits-each-preserved t c =
       each = λ g h.
           let going = c.each.invariant.each g h in
           let whole = exits_of_items g (items_of (map item_tree items)) in
-          subst (λ ss. Going context later outer c.match-item.scope ss rest whole) (sym c.in_ok-push.ensures.items)
-          (goes_on context names later outer c.each.scope c.match-item.scope c.each.steps.items c.match-item.step items c.each.item-index item whole
-          c.each-test.true c.item-item.is going
-          (own going.env going.stands) (stands going.env going.stands));
+          let longer_by_one = goes_on context names later outer c.each.scope c.match-item.scope c.each.steps.items c.match-item.step items c.each.item-index item
+          whole c.each-test.true c.item-item.is going (own going.env going.stands) (stands going.env going.stands) in
+          record {
+            env = longer_by_one.env;
+            stands = longer_by_one.stands;
+            same = c.in_ok-add_step.ensures (exits_of_items longer_by_one.env (items_of rest)) ∙ longer_by_one.same;
+          };
       left = λ count mark l m o. same count mark (grind (arith, l, longer)) (grind (arith, m, more)) (grind (arith, o, opened))
           ∙ c.each.invariant.left count mark l m o;
       kept = λ count l. kept count (grind (arith, l, larger)) ∙ c.each.invariant.kept count l;

@@ -1,6 +1,6 @@
 // Which conditional jumps are branches alone.
 
-ghost use Rattle.std.specs.Prelude.{◌≡◌, ◌<◌, ◌≤◌, Err, IfOk, false};
+ghost use Rattle.std.specs.Prelude.{◌≡◌, ◌<◌, ◌≤◌, ◌↔◌, Err, IfOk, IsTrue, false};
 ghost use Rattle.cyc_image.specs.Format.{code_limit};
 ghost use Rattle.core_lines.specs.Lines.{code_length};
 ghost use Rattle.core_lines.specs.declared.line.Line.TheVariants.{BranchUnless};
@@ -11,6 +11,7 @@ use crate::fault::LayoutFault;
 use crate::length::{length, size};
 use crate::places::{Places, find_places};
 use core_lines::{Comparison, Line};
+use cyc_image::CODE_LIMIT;
 use rv32_select::Labelled;
 use std::alloc::{AllocError, Global};
 
@@ -57,6 +58,20 @@ fn shortest(alloc: Global, lines: &[Line]) -> Result<Vec<Line>, AllocError>
         short.push(shorten(*line))?;
     }
     Ok(short)
+}
+
+/// Whether the code is over the limit even where all conditional jumps are branches alone.
+fn is_too_large(lines: &[Line]) -> bool
+    ensures { IsTrue result ↔ (code_limit < code_length (shortened (none_wide lines.now) lines.now)) }
+{
+    let mut length = 0;
+    'each: for line in lines {
+        length += size(shorten(*line));
+        if length as usize > CODE_LIMIT {
+            return true;
+        }
+    }
+    false
 }
 
 /// Whether a line's branch reaches its label, where the line is a branch alone.
@@ -128,13 +143,17 @@ fn lengthened(alloc: Global, lines: &[Line], places: &Places) -> Result<Vec<Line
 }
 
 /// The lines as they are placed: each conditional jump is a branch alone, where it reaches its label. An `Err` is `TooLarge` only where their
-/// code would be over the limit.
+/// code would be over the limit. Lines that are too large with the shortest of branches aren't copied.
 pub(crate) fn relax(alloc: Global, labelled: &Labelled) -> Result<Relaxed, LayoutFault>
     ensures lines { IfOk result (λ relaxed. relaxed.lines.items ≡ shortened (wide_in labelled.now.lines) labelled.now.lines) }
     ensures placeable { IfOk result (λ relaxed. ArePlaceable relaxed.lines.items relaxed.places) }
     ensures too_large { result ≡ Err LayoutFault.TooLarge → code_limit < code_length (shortened (wide_in labelled.now.lines) labelled.now.lines) }
 {
-    let mut lines = shortest(alloc, labelled.lines())?;
+    let all = labelled.lines();
+    if is_too_large(all) {
+        return Err(LayoutFault::TooLarge);
+    }
+    let mut lines = shortest(alloc, all)?;
     'rounds: loop {
         if length(lines.as_slice()).is_none() {
             return Err(LayoutFault::TooLarge);

@@ -1,8 +1,9 @@
 -- A program's first fault as that of its text.
-use Rattle.std.proofs.Common.{◌≡◌, ℕ, List, Some, refl, sym, subst}
+use Rattle.std.proofs.Common.{◌≡◌, ◌≢◌, ℕ, List, None, Some, refl, sym, subst, ◌∙◌}
+use Rattle.std.specs.Prelude.{Result, Err}
 use Rattle.cyc_tree.specs.Tree.{Program}
 use Rattle.check_faults.specs.Faults.{fault_of}
-use Rattle.source_typing.specs.Answers.{first_fault}
+use Rattle.source_typing.specs.Answers.{effect_fault, first_fault}
 use Rattle.check_faults.specs.declared.fault.Fault.{Fault}
 use Rattle.check_faults.specs.declared.fault.FaultKind.{FaultKind}
 use Rattle.check_faults.specs.declared.fault.FaultKind.TheVariants as kind
@@ -34,6 +35,13 @@ broken_text text program (check.Broken b) f first (place, is, there) spelled =
     subst (λ (x : CompileFault). IsRefusedFor x text) (sym is)
     (by_kind text b.kind place (record { program = program; spelled = spelled; at = b.at; first = first b refl; there = there }))
 broken_text text program check.Memory f first is spelled = subst (λ (x : CompileFault). IsRefusedFor x text) (sym is) tt
+
+-- no fault is answered where the rules find none and no memory is asked for
+pub none_broken : {A : Type 0} → (program : Program) (why : CheckFault) → ◌≢◌ {A = Result A CheckFault} (Err why) (Err check.Memory)
+    → ((b : Fault) → ◌≡◌ {A = Result A CheckFault} (Err why) (Err (check.Broken b)) → effect_fault program ≡ Some (fault_of b))
+    → effect_fault program ≡ None → ⊥
+none_broken program (check.Broken b) never broken none = absurd (cc (sym (broken b refl) ∙ none))
+none_broken program check.Memory never broken none = never refl
 
 -- and where it is one of flow
 pub flow_text : (text : List ℕ) (program : Program) (why : FlowFault) (f : CompileFault) → IsFirstFault why program → IsOfFlow text why f

@@ -1,5 +1,5 @@
 -- What is accepted isn't refused, and what a text spells is one program.
-use Rattle.std.proofs.Common.{◌≡◌, ◌⊎◌, ℕ, ◌<◌, List, [], ◌∷◌, ◌++◌, inl, inr, arith, sym, ap, subst, refl, ◌∙◌, append_assoc}
+use Rattle.std.proofs.Common.{◌≡◌, ◌⊎◌, ℕ, ◌<◌, List, [], ◌∷◌, ◌++◌, inl, inr, sym, ap, subst, refl, ◌∙◌, append_assoc}
 use Rattle.std.proofs.lemmas.List.{append-nil}
 use Rattle.cyc_image.specs.Format.{code_limit}
 use Rattle.cyc_lexer.specs.Lexing.{Token, AreTokens}

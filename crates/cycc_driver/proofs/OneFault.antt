@@ -1,5 +1,5 @@
 -- A text is refused for one fault, want of memory apart.
-use Rattle.std.proofs.Common.{◌≡◌, ◌⊎◌, ℕ, ◌≤◌, List, [], ◌∷◌, ◌++◌, length, Option, Some, inl, inr, arith, sym, ap, subst, refl, ◌∙◌}
+use Rattle.std.proofs.Common.{◌≡◌, ◌⊎◌, ℕ, ◌≤◌, List, [], ◌∷◌, ◌++◌, length, inl, inr, arith, sym, ap, subst, refl, ◌∙◌}
 use Rattle.cyc_lexer.specs.Lexing.{Token, Lexing}
 use Rattle.cyc_lexer.specs.Places.{line_of, column_of}
 use Rattle.cyc_lexer.specs.Tokens.{IsRefusedAt}

@@ -9,7 +9,6 @@ ghost use Rattle.source_lowering.specs.Programs.{program_code};
 ghost use Rattle.source_lowering.specs.Lowerable.{HaveFewMembers};
 ghost use Rattle.accepted_programs.specs.Accepted.{IsAccepted};
 ghost use Rattle.check_faults.specs.Faults.{fault_of};
-ghost use Rattle.check_faults.specs.declared.fault.Fault.{Fault};
 ghost use Rattle.source_typing.specs.Answers.{effect_fault};
 ghost use Rattle.cycc_driver.specs.Texts.{IsTextOf, IsAcceptedAs};
 ghost use Rattle.cycc_driver.specs.Refusals.{IsRefusedFor, HasNoImageFor, AreSame, code_bound};
@@ -18,6 +17,7 @@ ghost use Rattle.cycc_driver.specs.Outcome.{IsCode, IsImplementedBy, IsTextImage
 
 use crate::fault::{CompileFault, Place, of_checking, of_flow, of_lexing, of_parsing};
 use accepted_programs::Checked;
+use check_faults::Fault;
 use cyc_core::Program as Core;
 use cyc_image::{Parts, write};
 use cyc_lexer::tokens;
@@ -25,7 +25,7 @@ use cyc_parser::parse;
 use cyc_tree::Program;
 use effect_check::{CheckFault, effects};
 use lower_checks::lower;
-use region_types::typed;
+use region_types::into_typed;
 use rv32_layout::{LayoutFault, data, place};
 use rv32_select::select;
 use std::alloc::Global;
@@ -46,30 +46,31 @@ fn parsed(alloc: Global, text: &[u8]) -> Result<Program, CompileFault>
     }
 }
 
-/// A text's first fault, where the earliest one of names, types, regions and effects in its program is this.
-fn first_of(alloc: Global, text: &[u8], program: &Program, fault: CheckFault) -> CompileFault
-    requires { (b : Fault) → fault ≡ CheckFault.Broken b → effect_fault program.now ≡ Some (fault_of b) }
+/// A text's first fault, where this is the earliest one of names, types, regions and effects in its program.
+fn first_of(alloc: Global, text: &[u8], program: &Program, broken: Fault) -> CompileFault
+    requires { effect_fault program.now ≡ Some (fault_of broken) }
     ensures { IsTextOf text.now program.now → IsRefusedFor result text.now }
 {
-    let CheckFault::Broken(broken) = fault else {
-        return CompileFault::Memory;
-    };
     match first_broken(alloc, program, broken) {
         Ok(first) => of_checking(text, CheckFault::Broken(first)),
         Err(_) => CompileFault::Memory,
     }
 }
 
-/// The checked program, where it is accepted.
-fn checked(alloc: Global, text: &[u8], program: &Program) -> Result<Checked, CompileFault>
-    ensures same { IfOk result (λ c. c ≡ program.now) }
-    ensures accepted { IfOk result (λ _. IsAccepted program.now) }
-    ensures refused { IsTextOf text.now program.now → IfErr result (λ fault. IsRefusedFor fault text.now) }
+/// The checked program, where it is accepted. There is one tree of it at a time.
+fn checked(alloc: Global, text: &[u8], program: Program) -> Result<Checked, CompileFault>
+    ensures same { IfOk result (λ c. c ≡ program) }
+    ensures accepted { IfOk result (λ _. IsAccepted program) }
+    ensures refused { IsTextOf text.now program → IfErr result (λ fault. IsRefusedFor fault text.now) }
 {
-    let typed = typed(alloc, program)?;
+    let typed = into_typed(alloc, program)?;
+    if let Some(broken) = typed.effect_fault() {
+        return Err(first_of(alloc, text, typed.program(), broken));
+    }
     let effected = match effects(alloc, typed) {
         Ok(effected) => effected,
-        Err(fault) => return Err(first_of(alloc, text, program, fault)),
+        // there is no such fault, and no memory is asked for
+        Err(_) => unreachable!(),
     };
     match flow(alloc, effected) {
         Ok(checked) => Ok(checked),
@@ -90,7 +91,7 @@ pub fn front(alloc: Global, text: &[u8]) -> Result<Checked, CompileFault>
     ensures exact { (program : Tree) → IsAcceptedAs text.now program → IfErr result (λ fault. fault ≡ CompileFault.Memory) }
 {
     let program = parsed(alloc, text)?;
-    Ok(checked(alloc, text, &program)?)
+    Ok(checked(alloc, text, program)?)
 }
 
 /// Whether a text is accepted. Refuses what `front` refuses, with the same fault.
@@ -131,30 +132,30 @@ struct Placed {
     data: Vec<u8>,
 }
 
-/// The Core of an accepted program.
-fn core_of(alloc: Global, checked: &Checked) -> Result<Core, CompileFault>
-    ensures code { IfOk result (λ core. program_tree core ≡ program_code checked.now) }
-    ensures accepted { IfOk result (λ _. IsAccepted checked.now) }
+/// The Core of an accepted program, whose tree is let go.
+fn core_of(alloc: Global, checked: Checked) -> Result<Core, CompileFault>
+    ensures code { IfOk result (λ core. program_tree core ≡ program_code checked) }
+    ensures accepted { IfOk result (λ _. IsAccepted checked) }
     // a word counts the members of each of its unions
-    ensures few { IfOk result (λ _. HaveFewMembers (unions_of checked.now)) }
+    ensures few { IfOk result (λ _. HaveFewMembers (unions_of checked)) }
     ensures memory { IfErr result (λ fault. fault ≡ CompileFault.Memory) }
 {
     // a checked program is an accepted one
     checked.program();
-    match lower(alloc, checked) {
+    match lower(alloc, &checked) {
         Ok(core) => Ok(core),
         Err(_) => Err(CompileFault::Memory),
     }
 }
 
-/// The code and the data of an accepted program.
-fn lay_out(alloc: Global, checked: &Checked) -> Result<Placed, CompileFault>
+/// The code and the data of an accepted program, whose tree is let go once its Core is made.
+fn lay_out(alloc: Global, checked: Checked) -> Result<Placed, CompileFault>
     ensures code { IfOk result (λ placed. IsCode placed.code.items) }
     ensures data { IfOk result (λ placed. length placed.data.items ≤ data_limit) }
     // an image with this code and these data implements the program
     ensures implemented { IfOk result (λ placed. (parts : Contents) → parts.code ≡ placed.code.items → parts.statics ≡ placed.data.items
-        → parts.entry ≡ 0 → parts.block_limit ≡ second_block_limit → Fits parts → IsImplementedBy checked.now parts) }
-    ensures refused { IfErr result (λ fault. HasNoCodeFor fault checked.now) }
+        → parts.entry ≡ 0 → parts.block_limit ≡ second_block_limit → Fits parts → IsImplementedBy checked parts) }
+    ensures refused { IfErr result (λ fault. HasNoCodeFor fault checked) }
 {
     let core = core_of(alloc, checked)?;
     let labelled = select(alloc, &core)?;
@@ -201,7 +202,7 @@ pub fn compile(
         Ok(checked) => checked,
         Err(fault) => return Err(fault),
     };
-    let placed = match lay_out(alloc, &checked) {
+    let placed = match lay_out(alloc, checked) {
         Ok(placed) => placed,
         Err(fault) => return Err(fault),
     };

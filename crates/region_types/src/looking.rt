@@ -33,11 +33,18 @@ fn fault_without_effects(
     }
 }
 
-/// Looks at a program's names, types, regions, effects and sizes. A program without a fault is gone over once.
+/// Looks at a program's names, types, regions, effects and sizes. A program without a fault is gone over once, and none is copied.
+pub fn into_typed(alloc: Global, program: Program) -> Result<Typed, AllocError>
+    ensures { IfOk result (λ t. t ≡ program) }
+{
+    let effect_fault = program_fault(alloc, &program, false)?;
+    let fault = fault_without_effects(alloc, &program, effect_fault)?;
+    Ok(Typed::new(program, fault, effect_fault))
+}
+
+/// The same of a copy of the program.
 pub fn typed(alloc: Global, program: &Program) -> Result<Typed, AllocError>
     ensures { IfOk result (λ t. t ≡ program.now) }
 {
-    let effect_fault = program_fault(alloc, program, false)?;
-    let fault = fault_without_effects(alloc, program, effect_fault)?;
-    Ok(Typed::new(program.clone()?, fault, effect_fault))
+    into_typed(alloc, program.clone()?)
 }

@@ -1,4 +1,4 @@
-use Rattle.std.proofs.Common.{◌≡◌, refl}
+use Rattle.std.proofs.Common.{refl}
 use Rattle.cyc_image.specs.Format.{Contents, second_block_limit}
 use Rattle.cycc_driver.proofs.Implementing.{text_image}
 use Rattle.cycc_driver.proofs.Refusing.{codeless_image}

@@ -1,6 +1,5 @@
-use Rattle.std.proofs.Common.{◌≡◌, ◌<◌, List, length, refl, sym, ap, ◌∙◌, subst, arith}
+use Rattle.std.proofs.Common.{◌<◌, length, refl, ap, ◌∙◌, subst, arith}
 use Rattle.std.specs.Prelude.{Err}
-use Rattle.core_lines.specs.declared.line.Line.{Line}
 use Rattle.core_lines.specs.Promise.{AreLinesOf}
 use Rattle.core_lines.specs.Relaxed.{wide_in}
 use Rattle.core_lines.specs.Running.{data_offsets}
@@ -17,7 +16,7 @@ pub returns-in-Err-TooLarge-clause-refused : goal.returns-in-Err-TooLarge-clause
 returns-in-Err-TooLarge-clause-refused c =
     let made = c.in_ok-core.ensures in
     let are = subst (λ (p : core.Program). AreLinesOf p c.in_ok-labelled.labelled.lines) made.code c.in_ok-labelled.ensures.lines in
-    let all = accepted_do c.args.checked.now made.accepted made.few in
+    let all = accepted_do c.args.checked made.accepted made.few in
     let large = c.in-Err-TooLarge.ensures.too_large (ap (λ (f : LayoutFault). Err f) c.in-Err-TooLarge.field-0-is) in
     record {
       long =
@@ -40,7 +39,7 @@ returns-in-Ok-data-clause-implemented c = λ parts is_code is_statics from_first
     let made = c.in_ok-core.ensures in
     let are = subst (λ (p : core.Program). AreLinesOf p c.in_ok-labelled.labelled.lines) made.code c.in_ok-labelled.ensures.lines in
     let placed = c.in-Ok.ensures in
-    implemented c.args.checked.now c.in-Ok.code.bytes.items c.in-Ok-data.data.items parts record {
+    implemented c.args.checked c.in-Ok.code.bytes.items c.in-Ok-data.data.items parts record {
       lines = c.in_ok-labelled.labelled.lines;
       are = are;
       words = placed.words;
@@ -51,5 +50,5 @@ returns-in-Ok-data-clause-implemented c = λ parts is_code is_statics from_first
 pub unreachable-requires : goal.unreachable-requires
 unreachable-requires c =
     let large = c.in-Err-TooLarge-data.ensures.too_large.0 (ap (λ (f : LayoutFault). Err f) c.in-Err-TooLarge-data.field-0-is) in
-    data_fit c.args.checked.now c.in_ok-core.ensures.accepted c.in_ok-core.ensures.few
+    data_fit c.args.checked c.in_ok-core.ensures.accepted c.in_ok-core.ensures.few
     (subst (λ (p : core.Program). data_limit < length (data_bytes (data_offsets p.data_objects) 0 p.data_objects)) c.in_ok-core.ensures.code large)

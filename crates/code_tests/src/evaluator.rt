@@ -5,6 +5,7 @@
 // statements within them (evaluator/programs.rt). Behind a program stand its cases, a line each (evaluator/endings.rt).
 
 mod arrays;
+mod checks;
 mod endings;
 mod fuel;
 mod keys;

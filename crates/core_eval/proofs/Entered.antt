@@ -1,15 +1,9 @@
 -- From what the entry of a block, and of a body that a break ends, answers to a move.
 use Rattle.std.proofs.Common.{◌≡◌, ◌+◌, List, ◌∷◌, map, Result, Ok, Err, IfOk, OnOk, refl, ap, ◌∙◌, sym, subst}
-use Rattle.std.specs.declared.vec.Vec.{Vec}
-use Rattle.std.specs.declared.alloc.Global.{Global}
 use Rattle.core_meaning.specs.Core as core
 use Rattle.core_meaning.specs.Core.{Statements}
 use Rattle.cyc_core.specs.declared.layout.Local.{Local}
-use Rattle.cyc_core.specs.declared.statement.Statement as code
-use Rattle.cyc_core.specs.declared.statement.Statement.TheVariants as form
-use Rattle.cyc_core.specs.declared.statement.Statement.TheOpen.{Statement-F}
-use Rattle.cyc_core.specs.declared.statement.Statement.TheFolds.{fold-roll-Statement}
-use Rattle.cyc_core.specs.Trees.{local_tree, statement_step, statement_tree, body_tree}
+use Rattle.cyc_core.specs.Trees.{local_tree}
 use Rattle.core_eval.specs.declared.frame.Frame.{Frame}
 use Rattle.core_eval.specs.declared.memory.Memory.{Memory}
 use Rattle.core_eval.specs.declared.pending.Due.{Due}
@@ -26,11 +20,6 @@ use Rattle.core_eval.specs.Costs.{IsMove}
 use Rattle.core_eval.proofs.Known.{known_same}
 use Rattle.core_eval.proofs.EnterMoves.{breakable_enters}
 use Rattle.core_eval.proofs.BlockMoves.{inside, block_enters}
-
-pub block_tree : (locals : Vec Local Global) (body : Vec code.Statement Global)
-    → statement_tree (form.Block locals body) ≡ core.Block (map local_tree locals.items) (body_tree body.items)
-block_tree locals body = ap statement_tree (sym (form.rolls-Block locals body))
-    ∙ fold-roll-Statement core.Statement statement_step (Statement-F.Block locals body)
 
 pub block_answer : {E : Type 0} (r : Result Due E) (f : Frame) (m m' : Memory) (s : core.Statement) (locals locals' : List Local)
     (body body' : Statements) (ws ws' : List Wait)
@@ -58,9 +47,6 @@ block_answer (Ok due) f m m' s locals locals' body body' ws ws' is same_locals s
 block_answer (Err e) f m m' s locals locals' body body' ws ws' is same_locals same_body next waits blocks entered owns called globals regions long_blocks = tt
 
 -- ---- a body that a break ends
-
-pub breakable_tree : (body : Vec code.Statement Global) → statement_tree (form.Leave body) ≡ core.Leave (body_tree body.items)
-breakable_tree body = ap statement_tree (sym (form.rolls-Leave body)) ∙ fold-roll-Statement core.Statement statement_step (Statement-F.Leave body)
 
 pub breakable_answer : {E : Type 0} (r : Result Due E) (known : standing.Known) (s : core.Statement) (body body' : Statements) (ws ws' : List Wait)
     → s ≡ core.Leave body → body' ≡ body → IfOk r (λ due. next_of due ≡ Go (Follow body')) → OnOk r (ws' ≡ Breakable ∷ ws)

@@ -28,6 +28,7 @@ mod Answered
 mod RegionAnswers
 mod EnterMoves
 mod Follows
+mod CheckMoves
 mod BlockMoves
 mod LeaveMoves
 mod Returning

@@ -1,13 +1,15 @@
 // The first move of each statement.
 
-ghost use Rattle.std.specs.Prelude.{◌≡◌, ◌∷◌, ◌+◌, IfOk, OnOk, map, true};
+ghost use Rattle.std.specs.Prelude.{◌≡◌, ◌∷◌, ◌+◌, List, IfOk, OnOk, map, true};
+ghost use Rattle.core_meaning.specs.Core.{If, NoStatements};
 ghost use Rattle.core_meaning.specs.Meaning.{values_of};
 ghost use Rattle.core_meaning.specs.Steps.{Falls};
-ghost use Rattle.cyc_core.specs.Trees.{body_tree, optional_tree, statement_tree, temporary_tree};
+ghost use Rattle.cyc_core.specs.Trees.{body_tree, failure_body, optional_tree, statement_tree, temporary_tree};
+ghost use Rattle.core_eval.specs.declared.memory.Memory.{Memory as TheMemory};
 ghost use Rattle.core_eval.specs.Values.{AreRead, bound_value, content_of, temp_of, truth_of};
 ghost use Rattle.core_eval.specs.Elements.{blank_object};
 ghost use Rattle.core_eval.specs.Blocks.{activation_of};
-ghost use Rattle.core_eval.specs.Pendings.{Block, Breakable, Execute, Follow, Go, Leave, Test, next_of, optional_value, wait_of, waits_behind, waits_of};
+ghost use Rattle.core_eval.specs.Pendings.{Block, Breakable, Execute, Follow, Go, Leave, Test, Wait, next_of, optional_value, wait_of, waits_behind, waits_of};
 ghost use Rattle.core_eval.specs.Standing.{known_of};
 ghost use Rattle.core_eval.specs.Costs.{IsMove};
 
@@ -23,7 +25,7 @@ use crate::take::leave_function;
 use crate::value::Value;
 use crate::whole::{clear, copy};
 use crate::words::operate_on_words;
-use cyc_core::{Local, Statement, Temporary, Words};
+use cyc_core::{Failure, Local, Origin, Statement, Temporary, Words};
 use std::alloc::{AllocError, Global};
 
 /// Puts what waits on top of the stack.
@@ -174,6 +176,34 @@ fn enter_breakable<'p>(
     follow(stack, Pending::Breakable, body)
 }
 
+/// What a failed check raises.
+fn fail<'p>(frame: &mut Frame, failure: Failure, origin: Origin) -> Due<'p>
+    ensures { (ws : List Wait) (memory : TheMemory) → IsMove (Follow (failure_body failure)) ws (known_of frame.old memory)
+        (next_of result) ws (known_of frame.new memory) }
+{
+    frame.at = origin;
+    match failure {
+        Failure::Always(kind) => Due::Raised(kind),
+        Failure::ByTest(test, first, second) => match truth(frame.temp(test)) {
+            Some(true) => Due::Raised(first),
+            Some(false) => Due::Raised(second),
+            None => Due::Wrong,
+        },
+    }
+}
+
+/// The first move of a check: it is over where its test holds, and else its exception is raised.
+fn check<'p>(frame: &mut Frame, test: Temporary, failure: Failure, origin: Origin) -> Due<'p>
+    ensures { (ws : List Wait) (memory : TheMemory) → IsMove (Execute (If test.0 NoStatements (failure_body failure))) ws (known_of frame.old memory)
+        (next_of result) ws (known_of frame.new memory) }
+{
+    match truth(frame.temp(test)) {
+        Some(true) => Due::Go(Now::Leave(Flow::Falls)),
+        Some(false) => fail(frame, failure, origin),
+        None => Due::Wrong,
+    }
+}
+
 /// The first move of a statement. Fails only where an operation does, no host memory is left, 2^64 - 1 blocks were entered, there would be a
 /// cell with a number over 2^64 - 1, an object would have a cell behind 2^32 - 1 bytes, a pointer or a handle would be a count or an index,
 /// or a cell would be copied or cleared that may have a pointer in another part.
@@ -207,19 +237,21 @@ pub fn enter_statement<'p>(
         Statement::UniqueAlloc(to, layout) => {
             allocate_unique(alloc, frame, memory, *to, layout.as_ref())
         }
-        Statement::If(test, these, those) => match truth(frame.temp(*test)) {
-            Some(is_true) => Ok(Due::Go(Now::Follow(if is_true { these } else { those }))),
+        Statement::Check(test, failure, origin) => Ok(check(frame, *test, *failure, *origin)),
+        Statement::If(test, both) => match truth(frame.temp(*test)) {
+            Some(true) => Ok(Due::Go(Now::Follow(&both.0))),
+            Some(false) => Ok(Due::Go(Now::Follow(&both.1))),
             None => Ok(Due::Wrong),
         },
-        Statement::While(test, flag, body) => enter_loop(test, *flag, body, stack),
-        Statement::Block(locals, body) => enter_block(alloc, locals, body, stack, memory),
+        Statement::While(flag, both) => enter_loop(&both.0, *flag, &both.1, stack),
+        Statement::Block(block) => enter_block(alloc, &block.0, &block.1, stack, memory),
         Statement::Leave(body) => enter_breakable(body, stack),
         Statement::Break => Ok(Due::Go(Now::Leave(Flow::Breaks))),
         Statement::Continue => Ok(Due::Go(Now::Leave(Flow::Continues))),
-        Statement::Call(result, function, arguments, origin) => {
-            frame.at = *origin;
-            let values = arguments_of(alloc, frame, &mut memory.spare, arguments)?;
-            Ok(Due::Call(*result, *function, values))
+        Statement::Call(call) => {
+            frame.at = call.origin;
+            let values = arguments_of(alloc, frame, &mut memory.spare, &call.arguments)?;
+            Ok(Due::Call(call.result, call.function, values))
         }
         Statement::Return(words) => {
             let values = returned(frame, *words)?;

@@ -19,6 +19,9 @@ use Rattle.cyc_core.specs.declared.operation.Binary.{Binary}
 use Rattle.cyc_core.specs.declared.operation.Binary.TheVariants as binary
 use Rattle.cyc_core.specs.declared.operation.Operation.{Operation}
 use Rattle.cyc_core.specs.declared.operation.Operation.TheVariants as operation
+use Rattle.cyc_words.specs.declared.faults.Kind.{Kind}
+use Rattle.cyc_core.specs.declared.statement.Failure.{Failure}
+use Rattle.cyc_core.specs.declared.statement.Failure.TheVariants as failure
 use Rattle.cyc_core.specs.declared.statement.Statement as code
 use Rattle.cyc_core.specs.declared.statement.Statement.TheOpen.{Statement-F}
 use Rattle.cyc_core.specs.declared.statement.Statement.TheFolds.{fold-Statement}
@@ -178,19 +181,29 @@ abbrev pub statements_of : List core.Statement → core.Statements
 statements_of [] = core.NoStatements
 statements_of (s ∷ ss) = core.MoreStatements s (statements_of ss)
 
+-- one statement alone, which raises an exception
+abbrev pub raise_tree : Kind → core.Statements
+raise_tree kind = core.MoreStatements (core.Raise kind) core.NoStatements
+
+-- what raises the exception of a failed check
+abbrev pub failure_body : Failure → core.Statements
+failure_body (failure.Always kind) = raise_tree kind
+failure_body (failure.ByTest t first second) = core.MoreStatements (core.If t.0 (raise_tree first) (raise_tree second)) core.NoStatements
+
 abbrev pub statement_step : Statement-F core.Statement → core.Statement
 statement_step (Statement-F.Do o) = core.Do (operation_tree o)
 statement_step (Statement-F.Copy to from l) = core.Do (core.Copy to.0 from.0 (layout_tree l.value))
 statement_step (Statement-F.Clear p l count) = core.Do (core.Clear p.0 (layout_tree l.value) count)
 statement_step (Statement-F.RegionAlloc t h n l) = core.Do (core.RegionAlloc t.0 h.0 n.0 (layout_tree l.value))
 statement_step (Statement-F.UniqueAlloc t l) = core.Do (core.UniqueAlloc t.0 (layout_tree l.value))
-statement_step (Statement-F.If t these those) = core.If t.0 (statements_of these.items) (statements_of those.items)
-statement_step (Statement-F.While test t body) = core.While (statements_of test.items) t.0 (statements_of body.items)
-statement_step (Statement-F.Block locals body) = core.Block (map local_tree locals.items) (statements_of body.items)
+statement_step (Statement-F.Check t f at) = core.If t.0 core.NoStatements (failure_body f)
+statement_step (Statement-F.If t both) = core.If t.0 (statements_of both.value.0.items) (statements_of both.value.1.items)
+statement_step (Statement-F.While t both) = core.While (statements_of both.value.0.items) t.0 (statements_of both.value.1.items)
+statement_step (Statement-F.Block block) = core.Block (map local_tree block.value.0.items) (statements_of block.value.1.items)
 statement_step (Statement-F.Leave body) = core.Leave (statements_of body.items)
 statement_step Statement-F.Break = core.Break
 statement_step Statement-F.Continue = core.Continue
-statement_step (Statement-F.Call result f arguments at) = core.Call (optional_tree result) f (map temporary_tree arguments.items)
+statement_step (Statement-F.Call call) = core.Call (optional_tree call.value.result) call.value.function (map temporary_tree call.value.arguments.items)
 statement_step (Statement-F.Return value) = core.Return (optional_tree value)
 statement_step (Statement-F.Raise kind at) = core.Raise kind
 

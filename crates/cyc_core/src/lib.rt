@@ -14,4 +14,4 @@ pub use layout::{CellLayout, Layout, Local};
 pub use operation::{Binary, Cell, Distance, Operation, Temporary, Variable, Width, Words};
 pub use origins::Origins;
 pub use program::{Datum, Function, Program};
-pub use statement::{Origin, Statement};
+pub use statement::{Call, Failure, Origin, Statement};

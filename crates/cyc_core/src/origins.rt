@@ -2,10 +2,10 @@
 
 ghost use Rattle.std.specs.Prelude.{◌≡◌, ◌+◌, IfOk, OnOk, length, map};
 ghost use Rattle.cyc_core.specs.Counts.{all_calls, all_raises, calls_in, calls_of, raises_in, raises_of, statement_calls, statement_raises};
-ghost use Rattle.cyc_core.specs.Trees.{body_tree, function_tree, program_tree, statement_tree};
+ghost use Rattle.cyc_core.specs.Trees.{body_tree, failure_body, function_tree, program_tree, statement_tree};
 
 use crate::program::{Function, Program};
-use crate::statement::{Origin, Statement};
+use crate::statement::{Failure, Origin, Statement};
 use std::alloc::{AllocError, Global};
 
 /// The origins of a program's raises, and those of its calls, each in the order in which the statements stand: function by function and statement by
@@ -41,6 +41,18 @@ impl Origins {
         Ok(())
     }
 
+    /// Appends the origin of a failed check for each exception that it may raise.
+    fn add_failure(&mut self, failure: Failure, origin: Origin) -> Result<(), AllocError>
+        ensures raises { OnOk result (length self.new.raises.items ≡ length self.old.raises.items + raises_of (failure_body failure)) }
+        ensures calls { OnOk result (length self.new.calls.items ≡ length self.old.calls.items + calls_of (failure_body failure)) }
+    {
+        self.raises.push(origin)?;
+        if let Failure::ByTest(..) = failure {
+            self.raises.push(origin)?;
+        }
+        Ok(())
+    }
+
     /// Appends those of a statement.
     #[cycle(origins)]
     fn add(&mut self, statement: &Statement) -> Result<(), AllocError>
@@ -48,13 +60,15 @@ impl Origins {
         ensures calls { OnOk result (length self.new.calls.items ≡ length self.old.calls.items + statement_calls (statement_tree statement.now)) }
     {
         match statement {
-            Statement::If(_, first, second) | Statement::While(first, _, second) => {
-                self.add_all(first)?;
-                self.add_all(second)
+            Statement::Check(_, failure, origin) => self.add_failure(*failure, *origin),
+            Statement::If(_, both) | Statement::While(_, both) => {
+                self.add_all(&both.0)?;
+                self.add_all(&both.1)
             }
-            Statement::Block(_, body) | Statement::Leave(body) => self.add_all(body),
-            Statement::Call(_, _, _, origin) => {
-                self.calls.push(*origin)?;
+            Statement::Block(block) => self.add_all(&block.1),
+            Statement::Leave(body) => self.add_all(body),
+            Statement::Call(call) => {
+                self.calls.push(call.origin)?;
                 Ok(())
             }
             Statement::Raise(_, origin) => {

@@ -9,7 +9,28 @@ use std::rc::Rc;
 #[derive(Clone, Copy)]
 pub struct Origin(pub u32);
 
-/// A statement of a function.
+/// What a failed check raises.
+#[derive(Clone, Copy)]
+pub enum Failure {
+    /// One exception.
+    Always(Kind),
+    /// The first exception where a temporary isn't 0 or NULL, and else the second.
+    ByTest(Temporary, Kind, Kind),
+}
+
+/// A call of the function with a number.
+#[derive(Drop)]
+pub struct Call {
+    /// The temporaries that get its result, if it has one.
+    pub result: Option<Words>,
+    /// The number of the function.
+    pub function: usize,
+    /// The temporaries whose words are passed.
+    pub arguments: Vec<Temporary>,
+    pub origin: Origin,
+}
+
+/// A statement of a function. What takes much space is in a box, so that a list of statements takes less.
 #[cycle(statement)]
 #[derive(Drop)]
 pub enum Statement {
@@ -24,20 +45,22 @@ pub enum Statement {
     RegionAlloc(Temporary, Temporary, Temporary, Rc<Layout>),
     /// The temporary gets a pointer to a new unique block, which alone is in a region of its own: an object of this layout, which holds nothing.
     UniqueAlloc(Temporary, Rc<Layout>),
+    /// Where the temporary is 0 or NULL, the program ends with an exception.
+    Check(Temporary, Failure, Origin),
     /// Where the temporary is neither 0 nor NULL, the first statements are done, else the second.
-    If(Temporary, Vec<Statement>, Vec<Statement>),
+    If(Temporary, Box<(Vec<Statement>, Vec<Statement>)>),
     /// The first statements are done, and where the temporary is neither 0 nor NULL then, the second and the loop again.
-    While(Vec<Statement>, Temporary, Vec<Statement>),
+    While(Temporary, Box<(Vec<Statement>, Vec<Statement>)>),
     /// The statements are done with these locals, which hold nothing at first.
-    Block(Vec<Local>, Vec<Statement>),
+    Block(Box<(Vec<Local>, Vec<Statement>)>),
     /// The statements are done, and a `Break` among them ends them; a `Continue` is one of the loop around.
     Leave(Vec<Statement>),
     /// The innermost loop, or `Leave`, is left.
     Break,
     /// The innermost loop goes on with its test.
     Continue,
-    /// The function with this number is called with what the last temporaries hold, and the first ones get its result, if it has one.
-    Call(Option<Words>, usize, Vec<Temporary>, Origin),
+    /// A function is called with what temporaries hold, and others get its result, if it has one.
+    Call(Box<Call>),
     /// The function returns, with what the temporaries hold if it has a result.
     Return(Option<Words>),
     /// The program ends with this exception.

@@ -2,7 +2,7 @@
 
 ghost use Rattle.std.specs.Prelude.{◌≡◌, [], ◌∷◌, true, map, Ok};
 ghost use Rattle.core_meaning.specs.Core as core;
-ghost use Rattle.cyc_core.specs.Trees.{local_tree, operation_tree, statements_of, statement_tree};
+ghost use Rattle.cyc_core.specs.Trees.{failure_body, local_tree, operation_tree, statements_of, statement_tree};
 ghost use Rattle.source_lowering.specs.Lowered.{all_of};
 ghost use Rattle.source_lowering.specs.Pieces.{raised};
 ghost use Rattle.lower_checks.specs.Views.{shape_tree};
@@ -10,7 +10,7 @@ ghost use Rattle.lower_checks.specs.Writing.{Emits, IsBegun, IsEnded, IsSound, S
 
 use crate::shape::Shape;
 use crate::vectors::{append, space_for_one};
-use cyc_core::{Local, Operation, Origin, Statement, Temporary};
+use cyc_core::{Failure, Local, Operation, Origin, Statement, Temporary};
 use cyc_words::Kind;
 use std::alloc::{AllocError, Global};
 use std::mem;
@@ -107,7 +107,10 @@ impl<'p> Body<'p> {
         ensures { Emits self.old self.new
             (core.If condition.0 (statements_of (map statement_tree these.items)) (statements_of (map statement_tree those.items)) ∷ []) }
     {
-        self.emit(Statement::If(condition, these, those));
+        match Box::new(self.alloc, (these, those)) {
+            Ok(both) => self.emit(Statement::If(condition, both)),
+            Err(_) => self.failed = true,
+        }
     }
 
     /// Appends a choice.
@@ -123,7 +126,10 @@ impl<'p> Body<'p> {
         ensures { Emits self.old self.new
             (core.While (statements_of (map statement_tree test.items)) condition.0 (statements_of (map statement_tree turn.items)) ∷ []) }
     {
-        self.emit(Statement::While(test, condition, turn));
+        match Box::new(self.alloc, (test, turn)) {
+            Ok(both) => self.emit(Statement::While(condition, both)),
+            Err(_) => self.failed = true,
+        }
     }
 
     /// Appends a loop.
@@ -138,7 +144,10 @@ impl<'p> Body<'p> {
     fn within(&mut self, locals: Vec<Local>, inside: Vec<Statement>)
         ensures { Emits self.old self.new (core.Block (map local_tree locals.items) (statements_of (map statement_tree inside.items)) ∷ []) }
     {
-        self.emit(Statement::Block(locals, inside));
+        match Box::new(self.alloc, (locals, inside)) {
+            Ok(block) => self.emit(Statement::Block(block)),
+            Err(_) => self.failed = true,
+        }
     }
 
     /// Appends a block with these locals.
@@ -189,12 +198,18 @@ impl<'p> Body<'p> {
         number
     }
 
+    /// Appends what raises the exception of a failure where a temporary has NULL, or 0.
+    pub fn check(&mut self, condition: Temporary, failure: Failure, at: Origin)
+        ensures { Emits self.old self.new (core.If condition.0 core.NoStatements (failure_body failure) ∷ []) }
+    {
+        self.emit(Statement::Check(condition, failure, at));
+    }
+
     /// Appends what raises an exception where a temporary has NULL, or 0.
     pub fn raise_unless(&mut self, condition: Temporary, kind: Kind, at: Origin)
         ensures { Emits self.old self.new (core.If condition.0 core.NoStatements (raised kind) ∷ []) }
     {
-        let raising = self.raising(kind, at);
-        self.branch(condition, Vec::new(self.alloc), raising);
+        self.check(condition, Failure::Always(kind), at);
     }
 
     /// The shape that is found, or any other where that failed.

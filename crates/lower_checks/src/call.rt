@@ -16,7 +16,7 @@ use crate::names::behind;
 use crate::shape::Shape;
 use crate::table::{Callee, Table};
 use crate::vectors::append;
-use cyc_core::{Operation, Origin, Statement, Temporary};
+use cyc_core::{Call, Operation, Origin, Statement, Temporary};
 use cyc_tree::Member;
 use std::alloc::{AllocError, Global};
 
@@ -82,8 +82,14 @@ fn passing(
         (λ call. statement_tree call ∷ [] ≡ function_call (Some (routine_of (function_tree callee.entry.function.now))) callee.entry.number words to.0) }
 {
     let result = Shape::of(&callee.function.result).result_in(to);
-    let passed = passed_from(alloc, words, to)?;
-    Ok(Statement::Call(result, callee.number, passed, at))
+    let arguments = passed_from(alloc, words, to)?;
+    let call = Call {
+        result,
+        function: callee.number,
+        arguments,
+        origin: at,
+    };
+    Ok(Statement::Call(Box::new(alloc, call)?))
 }
 
 /// Appends the call of a function that is found, to which this number of words is passed, from this temporary on.

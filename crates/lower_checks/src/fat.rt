@@ -1,9 +1,9 @@
 // Fat pointers: a pointer to the first element, how many there are, and an index.
 
-ghost use Rattle.std.specs.Prelude.{◌+◌, ◌∷◌, [], length, map};
+ghost use Rattle.std.specs.Prelude.{◌+◌, ◌∷◌, [], length};
 ghost use Rattle.core_meaning.specs.Core as core;
 ghost use Rattle.cyc_words.specs.declared.faults.Kind.TheVariants.{ArrayBounds};
-ghost use Rattle.cyc_core.specs.Trees.{statement_tree};
+ghost use Rattle.cyc_core.specs.Trees.{failure_body};
 ghost use Rattle.source_meaning.specs.Programs.{world_of};
 ghost use Rattle.source_lowering.specs.Lowered.{all_of, count_code, fat_code, reach_code, to_fat_code, to_thin_code};
 ghost use Rattle.source_lowering.specs.Pieces.{bounds_code, element_code, raised, reached_code};
@@ -21,7 +21,7 @@ use crate::shape::{Reach, Shape};
 use crate::sizes::{count, extent};
 use crate::table::Table;
 use crate::values::{lower_check, lower_null};
-use cyc_core::{Binary, Operation, Origin, Statement, Temporary};
+use cyc_core::{Binary, Failure, Operation, Origin, Statement, Temporary};
 use cyc_tree::Operator;
 use cyc_words::Kind;
 
@@ -55,22 +55,23 @@ pub fn lower_moved(
 }
 
 /// Appends what follows the comparison of a fat pointer's index with its count, in the temporary of the count: where the index isn't
-/// below it, something else, and else a temporary gets the element.
+/// below it, what a failure raises, and else a temporary gets the element.
 fn lower_reached(
     program: &Table<'_>,
     element: &Shape<'_>,
     body: &mut Body<'_>,
     to: Temporary,
     pointer: Temporary,
-    otherwise: Vec<Statement>,
+    failure: Failure,
+    at: Origin,
 )
     requires room { HasRoom pointer.0 2 }
     ensures { Emits body.old body.new
-        (reached_code (world_of program.now) (shape_tree element.now) to.0 pointer.0 (all_of (map statement_tree otherwise.items))) }
+        (reached_code (world_of program.now) (shape_tree element.now) to.0 pointer.0 (failure_body failure)) }
 {
     let below = behind(pointer, 1);
     let index = behind(pointer, 2);
-    body.branch(below, Vec::new(body.alloc), otherwise);
+    body.check(below, failure, at);
     lower_moved(program, element, body, to, pointer, index);
 }
 
@@ -98,12 +99,8 @@ pub fn lower_element(
     ensures { Emits body.old body.new (element_code (world_of program.now) (shape_tree element.now) to.0 pointer.0) }
 {
     lower_below(body, pointer);
-    let bounds = body.raising(Kind::ArrayBounds, at);
-    let null = body.raising(Kind::NullException, at);
-    let outer = body.begin();
-    body.branch(pointer, bounds, null);
-    let otherwise = body.end(outer);
-    lower_reached(program, element, body, to, pointer, otherwise);
+    let failure = Failure::ByTest(pointer, Kind::ArrayBounds, Kind::NullException);
+    lower_reached(program, element, body, to, pointer, failure, at);
 }
 
 /// Appends what leaves a pointer to what a pointer of a shape leads to in its temporary; raises where it leads to nothing.
@@ -234,8 +231,8 @@ fn lower_one(
     ensures { Emits body.old body.new (one_code (world_of program.now) (shape_tree element.now) pointer.0) }
 {
     lower_below(body, pointer);
-    let bounds = body.raising(Kind::ArrayBounds, at);
-    lower_reached(program, element, body, pointer, pointer, bounds);
+    let failure = Failure::Always(Kind::ArrayBounds);
+    lower_reached(program, element, body, pointer, pointer, failure, at);
 }
 
 /// Appends the same; raises also where fewer elements than this number are left from there on.

@@ -1,10 +1,10 @@
 // How many temporaries code uses, and how many words it passes.
 
 ghost use Rattle.std.specs.Prelude.{◌≡◌, suc, max, map};
-ghost use Rattle.cyc_core.specs.Trees.{temporary_tree, optional_tree, operation_tree, statement_tree, body_tree};
+ghost use Rattle.cyc_core.specs.Trees.{temporary_tree, optional_tree, operation_tree, failure_body, statement_tree, body_tree};
 ghost use Rattle.source_lowering.specs.Programs.{last_of, operation_temporaries, statement_temporaries, temporaries_of, statement_passes, passed_by};
 
-use cyc_core::{Operation, Statement, Temporary, Words};
+use cyc_core::{Failure, Operation, Statement, Temporary, Words};
 
 /// How many temporaries there are up to one.
 fn up_to(temporary: Temporary) -> u64
@@ -69,6 +69,16 @@ fn of_operation(operation: Operation) -> u64
     }
 }
 
+/// How many temporaries what a failure raises uses.
+fn of_failure(failure: Failure) -> u64
+    ensures { result ≡ temporaries_of (failure_body failure) }
+{
+    match failure {
+        Failure::Always(_) => 0,
+        Failure::ByTest(t, _, _) => up_to(t),
+    }
+}
+
 /// How many temporaries a statement uses.
 #[cycle(temporaries)]
 fn of_statement(statement: &Statement) -> u64
@@ -76,13 +86,15 @@ fn of_statement(statement: &Statement) -> u64
 {
     match statement {
         Statement::Do(operation) => of_operation(*operation),
-        Statement::If(t, these, those) => {
-            u64::max(up_to(*t), u64::max(temporaries(these), temporaries(those)))
+        Statement::Check(t, failure, _) => u64::max(up_to(*t), of_failure(*failure)),
+        Statement::If(t, both) | Statement::While(t, both) => {
+            u64::max(
+                up_to(*t),
+                u64::max(temporaries(&both.0), temporaries(&both.1)),
+            )
         }
-        Statement::While(test, t, body) => {
-            u64::max(up_to(*t), u64::max(temporaries(test), temporaries(body)))
-        }
-        Statement::Block(_, body) | Statement::Leave(body) => temporaries(body),
+        Statement::Block(block) => temporaries(&block.1),
+        Statement::Leave(body) => temporaries(body),
         Statement::Copy(to, from, _) => u64::max(up_to(*to), up_to(*from)),
         Statement::Clear(pointer, _, _) => up_to(*pointer),
         Statement::UniqueAlloc(to, _) => up_to(*to),
@@ -90,9 +102,7 @@ fn of_statement(statement: &Statement) -> u64
             u64::max(up_to(*to), u64::max(up_to(*handle), up_to(*count)))
         }
         Statement::Break | Statement::Continue | Statement::Raise(_, _) => 0,
-        Statement::Call(result, _, arguments, _) => {
-            u64::max(up_to_value(*result), last(arguments))
-        }
+        Statement::Call(call) => u64::max(up_to_value(call.result), last(&call.arguments)),
         Statement::Return(value) => up_to_value(*value),
     }
 }
@@ -115,15 +125,18 @@ fn passed_in(statement: &Statement) -> usize
     ensures { result ≡ statement_passes (statement_tree statement.now) }
 {
     match statement {
-        Statement::If(_, these, those) => usize::max(passed(these), passed(those)),
-        Statement::While(test, _, body) => usize::max(passed(test), passed(body)),
-        Statement::Block(_, body) | Statement::Leave(body) => passed(body),
-        Statement::Call(_, _, arguments, _) => arguments.len(),
+        Statement::If(_, both) | Statement::While(_, both) => {
+            usize::max(passed(&both.0), passed(&both.1))
+        }
+        Statement::Block(block) => passed(&block.1),
+        Statement::Leave(body) => passed(body),
+        Statement::Call(call) => call.arguments.len(),
         Statement::Do(_)
         | Statement::Copy(..)
         | Statement::Clear(..)
         | Statement::RegionAlloc(..)
         | Statement::UniqueAlloc(..)
+        | Statement::Check(..)
         | Statement::Break
         | Statement::Continue
         | Statement::Return(_)

@@ -15,20 +15,11 @@ use crate::emit::{FIRST, put, put_environment, put_lines};
 use crate::operands::put_test;
 use crate::place::Place;
 use core_lines::{Comparison, Line};
-use cyc_core::{Statement, Temporary};
+use cyc_core::{Failure, Statement, Temporary};
 use cyc_words::Kind;
 use rv32_isa::{BranchOffset, Instr, Register, Signed12};
 use rv32_machine::RAISE;
 use std::alloc::AllocError;
-
-/// What a failed check raises.
-#[derive(Clone, Copy)]
-pub enum Failure {
-    /// One exception.
-    Always(Kind),
-    /// The first exception where a temporary isn't 0, and else the second.
-    ByTest(Temporary, Kind, Kind),
-}
 
 /// The exception that a statement raises, if it does nothing else.
 fn kind_of(statement: &Statement) -> Option<Kind>
@@ -69,9 +60,7 @@ fn failure_of(statement: &Statement) -> Option<Failure>
     ensures { option_map failure_tree result ≡ failure_of (statement_tree statement.now) }
 {
     match statement {
-        Statement::If(test, these, those) => {
-            either_failure(*test, kind_in(these), kind_in(those))
-        }
+        Statement::If(test, both) => either_failure(*test, kind_in(&both.0), kind_in(&both.1)),
         Statement::Raise(kind, _) => Some(Failure::Always(*kind)),
         _ => None,
     }

@@ -14,8 +14,8 @@ pub fn can_complete(statement: &Statement) -> bool
     ensures { result ≡ can_complete (statement_tree statement.now) }
 {
     match statement {
-        Statement::If(_, these, those) => can_complete_all(these) || can_complete_all(those),
-        Statement::Block(_, body) => can_complete_all(body),
+        Statement::If(_, both) => can_complete_all(&both.0) || can_complete_all(&both.1),
+        Statement::Block(block) => can_complete_all(&block.1),
         Statement::Break | Statement::Continue | Statement::Return(_) | Statement::Raise(_, _) => {
             false
         }
@@ -43,7 +43,7 @@ fn ends_in_return(statement: &Statement) -> bool
 {
     match statement {
         Statement::Return(_) => true,
-        Statement::Block(_, body) => ends_in_return_all(body),
+        Statement::Block(block) => ends_in_return_all(&block.1),
         _ => false,
     }
 }

@@ -147,12 +147,13 @@ fn highest(
     ensures names { OnOk result (drop named.new homes.now ≡ names_after (statement_tree statement.now) (drop named.old homes.now)) }
 {
     match statement {
-        Statement::If(_, these, those) | Statement::While(these, _, those) => {
-            let first = highest_of(low, homes, named, these)?;
-            let second = highest_of(low, homes, named, those)?;
+        Statement::Check(..) => Ok(low),
+        Statement::If(_, both) | Statement::While(_, both) => {
+            let first = highest_of(low, homes, named, &both.0)?;
+            let second = highest_of(low, homes, named, &both.1)?;
             Ok(greater(first, second))
         }
-        Statement::Block(locals, body) => highest_in(low, homes, named, locals, body),
+        Statement::Block(block) => highest_in(low, homes, named, &block.0, &block.1),
         Statement::Leave(body) => highest_of(low, homes, named, body),
         _ => Ok(low),
     }

@@ -13,7 +13,7 @@ ghost use Rattle.rv32_select.specs.Places.{surroundings};
 use crate::flags::{copied, either, set_flag};
 use crate::joining::{Exits, joined, loop_head};
 use crate::live_leaves::{
-    live_call, live_end, live_jump, live_operation, live_request, live_return,
+    live_call, live_check, live_end, live_jump, live_operation, live_request, live_return,
 };
 use crate::loads::{flag_all, flag_some, if_unknown, pass};
 use crate::place::Place;
@@ -58,19 +58,19 @@ fn live_statement(
             live_request(saves, &place.held, live, *to, *handle, *count)
         }
         Statement::UniqueAlloc(to, _) => settle(saves, live, *to),
-        Statement::If(test, these, those) => {
-            live_if(saves, place, live, exits, *test, these, those)
+        Statement::Check(test, failure, _) => {
+            live_check(live, &place.held, *test, *failure);
+            Ok(())
         }
-        Statement::While(test, flag, body) => {
-            live_while(saves, place, live, exits, test, *flag, body)
+        Statement::If(test, both) => { live_if(saves, place, live, exits, *test, &both.0, &both.1) }
+        Statement::While(flag, both) => {
+            live_while(saves, place, live, exits, &both.0, *flag, &both.1)
         }
-        Statement::Block(locals, body) => live_block(saves, place, live, exits, locals, body),
+        Statement::Block(block) => live_block(saves, place, live, exits, &block.0, &block.1),
         Statement::Leave(body) => live_leavable(saves, place, live, exits.again, body),
         Statement::Break => live_jump(live, exits.out),
         Statement::Continue => live_jump(live, exits.again),
-        Statement::Call(results, _, arguments, _) => {
-            live_call(saves, &place.held, live, *results, arguments)
-        }
+        Statement::Call(call) => live_call(saves, &place.held, live, call.result, &call.arguments),
         Statement::Return(value) => live_return(place, live, *value),
         Statement::Raise(..) => live_end(place, live),
     }
@@ -99,7 +99,7 @@ fn live_before(
 
 /// Goes back over a choice's first statements, and flags what its second statements load, which only raise an exception.
 #[cycle(live)]
-fn live_check(
+fn live_raising(
     saves: &mut Vec<bool>,
     place: &mut Place,
     live: &mut Vec<bool>,
@@ -178,7 +178,7 @@ fn live_ways(
     ensures homes { OnOk result (place.new.homes.items ≡ place.old.homes.items) }
 {
     if raises_only(those) {
-        live_check(saves, place, live, exits, these, those)?;
+        live_raising(saves, place, live, exits, these, those)?;
     } else {
         live_both(saves, place, live, exits, these, those)?;
     }

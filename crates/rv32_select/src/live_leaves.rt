@@ -5,14 +5,17 @@ ghost use Rattle.core_lines.specs.Loaded.{unknown_in, loads_of_operation, loads_
 ghost use Rattle.core_lines.specs.Saved.{cleared, all_flagged, flags_of, results_of};
 ghost use Rattle.core_lines.specs.Selected.{holding, naming};
 ghost use Rattle.cyc_core.specs.Trees.{operation_tree, optional_tree, temporary_tree};
+ghost use Rattle.rv32_select.specs.Failures.{failure_loads};
 ghost use Rattle.rv32_select.specs.Places.{surroundings};
 
 use crate::flags::cleared;
 use crate::held::Known;
-use crate::loads::{flag_arguments, flag_both, flag_operation, flag_return};
+use crate::loads::{
+    flag_arguments, flag_both, flag_failure, flag_operation, flag_return, flag_unknown,
+};
 use crate::place::Place;
 use crate::settling::{settle, settle_operation, settle_results};
-use cyc_core::{Operation, Temporary, Words};
+use cyc_core::{Failure, Operation, Temporary, Words};
 use std::alloc::AllocError;
 
 /// Goes back over an operation.
@@ -64,6 +67,14 @@ pub fn live_call(
     settle_results(saves, live, results)?;
     flag_arguments(live, held, arguments);
     Ok(())
+}
+
+/// Goes back over a check.
+pub fn live_check(live: &mut Vec<bool>, held: &Known, test: Temporary, failure: Failure)
+    ensures { live.new.items ≡ all_flagged true (unknown_in held.now (test.0 ∷ [])) (all_flagged true (failure_loads held.now failure) live.old.items) }
+{
+    flag_failure(live, held, failure);
+    flag_unknown(live, held, test);
 }
 
 /// Goes back over what ends a function or the program: nothing is loaded behind it.

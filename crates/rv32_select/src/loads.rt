@@ -7,6 +7,7 @@ ghost use Rattle.core_lines.specs.Loaded.{unknown_in, loads_of_operation, loads_
 ghost use Rattle.core_lines.specs.Saved.{all_flagged};
 ghost use Rattle.core_lines.specs.Selected.{names_after, names_after_all, holding, naming};
 ghost use Rattle.cyc_core.specs.Trees.{operation_tree, optional_tree, temporary_tree, local_tree, statement_tree, body_tree};
+ghost use Rattle.rv32_select.specs.Failures.{failure_loads};
 ghost use Rattle.rv32_select.specs.Places.{surroundings};
 
 use crate::answers::hold_answer;
@@ -15,7 +16,7 @@ use crate::calls::hold_called;
 use crate::flags::set_flag;
 use crate::held::Known;
 use crate::place::Place;
-use cyc_core::{Local, Operation, Statement, Temporary, Words};
+use cyc_core::{Failure, Local, Operation, Statement, Temporary, Words};
 use rv32_isa::Register;
 use std::alloc::AllocError;
 
@@ -40,7 +41,7 @@ pub fn flag_some(flags: &mut Vec<bool>, temporary: Option<Temporary>)
 }
 
 /// Flags a temporary whose word isn't known to be elsewhere than in its slot.
-fn flag_unknown(flags: &mut Vec<bool>, held: &Known, temporary: Temporary)
+pub fn flag_unknown(flags: &mut Vec<bool>, held: &Known, temporary: Temporary)
     ensures { flags.new.items ≡ all_flagged true (unknown_in held.now (temporary.0 ∷ [])) flags.old.items }
 {
     flag_some(flags, if_unknown(held, temporary));
@@ -61,6 +62,24 @@ pub fn flag_arguments(flags: &mut Vec<bool>, held: &Known, arguments: &[Temporar
     'each: for argument in arguments {
         flag_unknown(flags, held, *argument);
     }
+}
+
+/// Flags what a failed check loads, beside what it tests.
+pub fn flag_failure(flags: &mut Vec<bool>, held: &Known, failure: Failure)
+    ensures { flags.new.items ≡ all_flagged true (failure_loads held.now failure) flags.old.items }
+{
+    match failure {
+        Failure::Always(_) => {}
+        Failure::ByTest(test, _, _) => flag_unknown(flags, held, test),
+    }
+}
+
+/// Flags what a check loads.
+fn flag_check(flags: &mut Vec<bool>, held: &Known, test: Temporary, failure: Failure)
+    ensures { flags.new.items ≡ all_flagged true (failure_loads held.now failure) (all_flagged true (unknown_in held.now (test.0 ∷ [])) flags.old.items) }
+{
+    flag_unknown(flags, held, test);
+    flag_failure(flags, held, failure);
 }
 
 /// Flags what an operation loads.
@@ -148,17 +167,19 @@ pub fn flag_statement(
             flag_operation(flags, &place.held, *operation);
             return hold_behind(place, *operation);
         }
-        Statement::Call(results, _, arguments, _) => {
-            flag_arguments(flags, &place.held, arguments);
-            return hold_called(place, *results);
+        Statement::Call(call) => {
+            flag_arguments(flags, &place.held, &call.arguments);
+            return hold_called(place, call.result);
         }
-        Statement::If(test, these, those) => {
-            return flag_if(flags, place, *test, these, those);
+        Statement::Check(test, failure, _) => {
+            flag_check(flags, &place.held, *test, *failure);
+            return Ok(());
         }
-        Statement::While(test, again, body) => {
-            return flag_while(flags, place, test, *again, body);
+        Statement::If(test, both) => return flag_if(flags, place, *test, &both.0, &both.1),
+        Statement::While(again, both) => {
+            return flag_while(flags, place, &both.0, *again, &both.1);
         }
-        Statement::Block(locals, body) => return flag_block(flags, place, locals, body),
+        Statement::Block(block) => return flag_block(flags, place, &block.0, &block.1),
         Statement::Leave(body) => flag_all(flags, place, body)?,
         Statement::Return(value) => flag_return(flags, place, *value),
         Statement::RegionAlloc(to, handle, count, _) => {

@@ -129,9 +129,11 @@ fn put_marks(
             mark_operation(around, *operation);
             Ok(())
         }
-        Statement::If(_, these, those) => put_both(alloc, flags, around, these, those),
-        Statement::While(test, _, body) => put_both(alloc, flags, around, test, body),
-        Statement::Block(locals, body) => put_block(alloc, flags, around, locals, body),
+        Statement::Check(..) => Ok(()),
+        Statement::If(_, both) | Statement::While(_, both) => {
+            put_both(alloc, flags, around, &both.0, &both.1)
+        }
+        Statement::Block(block) => put_block(alloc, flags, around, &block.0, &block.1),
         Statement::Leave(body) => put_all(alloc, flags, around, body),
         _ => Ok(()),
     }

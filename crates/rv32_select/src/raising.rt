@@ -13,7 +13,7 @@ fn raises(statement: &Statement) -> bool
 {
     match statement {
         Statement::Raise(..) => true,
-        Statement::If(_, these, those) => raises_only(these) && raises_only(those),
+        Statement::If(_, both) => raises_only(&both.0) && raises_only(&both.1),
         _ => false,
     }
 }

@@ -141,20 +141,23 @@ fn put_statement(
             put_unique_request(lines, place, *to, layout.as_ref())?;
             return Ok(next);
         }
-        Statement::If(test, these, those) => {
-            return put_if(lines, place, next, ways, *test, these, those);
+        Statement::Check(test, failure, _) => {
+            return put_checked(lines, place, next, *test, *failure);
         }
-        Statement::While(test, flag, body) => {
-            return put_while(lines, place, next, ways, test, *flag, body);
+        Statement::If(test, both) => {
+            return put_if(lines, place, next, ways, *test, &both.0, &both.1);
         }
-        Statement::Block(locals, body) => {
-            return put_block(lines, place, next, ways, locals, body);
+        Statement::While(flag, both) => {
+            return put_while(lines, place, next, ways, &both.0, *flag, &both.1);
+        }
+        Statement::Block(block) => {
+            return put_block(lines, place, next, ways, &block.0, &block.1);
         }
         Statement::Leave(body) => return put_leavable(lines, place, next, ways, body),
         Statement::Break => put_lines(lines, &[Line::Jump(ways.out)])?,
         Statement::Continue => put_lines(lines, &[Line::Jump(ways.again)])?,
-        Statement::Call(result, function, arguments, _) => {
-            put_called(lines, place, *result, *function, arguments)?;
+        Statement::Call(call) => {
+            put_called(lines, place, call.result, call.function, &call.arguments)?;
             return Ok(next);
         }
         Statement::Return(value) => {

@@ -66,7 +66,7 @@ fn home_put_in(homes: &[Register], parameter: Temporary, block: &Statement) -> R
     ensures { result ≡ home_put_at homes.now parameter.0 parameter.0 (in_block (statement_tree block.now)) }
 {
     match block {
-        Statement::Block(_, body) => home_put_at(homes, parameter, body),
+        Statement::Block(block) => home_put_at(homes, parameter, &block.1),
         _ => Register::ZERO,
     }
 }

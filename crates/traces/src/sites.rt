@@ -1,7 +1,7 @@
 // The raises and calls of a program of Core that have code.
 
 use crate::points::Raising;
-use cyc_core::{Origin, Program, Statement};
+use cyc_core::{Failure, Origin, Program, Statement};
 use cyc_words::Kind;
 use std::alloc::{AllocError, Global};
 
@@ -17,28 +17,6 @@ pub struct Raise {
 pub struct Call {
     pub function: usize,
     pub origin: Origin,
-}
-
-/// The raise that statements are, if they are nothing else.
-fn raise_of(body: &[Statement]) -> Option<Raise> {
-    match body {
-        [Statement::Raise(kind, origin)] => Some(Raise {
-            kind: *kind,
-            origin: *origin,
-        }),
-        _ => None,
-    }
-}
-
-/// Both raises of a choice that is a check of two exceptions.
-fn either_of(these: &[Statement], those: &[Statement]) -> Option<(Raise, Raise)> {
-    if !these.is_empty() {
-        return None;
-    }
-    match those {
-        [Statement::If(_, first, second)] => Some((raise_of(first)?, raise_of(second)?)),
-        _ => None,
-    }
 }
 
 /// The raises and the calls of a program, in the order of its code. What stands behind a statement that can't complete has no code, nor does one of a
@@ -98,19 +76,29 @@ impl Sites {
         Ok(())
     }
 
-    /// Appends those of a choice that is a check of two exceptions, and says whether it is one.
+    /// Appends those of a check that have code.
     fn add_check(
         &mut self,
         raising: &[Raising],
-        these: &[Statement],
-        those: &[Statement],
-    ) -> Result<bool, AllocError> {
-        match either_of(these, those) {
-            Some((first, second)) => {
-                self.add_either(raising, first, second)?;
-                Ok(true)
+        failure: Failure,
+        origin: Origin,
+    ) -> Result<(), AllocError> {
+        match failure {
+            Failure::Always(kind) => {
+                self.raises.push(Raise { kind, origin })?;
+                Ok(())
             }
-            None => Ok(false),
+            Failure::ByTest(_, first, second) => self.add_either(
+                raising,
+                Raise {
+                    kind: first,
+                    origin,
+                },
+                Raise {
+                    kind: second,
+                    origin,
+                },
+            ),
         }
     }
 
@@ -118,28 +106,29 @@ impl Sites {
     #[cycle(sites)]
     fn add(&mut self, raising: &[Raising], statement: &Statement) -> Result<bool, AllocError> {
         match statement {
-            Statement::If(_, these, those) => {
-                if self.add_check(raising, these, those)? {
-                    return Ok(true);
-                }
-                let first = self.add_all(raising, these)?;
-                let second = self.add_all(raising, those)?;
-                Ok(first || second)
-            }
-            Statement::While(test, _, body) => {
-                self.add_all(raising, test)?;
-                self.add_all(raising, body)?;
+            Statement::Check(_, failure, origin) => {
+                self.add_check(raising, *failure, *origin)?;
                 Ok(true)
             }
-            Statement::Block(_, body) => self.add_all(raising, body),
+            Statement::If(_, both) => {
+                let first = self.add_all(raising, &both.0)?;
+                let second = self.add_all(raising, &both.1)?;
+                Ok(first || second)
+            }
+            Statement::While(_, both) => {
+                self.add_all(raising, &both.0)?;
+                self.add_all(raising, &both.1)?;
+                Ok(true)
+            }
+            Statement::Block(block) => self.add_all(raising, &block.1),
             Statement::Leave(body) => {
                 self.add_all(raising, body)?;
                 Ok(true)
             }
-            Statement::Call(_, function, _, origin) => {
+            Statement::Call(call) => {
                 self.calls.push(Call {
-                    function: *function,
-                    origin: *origin,
+                    function: call.function,
+                    origin: call.origin,
                 })?;
                 Ok(true)
             }

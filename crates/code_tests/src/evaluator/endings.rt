@@ -6,6 +6,7 @@
 
 use crate::devices::{Script, Tape};
 use crate::evaluator::arrays::ARRAYS;
+use crate::evaluator::checks::CHECKS;
 use crate::evaluator::fuel::FUEL;
 use crate::evaluator::keys::KEYS;
 use crate::evaluator::leaves::LEFT;
@@ -83,8 +84,8 @@ fn expect_programs(alloc: Global, table: &'static str) -> Result<(), Fail> {
     Ok(())
 }
 
-const TABLES: [&str; 11] = [
-    ARRAYS, FUEL, KEYS, LEFT, OBJECTS, POINTERS, REGIONS, STRINGS, UNIONS, UNIQUES, UNNAMED,
+const TABLES: [&str; 12] = [
+    ARRAYS, CHECKS, FUEL, KEYS, LEFT, OBJECTS, POINTERS, REGIONS, STRINGS, UNIONS, UNIQUES, UNNAMED,
 ];
 
 #[test]

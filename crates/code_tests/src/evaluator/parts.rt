@@ -2,7 +2,9 @@
 
 use crate::evaluator::rows::{Row, operation_of};
 use crate::evaluator::words::{Shape, Verb, Word};
-use cyc_core::{Cell, CellLayout, Datum, Layout, Local, Origin, Statement, Temporary, Words};
+use cyc_core::{
+    Cell, CellLayout, Datum, Failure, Layout, Local, Origin, Statement, Temporary, Words,
+};
 use std::alloc::Global;
 use std::rc::Rc;
 
@@ -82,6 +84,11 @@ fn object_statement(alloc: Global, row: Row) -> Option<Statement> {
     }
 }
 
+/// A check of a temporary.
+fn checked(test: u32, failure: Failure) -> Statement {
+    Statement::Check(Temporary(test), failure, Origin(0))
+}
+
 /// The statement without an object that a row says, where it says one.
 fn plain_statement(row: Row) -> Option<Statement> {
     let [first, second, third, _, _] = row.numbers;
@@ -90,6 +97,10 @@ fn plain_statement(row: Row) -> Option<Statement> {
         Word::Continue => Some(Statement::Continue),
         Word::Return => Some(Statement::Return(words_of([first, second, third], row.count))),
         Word::Raise(kind) => Some(Statement::Raise(kind, Origin(0))),
+        Word::Check(kind) => Some(checked(first, Failure::Always(kind))),
+        Word::CheckBy(one, other) => {
+            Some(checked(first, Failure::ByTest(Temporary(second), one, other)))
+        }
         _ => Some(Statement::Do(operation_of(row)?)),
     }
 }

@@ -3,12 +3,13 @@
 // `function PARAMETERS`, `block`, `leave`, `if TEMPORARY` and `while TEMPORARY` go on up to their `end`. The statements of `if` before its `else` are done
 // where the temporary is not 0, and those of `while` before its `do` are its test. `with_word`, `with_fat`, `with_words COUNT`, `with_pairs COUNT`,
 // `with_union`, `with_fat_union` and `with_unions COUNT` are locals of a block, or right within a function its unnamed values. `pass` has the temporaries
-// that the next `call FUNCTION RESULTS` passes.
+// that the next `call FUNCTION RESULTS` passes. `check_bounds TEMPORARY` raises where that is 0 or NULL, and `check_null_or_bounds TEMPORARY OTHER` does by
+// `OTHER`: the null exception where that is neither.
 
 use crate::evaluator::parts::{datum_of, local_of, statement_of, words_of};
 use crate::evaluator::rows::{Row, row_of};
 use crate::evaluator::words::Word;
-use cyc_core::{Datum, Function, Local, Origin, Program, Statement, Temporary};
+use cyc_core::{Call, Datum, Function, Local, Origin, Program, Statement, Temporary};
 use std::alloc::Global;
 use std::mem;
 
@@ -41,13 +42,17 @@ struct Reader {
     passed: Vec<Temporary>,
 }
 
-/// The statement of a level that is no function.
-fn whole_statement(level: Level) -> Statement {
+/// The statement of a level that is no function, where there is memory for it.
+fn whole_statement(alloc: Global, level: Level) -> Option<Statement> {
     match level.sort {
-        Sort::Function(_) | Sort::Block => Statement::Block(level.locals, level.body),
-        Sort::Leave => Statement::Leave(level.body),
-        Sort::If(of) => Statement::If(of, level.first, level.body),
-        Sort::While(of) => Statement::While(level.first, of, level.body),
+        Sort::Function(_) | Sort::Block => {
+            Some(Statement::Block(Box::new(alloc, (level.locals, level.body)).ok()?))
+        }
+        Sort::Leave => Some(Statement::Leave(level.body)),
+        Sort::If(of) => Some(Statement::If(of, Box::new(alloc, (level.first, level.body)).ok()?)),
+        Sort::While(of) => {
+            Some(Statement::While(of, Box::new(alloc, (level.first, level.body)).ok()?))
+        }
     }
 }
 
@@ -104,7 +109,10 @@ impl Reader {
         let level = self.levels.pop()?;
         match level.sort {
             Sort::Function(parameters) => self.add_function(parameters, level),
-            _ => self.add(whole_statement(level)),
+            _ => {
+                let statement = whole_statement(self.alloc, level)?;
+                self.add(statement)
+            }
         }
     }
 
@@ -119,9 +127,13 @@ impl Reader {
     /// Appends a call with the arguments that were kept.
     fn call(&mut self, row: Row) -> Option<()> {
         let [function, first, second, third, _] = row.numbers;
-        let results = words_of([first, second, third], row.count.saturating_sub(1));
-        let passed = mem::replace(&mut self.passed, Vec::new(self.alloc));
-        self.add(Statement::Call(results, function as usize, passed, Origin(0)))
+        let call = Call {
+            result: words_of([first, second, third], row.count.saturating_sub(1)),
+            function: function as usize,
+            arguments: mem::replace(&mut self.passed, Vec::new(self.alloc)),
+            origin: Origin(0),
+        };
+        self.add(Statement::Call(Box::new(self.alloc, call).ok()?))
     }
 
     /// Appends what a row has: a global, a local or a statement.

@@ -47,6 +47,8 @@ pub enum Word {
     Continue,
     Return,
     Raise(Kind),
+    Check(Kind),
+    CheckBy(Kind, Kind),
     Object(Verb, Shape),
     Constant,
     Getchar,
@@ -109,7 +111,7 @@ const OPERATIONS: [(&str, Word); 30] = [
 ];
 
 // the names of globals, locals, and other statements
-const PARTS: [(&str, Word); 37] = [
+const PARTS: [(&str, Word); 39] = [
     ("function", Word::Function),
     ("block", Word::Block),
     ("leave", Word::Leave),
@@ -138,6 +140,11 @@ const PARTS: [(&str, Word); 37] = [
     ("return", Word::Return),
     ("raise_null", Word::Raise(Kind::NullException)),
     ("raise_bounds", Word::Raise(Kind::ArrayBounds)),
+    ("check_bounds", Word::Check(Kind::ArrayBounds)),
+    (
+        "check_null_or_bounds",
+        Word::CheckBy(Kind::NullException, Kind::ArrayBounds),
+    ),
     ("copy_word", Word::Object(Verb::Copy, Shape::Int)),
     ("copy_pair", Word::Object(Verb::Copy, Shape::Pair)),
     ("copy_union", Word::Object(Verb::Copy, Shape::Union)),

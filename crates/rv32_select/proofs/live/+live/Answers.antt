@@ -1,36 +1,18 @@
-use Rattle.std.proofs.Common.{◌≡◌, ◌∙◌, ◌+◌, ◌<◌, ◌++◌, ℕ, Bool, List, [], ◌∷◌, true, false, ap, ap₂, arith, rules}
-use Rattle.std.proofs.Common.{get_or, length, map, reverse, take, subst, sym, refl}
-use Rattle.std.specs.Prelude.{OnOk, Result}
+use Rattle.std.proofs.Common.{◌≡◌, ◌∙◌, ◌+◌, ◌<◌, ◌++◌, [], ◌∷◌, ap, arith}
+use Rattle.std.proofs.Common.{get_or, length, map, reverse, take, sym, refl}
 use Rattle.std.proofs.lemmas.List.{length-map, map-append, length_push, take_all, take_more}
-use Rattle.core_meaning.specs.Core.{Statement, If, While, Block, Leave}
-use Rattle.cyc_core.specs.Trees.{local_tree, body_tree, optional_tree, statement_tree, temporary_tree}
-use Rattle.cyc_core.specs.declared.operation.Temporary.{Temporary}
+use Rattle.cyc_core.specs.Trees.{local_tree, body_tree}
 use Rattle.core_lines.specs.Held.{held_behind_all}
-use Rattle.core_lines.specs.Loaded.{unknown_in}
-use Rattle.core_lines.specs.Saved.{all_flagged, live_in, live_of, saves_in, saves_of}
+use Rattle.core_lines.specs.Saved.{live_of, saves_of}
 use Rattle.core_lines.specs.Selected.{Surroundings, holding, names_after_all, naming}
 use Rattle.rv32_select.specs.Places.{surroundings}
 use Rattle.rv32_select.specs.Starts.{Start, point_start, starting, starts_of}
-use Rattle.cyc_core.proofs.Forms.{block_tree, call_tree, do_tree, if_tree, leave_tree, while_tree}
-use Rattle.rv32_select.proofs.Sizes.{statement_size, statements_size}
+use Rattle.rv32_select.proofs.Sizes.{statements_size}
 use Rattle.rv32_select.proofs.Backwards.{ends_alike, size_last, last_start, starts_last, starts_many, as_same, same_back, same_there, live_back, saves_back}
 use Rattle.rv32_select.proofs.Halves.{halves_less, halves_live, halves_saves}
 use Rattle.rv32_select.proofs.Raised.{check_saves}
 use Rattle.rv32_select.proofs.Choices.{first_saves, both_saves, both_live, check_live}
 use Rattle.rv32_select.proofs.live.+live.Goals as goal
-
--- what is loaded before a statement, and which of its results are saved; the place is somewhere in the same block
-module _ {T E : Type 0} (result : Result T E) (old new kept left out loop : List Bool) (before after : List ℕ) (u v : Surroundings) where
-  abbrev Judged : Statement → Type 0
-  Judged s = record {
-    saves : OnOk result (new ≡ old ++ reverse (saves_in u.homes u.statics u.names u.held kept out loop s));
-    live : OnOk result (left ≡ live_in u.homes u.statics u.names u.held kept out loop s);
-    same : OnOk result (v ≡ holding v.held (naming v.names u));
-    homes : OnOk result (after ≡ before);
-  }
-
-  judged_as : (s t : Statement) → t ≡ s → Judged s → Judged t
-  judged_as s t is judged = subst Judged (sym is) judged
 
 pub live_few-each-init : goal.live_few-each-init
 live_few-each-init n c =
@@ -122,86 +104,6 @@ live_few-each-preserved n c =
       size = omega (arith, size, fewer);
     }
 
-pub live_statement-live_if-requires : goal.live_statement-live_if-requires
-live_statement-live_if-requires t c =
-    let x = c.in-If in
-    let is : statement_size (statement_tree c.args.statement.now)
-    ≡ statements_size (body_tree c.deref.result.now) + statements_size (body_tree c.deref-in-If.result.now) + 2 =
-    ap statement_size (ap statement_tree x.is ∙ if_tree x.test x.these x.those)
-    ∙ ap₂ (λ ss ts. statements_size (body_tree ss) + statements_size (body_tree ts) + 2) (sym c.deref.ensures.value) (sym c.deref-in-If.ensures.value) in
-    search rules
-
-pub live_statement-returns-in-If : goal.live_statement-returns-in-If
-live_statement-returns-in-If t c =
-    let a = c.args in
-    let x = c.in-If in
-    judged_as c.live_if.result a.saves.now.items c.live_if.new.saves.items a.live.now.items c.live_if.new.live.items a.exits.out.now a.exits.again.now
-    a.place.now.homes.items c.live_if.new.place.homes.items (surroundings a.place.now) (surroundings c.live_if.new.place)
-    (If x.test.0 (body_tree c.deref.result.now) (body_tree c.deref-in-If.result.now)) (statement_tree a.statement.now)
-    (ap statement_tree x.is ∙ if_tree x.test x.these x.those
-    ∙ ap₂ (λ ss ts. If x.test.0 (body_tree ss) (body_tree ts)) (sym c.deref.ensures.value) (sym c.deref-in-If.ensures.value))
-    c.live_if.ensures
-
-pub live_statement-live_while-requires : goal.live_statement-live_while-requires
-live_statement-live_while-requires t c =
-    let x = c.in-While in
-    let is : statement_size (statement_tree c.args.statement.now)
-    ≡ statements_size (body_tree c.deref-in-While.result.now) + statements_size (body_tree c.deref-in-While-2.result.now) + 2 =
-    ap statement_size (ap statement_tree x.is ∙ while_tree x.test x.flag x.body)
-    ∙ ap₂ (λ ss ts. statements_size (body_tree ss) + statements_size (body_tree ts) + 2) (sym c.deref-in-While.ensures.value)
-    (sym c.deref-in-While-2.ensures.value) in
-    search rules
-
-pub live_statement-returns-in-While : goal.live_statement-returns-in-While
-live_statement-returns-in-While t c =
-    let a = c.args in
-    let x = c.in-While in
-    judged_as c.live_while.result a.saves.now.items c.live_while.new.saves.items a.live.now.items c.live_while.new.live.items a.exits.out.now a.exits.again.now
-    a.place.now.homes.items c.live_while.new.place.homes.items (surroundings a.place.now) (surroundings c.live_while.new.place)
-    (While (body_tree c.deref-in-While.result.now) x.flag.0 (body_tree c.deref-in-While-2.result.now)) (statement_tree a.statement.now)
-    (ap statement_tree x.is ∙ while_tree x.test x.flag x.body
-    ∙ ap₂ (λ ss ts. While (body_tree ss) x.flag.0 (body_tree ts)) (sym c.deref-in-While.ensures.value) (sym c.deref-in-While-2.ensures.value))
-    c.live_while.ensures
-
-pub live_statement-live_block-requires : goal.live_statement-live_block-requires
-live_statement-live_block-requires t c =
-    let x = c.in-Block in
-    let is : statement_size (statement_tree c.args.statement.now) ≡ statements_size (body_tree c.deref-in-Block-2.result.now) + 2 =
-    ap statement_size (ap statement_tree x.is ∙ block_tree x.locals x.body)
-    ∙ ap (λ ss. statements_size (body_tree ss) + 2) (sym c.deref-in-Block-2.ensures.value) in
-    search rules
-
-pub live_statement-returns-in-Block : goal.live_statement-returns-in-Block
-live_statement-returns-in-Block t c =
-    let a = c.args in
-    let x = c.in-Block in
-    judged_as c.live_block.result a.saves.now.items c.live_block.new.saves.items a.live.now.items c.live_block.new.live.items a.exits.out.now a.exits.again.now
-    a.place.now.homes.items c.live_block.new.place.homes.items (surroundings a.place.now) (surroundings c.live_block.new.place)
-    (Block (map local_tree c.deref-in-Block.result.now) (body_tree c.deref-in-Block-2.result.now)) (statement_tree a.statement.now)
-    (ap statement_tree x.is ∙ block_tree x.locals x.body
-    ∙ ap₂ (λ ls ss. Block (map local_tree ls) (body_tree ss)) (sym c.deref-in-Block.ensures.value) (sym c.deref-in-Block-2.ensures.value))
-    c.live_block.ensures
-
-pub live_statement-live_leavable-requires : goal.live_statement-live_leavable-requires
-live_statement-live_leavable-requires t c =
-    let x = c.in-Leave in
-    let is : statement_size (statement_tree c.args.statement.now) ≡ statements_size (body_tree c.deref-in-Leave.result.now) + 2 =
-    ap statement_size (ap statement_tree x.is ∙ leave_tree x.body)
-    ∙ ap (λ ss. statements_size (body_tree ss) + 2) (sym c.deref-in-Leave.ensures.value) in
-    search rules
-
-pub live_statement-returns-in-Leave : goal.live_statement-returns-in-Leave
-live_statement-returns-in-Leave t c =
-    let a = c.args in
-    let x = c.in-Leave in
-    judged_as c.live_leavable.result a.saves.now.items c.live_leavable.new.saves.items a.live.now.items c.live_leavable.new.live.items
-    a.exits.out.now a.exits.again.now
-    a.place.now.homes.items c.live_leavable.new.place.homes.items (surroundings a.place.now) (surroundings c.live_leavable.new.place)
-    (Leave (body_tree c.deref-in-Leave.result.now)) (statement_tree a.statement.now)
-    (ap statement_tree x.is ∙ leave_tree x.body
-    ∙ ap (λ ss. Leave (body_tree ss)) (sym c.deref-in-Leave.ensures.value))
-    c.live_leavable.ensures
-
 pub live_both-returns : goal.live_both-returns
 live_both-returns t c =
     let a = c.args in
@@ -237,8 +139,8 @@ live_both-returns t c =
       homes = done.homes ∙ c.go_to-2.ensures.homes ∙ homes;
     }
 
-pub live_check-returns : goal.live_check-returns
-live_check-returns t c =
+pub live_raising-returns : goal.live_raising-returns
+live_raising-returns t c =
     let a = c.args in
     let u = surroundings a.place.now in
     let these = body_tree a.these.now in
@@ -273,54 +175,15 @@ live_check-returns t c =
     }
 
 -- a second way that only raises an exception has no results
-pub live_ways-returns-in_ok-live_check-clause-saves : goal.live_ways-returns-in_ok-live_check-clause-saves
-live_ways-returns-in_ok-live_check-clause-saves t c =
+pub live_ways-returns-in_ok-live_raising-clause-saves : goal.live_ways-returns-in_ok-live_raising-clause-saves
+live_ways-returns-in_ok-live_raising-clause-saves t c =
     let a = c.args in
     let u = surroundings a.place.now in
     let these = body_tree a.these.now in
     let only = sym c.raises_only.ensures ∙ c.if-raises_only.true in
-    c.in_ok-live_check.ensures.saves
+    c.in_ok-live_raising.ensures.saves
     ∙ ap (λ bs. a.saves.now.items ++ reverse bs) (check_saves u.homes u.statics u.held a.live.now.items a.exits.out.now a.exits.again.now u.names
     (names_after_all these u.names) these (body_tree a.those.now) only)
-
-pub live_statement-returns-in-Do-clause-saves : goal.live_statement-returns-in-Do-clause-saves
-live_statement-returns-in-Do-clause-saves t c =
-    let a = c.args in
-    let x = c.in-Do in
-    let u = surroundings a.place.now in
-    subst (λ (s : Statement). OnOk c.live_operation.result (c.live_operation.new.saves.items ≡ a.saves.now.items
-    ++ reverse (saves_in u.homes u.statics u.names u.held a.live.now.items a.exits.out.now a.exits.again.now s)))
-    (sym (ap statement_tree x.is ∙ do_tree x.operation)) c.live_operation.ensures.saves
-
-pub live_statement-returns-in-Do-clause-live : goal.live_statement-returns-in-Do-clause-live
-live_statement-returns-in-Do-clause-live t c =
-    let a = c.args in
-    let x = c.in-Do in
-    let u = surroundings a.place.now in
-    subst (λ (s : Statement). OnOk c.live_operation.result (c.live_operation.new.live.items
-    ≡ live_in u.homes u.statics u.names u.held a.live.now.items a.exits.out.now a.exits.again.now s))
-    (sym (ap statement_tree x.is ∙ do_tree x.operation)) c.live_operation.ensures.live
-
-pub live_statement-returns-in-Call-clause-saves : goal.live_statement-returns-in-Call-clause-saves
-live_statement-returns-in-Call-clause-saves t c =
-    let a = c.args in
-    let x = c.in-Call in
-    let u = surroundings a.place.now in
-    subst (λ (s : Statement). OnOk c.live_call.result (c.live_call.new.saves.items ≡ a.saves.now.items
-    ++ reverse (saves_in u.homes u.statics u.names u.held a.live.now.items a.exits.out.now a.exits.again.now s)))
-    (sym (ap statement_tree x.is ∙ call_tree x.results _ x.arguments _)) c.live_call.ensures.saves
-
-pub live_statement-returns-in-Call-clause-live : goal.live_statement-returns-in-Call-clause-live
-live_statement-returns-in-Call-clause-live t c =
-    let a = c.args in
-    let x = c.in-Call in
-    let u = surroundings a.place.now in
-    subst (λ (s : Statement). OnOk c.live_call.result (c.live_call.new.live.items
-    ≡ live_in u.homes u.statics u.names u.held a.live.now.items a.exits.out.now a.exits.again.now s))
-    (sym (ap statement_tree x.is ∙ call_tree x.results _ x.arguments _))
-    (subst (λ (ts : List Temporary). OnOk c.live_call.result (c.live_call.new.live.items
-    ≡ all_flagged true (unknown_in u.held (map temporary_tree ts)) (all_flagged false (optional_tree x.results) a.live.now.items)))
-    c.deref-in-Call.ensures.value c.live_call.ensures.live)
 
 pub live_halves-live_statements-requires : goal.live_halves-live_statements-requires
 live_halves-live_statements-requires n c =

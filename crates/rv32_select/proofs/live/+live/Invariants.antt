@@ -28,8 +28,8 @@ decreases-live_ways l = 4 * (statements_size (body_tree l.these.now) + statement
 abbrev pub decreases-live_both : goal.decreases-live_both
 decreases-live_both l = 4 * (statements_size (body_tree l.these.now) + statements_size (body_tree l.those.now)) + 3
 
-abbrev pub decreases-live_check : goal.decreases-live_check
-decreases-live_check l = 4 * (statements_size (body_tree l.these.now) + statements_size (body_tree l.those.now)) + 3
+abbrev pub decreases-live_raising : goal.decreases-live_raising
+decreases-live_raising l = 4 * (statements_size (body_tree l.these.now) + statements_size (body_tree l.those.now)) + 3
 
 abbrev pub decreases-live_while : goal.decreases-live_while
 decreases-live_while l = 4 * (statements_size (body_tree l.test.now) + statements_size (body_tree l.body.now)) + 4

@@ -4,7 +4,9 @@ use Rattle.std.proofs.lemmas.Result.{on_ok_weaker}
 use Rattle.cyc_core.specs.declared.statement.Statement.TheFolds.{the_lemmas}
 use Rattle.cyc_core.specs.Trees.{local_tree, statement_tree, body_tree}
 use Rattle.core_lines.specs.Homes.{addressed, addressed_of, eligible, eligible_of}
+use Rattle.cyc_core.proofs.Forms.{check_tree}
 use Rattle.rv32_select.specs.Marks.{masked, marked}
+use Rattle.rv32_select.proofs.Failed.{none_addressed}
 use Rattle.rv32_select.proofs.Marking.{block_marked, eligible_masked, marked_none, marked_twice}
 use Rattle.rv32_select.proofs.Pushing.{appended}
 use Rattle.rv32_select.proofs.Sizes.{statements_size}
@@ -17,6 +19,13 @@ put_marks-returns-in_default t c =
       flags = search (rules, the_lemmas);
       around = marked_none (λ o n. addressed o n (statement_tree c.args.statement.now)) (map (λ marks. marks.items) c.args.around.now.items) none;
     }
+
+pub put_marks-returns-in-Check-clause-around : goal.put_marks-returns-in-Check-clause-around
+put_marks-returns-in-Check-clause-around t c =
+    let x = c.in-Check in
+    let is = ap statement_tree x.is ∙ check_tree x.field-0 x.field-1 x.field-2 in
+    marked_none (λ o n. addressed o n (statement_tree c.args.statement.now)) (map (λ marks. marks.items) c.args.around.now.items)
+    (λ o n. ap (addressed o n) is ∙ none_addressed o n x.field-1)
 
 pub put_both-returns-clause-around : goal.put_both-returns-clause-around
 put_both-returns-clause-around t c =

@@ -134,7 +134,7 @@ TEXTS = [
 ]
 
 RUNS = [
-    Text("elements of a made array", lambda n: main_of(f"new {{for i < {n} : 1}};")),
+    Text("elements of an array comprehension", lambda n: main_of(f"new {{for i < {n} : 1}};")),
     Text("calls of a recursion", lambda n: f"int f(int n) {{ if (n == 0) return 0; return f(n - 1); }}\n{main_of(f'return f({n});')}"),
     Text("iterations that open a region, make an object there and leave it",
          lambda n: main_of(f"int i = 0; while (i < {n}) {{ region<`r> h; rnew(h) 1; i = i + 1; }}")),

@@ -111,7 +111,7 @@ impl Held {
 
     /// The number of the part that may be a pointer or a handle: the first, or of a tagged union the one behind its tag. Each other part
     /// is a word, or nothing as yet.
-    pub fn pointer_part(self) -> u32
+    pub fn pointer_part(self) -> u8
         ensures { result ≡ pointer_part self }
     {
         match self {
@@ -131,7 +131,7 @@ impl Held {
     }
 
     /// What the part with this number holds, if there is one.
-    pub fn part(self, part: u32) -> Option<Value>
+    pub fn part(self, part: u8) -> Option<Value>
         ensures { result ≡ slice_get (values_in self) part }
     {
         match self {
@@ -159,7 +159,7 @@ impl Held {
     }
 
     /// The same with another value in the part with this number, if there is one, and the value is kept there.
-    fn with_part(self, part: u32, value: Value) -> Option<Self>
+    fn with_part(self, part: u8, value: Value) -> Option<Self>
         ensures { result ≡ put_part self part value }
     {
         match (self, part, Bound::kept(value)) {
@@ -187,7 +187,7 @@ impl Held {
     }
 
     /// Stores a value to the part with this number, if there is one, and the value is kept there, and answers whether it is.
-    pub fn put(&mut self, part: u32, value: Value) -> bool
+    pub fn put(&mut self, part: u8, value: Value) -> bool
         ensures put { put_part self.old part value ≡ (if result then Some self.new else None) }
         ensures kept { result ≡ false → self.new ≡ self.old }
     {

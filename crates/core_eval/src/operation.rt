@@ -352,8 +352,8 @@ pub fn operate<'p>(
         Operation::Element(to, from, index, cells, bytes) => {
             element(frame, memory, to, from, index, cells, bytes)
         }
-        Operation::Get(to, from, width) => get(frame, memory, to, from, width),
-        Operation::Put(to, width, from) => put(frame, memory, to, width, from),
+        Operation::Get(width, to, from) => get(frame, memory, to, from, width),
+        Operation::Put(width, from, to) => put(frame, memory, to, width, from),
         Operation::Load(to, place, distance) => load(frame, memory, to, place, distance),
         Operation::Store(place, distance, from) => store(frame, memory, place, distance, from),
         Operation::IsNull(to, from) => test_null(frame, to, from),

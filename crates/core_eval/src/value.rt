@@ -43,7 +43,7 @@ pub struct Part {
     /// How many bytes of the object lie before it.
     pub byte: u64,
     /// Its number in the cell.
-    pub number: u32,
+    pub number: u8,
     /// How wide it is.
     pub width: Width,
 }
@@ -90,7 +90,7 @@ pub struct Slot {
 
 impl Slot {
     /// What the part with this number holds, if there is one that lies this number of bytes on and has this width.
-    fn value(&self, byte: u64, part: u32, width: Width) -> Option<Value>
+    fn value(&self, byte: u64, part: u8, width: Width) -> Option<Value>
         ensures { result ≡ value_of byte part width (Some self.now) }
     {
         if is_fit(byte, part, width, self) {
@@ -112,7 +112,7 @@ impl Slot {
 
     /// Stores a value to the part with this number, if there is one that lies this number of bytes on and has this width, and answers whether
     /// there is.
-    fn put(&mut self, byte: u64, part: u32, width: Width, value: Value) -> bool
+    fn put(&mut self, byte: u64, part: u8, width: Width, value: Value) -> bool
         ensures put { put_within self.old byte part width value ≡ (if result then Some self.new else None) }
         ensures kept { result ≡ false → self.new ≡ self.old }
     {
@@ -307,7 +307,7 @@ fn bytes_of(width: Width) -> u64
 }
 
 /// Whether the part of a cell with this number lies this number of bytes on, and has this width.
-fn is_fit(byte: u64, part: u32, width: Width, slot: &Slot) -> bool
+fn is_fit(byte: u64, part: u8, width: Width, slot: &Slot) -> bool
     ensures { result ≡ is_fit byte part width slot.now }
 {
     let own = slot.held.width();
@@ -317,14 +317,14 @@ fn is_fit(byte: u64, part: u32, width: Width, slot: &Slot) -> bool
 }
 
 /// Whether the part of a cell with this number may be one that has a value: behind the first part of a cell a byte is one that holds nothing.
-pub fn is_kept(part: u32, width: Width) -> bool
+pub fn is_kept(part: u8, width: Width) -> bool
     ensures { result ≡ is_kept part width }
 {
     part == 0 || is_same(width, Width::Word)
 }
 
 /// What a part of a cell holds, if there is one, and it lies this number of bytes on and has this width.
-pub fn value_of(slot: Option<Slot>, byte: u64, part: u32, width: Width) -> Option<Value>
+pub fn value_of(slot: Option<Slot>, byte: u64, part: u8, width: Width) -> Option<Value>
     ensures { result ≡ value_of byte part width slot }
 {
     match slot {

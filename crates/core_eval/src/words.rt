@@ -47,7 +47,7 @@ fn word_given(operation: &Operation, frame: &Frame, memory: &Memory) -> Option<G
             word: *word,
         }),
         Operation::Apply(..) => computed(operation, frame, memory),
-        Operation::Get(to, from, width) => match memory.word(frame.base, *from, *width) {
+        Operation::Get(width, to, from) => match memory.word(frame.base, *from, *width) {
             Some(word) => Some(Given { to: *to, word }),
             None => None,
         },
@@ -61,7 +61,7 @@ fn put(operation: &Operation, frame: &Frame, memory: &mut Memory) -> bool
     ensures kept { result ≡ false → known_of frame.now memory.new ≡ known_of frame.now memory.old }
 {
     match operation {
-        Operation::Put(to, width, from) => {
+        Operation::Put(width, from, to) => {
             let value = frame.temp(*from);
             memory.set_local(frame.base, *to, *width, value)
         }

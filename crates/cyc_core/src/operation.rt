@@ -82,7 +82,7 @@ pub struct Distance {
     /// How many bytes of its object lie between.
     pub bytes: u32,
     /// The number of the part in its cell: 0, of a fat pointer up to 2, and of a tagged union up to 3.
-    pub part: u32,
+    pub part: u8,
     /// How wide the part is.
     pub width: Width,
 }
@@ -173,9 +173,9 @@ pub enum Operation {
     /// The temporary gets a pointer to the global with this number.
     DataAddress(Temporary, usize),
     /// The temporary gets what the local holds.
-    Get(Temporary, Variable, Width),
+    Get(Width, Temporary, Variable),
     /// The local gets what the temporary holds, or the lowest byte of its word.
-    Put(Variable, Width, Temporary),
+    Put(Width, Temporary, Variable),
     /// The first temporary gets the second one's pointer, moved by a number of cells and their bytes.
     Offset(Temporary, Temporary, u32, u32),
     /// The first temporary gets a pointer to the element with the number in the third one, where the second one's pointer leads to element 0.

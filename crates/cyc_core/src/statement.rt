@@ -66,3 +66,6 @@ pub enum Statement {
     /// The program ends with this exception.
     Raise(Kind, Origin),
 }
+
+// A list of statements is most of what a program in Core takes, so none takes more than this.
+const _: () = prove!(size_of::<Statement>() == 32);

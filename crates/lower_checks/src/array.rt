@@ -70,7 +70,7 @@ fn lower_index(body: &mut Body<'_>, to: Temporary)
     ensures { Emits body.old body.new (core.Do (core.Put 0 0 (width_of UnsignedShape) (to.0 + 2)) ∷ []) }
 {
     let index = Variable { out: 0, index: 0 };
-    body.operation(Operation::Put(index, Width::Word, behind(to, 2)));
+    body.operation(Operation::Put(Width::Word, behind(to, 2), index));
 }
 
 /// Appends what begins with the first element: its number, which the index gets too.

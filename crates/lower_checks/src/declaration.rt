@@ -143,7 +143,7 @@ fn lower_unset(
         Stored::One(shape) => {
             let local = Variable { out: 0, index };
             body.operation(first_value(shape, to));
-            body.operation(Operation::Put(local, shape.width(), to));
+            body.operation(Operation::Put(shape.width(), to, local));
         }
     }
 }
@@ -237,7 +237,7 @@ fn lower_region(body: &mut Body<'_>, to: Temporary, index: usize)
 {
     let local = Variable { out: 0, index };
     body.operation(Operation::RegionNew(to));
-    body.operation(Operation::Put(local, Width::Word, to));
+    body.operation(Operation::Put(Width::Word, to, local));
 }
 
 /// Appends what makes a key, which goes to the local of a number by way of a temporary.
@@ -246,7 +246,7 @@ fn lower_new_key(body: &mut Body<'_>, to: Temporary, index: usize)
 {
     let local = Variable { out: 0, index };
     body.operation(Operation::KeyNew(to));
-    body.operation(Operation::Put(local, Width::Word, to));
+    body.operation(Operation::Put(Width::Word, to, local));
 }
 
 /// Appends what opens a region with the key of a name, which stays in a temporary and goes to the local of a number.
@@ -259,7 +259,7 @@ fn lower_open(scope: &Scope<'_, '_>, key: &Name, body: &mut Body<'_>, to: Tempor
     lower_get(scope, body, &key.text, to);
     let local = Variable { out: 0, index };
     body.operation(Operation::KeyOpen(to));
-    body.operation(Operation::Put(local, Width::Word, to));
+    body.operation(Operation::Put(Width::Word, to, local));
 }
 
 /// Appends what gives the local of a number a copy of the pointer of a name, by way of a temporary.

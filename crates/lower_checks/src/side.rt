@@ -104,7 +104,7 @@ pub fn lower_side_read(
     ensures { Emits body.old body.new (side_read (side_tree side) (shape_tree shape.now) pointer.0 to.0) }
 {
     match side {
-        Side::ByName(local, width) => body.operation(Operation::Get(to, local, width)),
+        Side::ByName(local, width) => body.operation(Operation::Get(width, to, local)),
         Side::ByPlace => {
             body.operation(Operation::Move(to, pointer));
             lower_loads(body, &Reached::at_once(*shape), to);
@@ -124,7 +124,7 @@ pub fn lower_side_written(
     ensures { Emits body.old body.new (side_written (side_tree side) (shape_tree shape.now) pointer.0 from.0) }
 {
     match side {
-        Side::ByName(local, width) => body.operation(Operation::Put(local, width, from)),
+        Side::ByName(local, width) => body.operation(Operation::Put(width, from, local)),
         Side::ByPlace => lower_stores(body, &Reached::at_once(*shape), pointer, from),
     }
 }

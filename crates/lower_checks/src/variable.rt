@@ -47,7 +47,7 @@ fn lower_get_local(body: &mut Body<'_>, local: &Named<'_>, to: Temporary)
             body.operation(Operation::LocalAddress(to, at));
             lower_loads(body, &Reached::at_once(Shape::Fat(*of)), to);
         }
-        Stored::One(shape) => body.operation(Operation::Get(to, at, shape.width())),
+        Stored::One(shape) => body.operation(Operation::Get(shape.width(), to, at)),
     }
 }
 
@@ -103,7 +103,7 @@ pub fn lower_store_local(
             body.operation(Operation::LocalAddress(address, local));
             lower_stores(body, &Reached::at_once(*shape), address, from);
         }
-        _ => body.operation(Operation::Put(local, shape.width(), from)),
+        _ => body.operation(Operation::Put(shape.width(), from, local)),
     }
 }
 
@@ -117,7 +117,7 @@ pub fn lower_put_local(body: &mut Body<'_>, stored: &Stored<'_>, local: Variable
             let address = behind(from, shape.words());
             lower_store_local(body, shape, local, address, from);
         }
-        Stored::Array(_, _) => body.operation(Operation::Put(local, Width::Word, from)),
+        Stored::Array(_, _) => body.operation(Operation::Put(Width::Word, from, local)),
     }
 }
 

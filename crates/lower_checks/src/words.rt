@@ -35,7 +35,7 @@ fn part_of(reached: &Reached<'_>, part: u32) -> Distance
     Distance {
         cells: reached.cells,
         bytes: reached.bytes + 4 * part,
-        part,
+        part: part as u8,
         width: Width::Word,
     }
 }
@@ -78,13 +78,14 @@ pub fn lower_stores(body: &mut Body<'_>, reached: &Reached<'_>, pointer: Tempora
 
 /// How far it is to a part of a union, which lies this number of bytes behind its tag.
 pub fn held_part(part: u32, bytes: u32) -> Distance
-    requires { bytes ≡ 4 * part }
+    requires few { part ≤ 3 }
+    requires bytes { bytes ≡ 4 * part }
     ensures { distance_tree result ≡ part_at 0 0 part }
 {
     Distance {
         cells: 0,
         bytes,
-        part,
+        part: part as u8,
         width: Width::Word,
     }
 }

@@ -30,11 +30,11 @@ pub fn hold_behind(place: &mut Place, operation: Operation) -> Result<(), AllocE
             place.held.hold(to, Source::Number(address))
         }
         Operation::Move(to, from) => place.held.hold_moved(to, from),
-        Operation::Get(to, variable, _) => {
+        Operation::Get(_, to, variable) => {
             let (_, home) = place.local(variable);
             place.held.hold_local(to, home)
         }
-        Operation::Put(variable, width, from) => {
+        Operation::Put(width, from, variable) => {
             let (_, home) = place.local(variable);
             place.held.hold_put(width, from, home)
         }

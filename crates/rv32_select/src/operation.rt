@@ -105,8 +105,8 @@ pub fn put_operation(
         Operation::OwnAddress(to, object) => {
             put_own_address(lines, place, keeps, to, place.own_offset(object))
         }
-        Operation::Get(to, variable, width) => put_get(lines, place, keeps, to, variable, width),
-        Operation::Put(variable, width, from) => put_put(lines, place, variable, width, from),
+        Operation::Get(width, to, variable) => put_get(lines, place, keeps, to, variable, width),
+        Operation::Put(width, from, variable) => put_put(lines, place, variable, width, from),
         Operation::Offset(to, pointer, _, bytes) => {
             put_offset(lines, place, keeps, to, pointer, bytes)
         }

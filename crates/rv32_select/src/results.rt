@@ -26,7 +26,7 @@ pub fn result_of(operation: Operation) -> Option<Temporary>
         | Operation::LocalAddress(to, _)
         | Operation::OwnAddress(to, _)
         | Operation::DataAddress(to, _)
-        | Operation::Get(to, _, _)
+        | Operation::Get(_, to, _)
         | Operation::Offset(to, _, _, _)
         | Operation::Element(to, _, _, _, _)
         | Operation::Load(to, _, _)

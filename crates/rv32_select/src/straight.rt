@@ -46,7 +46,7 @@ fn home_put(place: &Place, temporary: Temporary, operation: Operation) -> Regist
     ensures { result ≡ home_put (surroundings place.now).homes temporary.0 (operation_tree operation) }
 {
     match operation {
-        Operation::Put(variable, Width::Word, from) => {
+        Operation::Put(Width::Word, from, variable) => {
             let (_, home) = place.local(variable);
             if from.0 == temporary.0 {
                 home

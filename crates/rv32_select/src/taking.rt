@@ -28,7 +28,7 @@ fn home_put(homes: &[Register], temporary: Temporary, operation: Operation) -> R
     ensures { result ≡ home_put (homes.now ∷ []) temporary.0 (operation_tree operation) }
 {
     match operation {
-        Operation::Put(variable, Width::Word, from) => {
+        Operation::Put(Width::Word, from, variable) => {
             let home = home_of(homes, variable);
             if from.0 == temporary.0 {
                 home

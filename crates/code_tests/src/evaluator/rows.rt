@@ -43,14 +43,17 @@ fn local(index: u32) -> Variable {
     }
 }
 
-/// So many cells and bytes on, the part of this number.
-fn distance(width: Width, cells: u32, bytes: u32, part: u32) -> Distance {
-    Distance {
+/// So many cells and bytes on, the part of this number, which no cell has over 3.
+fn distance(width: Width, cells: u32, bytes: u32, part: u32) -> Option<Distance> {
+    if part > 3 {
+        return None;
+    }
+    Some(Distance {
         cells,
         bytes,
-        part,
+        part: part as u8,
         width,
-    }
+    })
 }
 
 /// What a row of a load or store does: the first temporary gets, or is a pointer, and where no further numbers stand, what lies right there is meant.
@@ -58,10 +61,16 @@ fn memory_operation(row: Row) -> Option<Operation> {
     let [first, second, cells, bytes, part] = row.numbers;
     let (to, from) = (Temporary(first), Temporary(second));
     match row.word {
-        Word::Load(width) => Some(Operation::Load(to, from, distance(width, cells, bytes, part))),
-        Word::Store(width) => Some(Operation::Store(to, distance(width, cells, bytes, part), from)),
-        Word::Get => Some(Operation::Get(to, local(second), Width::Word)),
-        Word::Put => Some(Operation::Put(local(first), Width::Word, from)),
+        Word::Load(width) => {
+            let distance = distance(width, cells, bytes, part)?;
+            Some(Operation::Load(to, from, distance))
+        }
+        Word::Store(width) => {
+            let distance = distance(width, cells, bytes, part)?;
+            Some(Operation::Store(to, distance, from))
+        }
+        Word::Get => Some(Operation::Get(Width::Word, to, local(second))),
+        Word::Put => Some(Operation::Put(Width::Word, from, local(first))),
         _ => None,
     }
 }

@@ -82,7 +82,7 @@ returns-in-Get c =
     let f = c.args.frame.now in
     let f' = c.get.new.frame in
     let m = c.args.memory.now in
-    for_operation c.get.result c.args.operation (operation.Get c.in-Get.to c.in-Get.from c.in-Get.width) (known_of f m) (known_of f' m)
+    for_operation c.get.result c.args.operation (operation.Get c.in-Get.width c.in-Get.to c.in-Get.from) (known_of f m) (known_of f' m)
     c.in-Get.is c.get.ensures
 
 pub returns-in-Load : goal.returns-in-Load
@@ -131,7 +131,7 @@ returns-in-NullPointer c =
 pub returns-in-Put : goal.returns-in-Put
 returns-in-Put c =
     let f = c.args.frame.now in
-    for_operation c.put.result c.args.operation (operation.Put c.in-Put.to c.in-Put.width c.in-Put.from) (known_of f c.args.memory.now)
+    for_operation c.put.result c.args.operation (operation.Put c.in-Put.width c.in-Put.from c.in-Put.to) (known_of f c.args.memory.now)
     (known_of f c.put.new.memory) c.in-Put.is c.put.ensures
 
 pub returns-in-Store : goal.returns-in-Store

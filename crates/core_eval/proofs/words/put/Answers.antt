@@ -10,6 +10,6 @@ returns-in-Put-clause-done c = λ stored.
     let m' = c.set_local.new.self in
     let to = c.in-Put.to in
     let s = c.set_local.ensures in
-    done_as c.args.operation.now (operation.Put to c.in-Put.width c.in-Put.from) (known_of f m) (known_of f m') c.in-Put.is
+    done_as c.args.operation.now (operation.Put c.in-Put.width c.in-Put.from to) (known_of f m) (known_of f m') c.in-Put.is
     (λ ws. put_answer f m m' c.in-Put.from.0 c.temp-value.result c.set_local.result c.temp-value.ensures s.entered s.called ws s.owns s.globals s.regions
     s.long_blocks to.out to.index c.in-Put.width s.blocks stored)

@@ -9,6 +9,6 @@ pub returns-in-Some : goal.returns-in-Some
 returns-in-Some c = λ temps gives.
     let known = known_of c.args.frame.now c.args.memory.now in
     let g = c.in-Get in
-    done_as c.args.operation.now (operation.Get g.to g.from g.width) known (record known { temps = temps })
+    done_as c.args.operation.now (operation.Get g.width g.to g.from) known (record known { temps = temps })
     g.is
     (λ ws. get_moves known ws temps g.to.0 g.from.out g.from.index g.width (value.Word c.in-Some.word) c.in-Some.ensures gives)

@@ -32,6 +32,7 @@ mod Bytes
 mod Taken
 mod Texts
 mod UnionCells
+mod UnionMembers
 mod Wholes
 mod Within
 mod Near

@@ -1,20 +1,16 @@
--- The one cell of a union: how many bytes it has, and its parts. A word counts its members.
-use Rattle.std.proofs.Common.{◌≡◌, ◌∙◌, ℕ, ◌+◌, ◌-◌, ◌^◌, ◌<◌, ◌≤◌, max, Bool, true, false, refl, sym, ap, subst, arith}
-use Rattle.std.proofs.Common.{List, [], ◌∷◌, ◌++◌, length, map, Option, Some, None, if◌then◌else◌}
+-- The one cell of a union: how many bytes it has, and its parts.
+use Rattle.std.proofs.Common.{◌≡◌, ◌∙◌, ℕ, ◌+◌, ◌-◌, ◌≤◌, max, Bool, true, false, refl, sym, ap, subst, arith}
+use Rattle.std.proofs.Common.{List, [], ◌∷◌, ◌++◌, map, Option, Some, None, if◌then◌else◌}
 use Rattle.std.specs.Prelude.{◌||◌, IfSome, bytes_eq, is_some, option_map}
 use Rattle.std.proofs.lemmas.Bool.{true≢false, false≢true}
-use Rattle.std.proofs.lemmas.List.{length-map}
-use Rattle.cyc_tree.specs.View.{member_tree}
 use Rattle.source_meaning.specs.Shapes.{Shape, IntShape, UnsignedShape, CharShape, VoidShape, ThinShape, FatShape, HandleShape}
 use Rattle.source_meaning.specs.Shapes.{KeyShape, StructShape, UnionShape, ArrayShape}
-use Rattle.source_meaning.specs.Shapes.{Part, Layout, has_tag, part_of, parts_of}
+use Rattle.source_meaning.specs.Shapes.{Part, Layout, has_tag, parts_of}
 use Rattle.source_meaning.specs.Sizes.{Extent, extent_by, largest, no_extent, rounded_up, union_extent}
 use Rattle.source_meaning.specs.Steps.{World}
 use Rattle.core_meaning.specs.Memory.{Blank, PartShape}
 use Rattle.core_meaning.specs.Memory as memory
 use Rattle.source_lowering.specs.Layouts.{has_fat, is_fat, layout_of, padding, part_shape_of, union_pieces}
-use Rattle.source_lowering.specs.Lowerable.{AreUnions}
-use Rattle.source_lowering.proofs.expressions.UnionMembers.{union_few}
 use Rattle.source_lowering.proofs.UnionSizes.{IsSmall, value_size, word_small}
 use Rattle.cyc_core.specs.Trees.{cell_bytes, made_parts, part_layout}
 use Rattle.lower_checks.specs.Cells.{cell_for}
@@ -193,15 +189,6 @@ pub found_union : (w : World) (tag : List ℕ) (found : Option code.Union) → A
     → IfSome found (λ u. part_layout u.cell ≡ layout_of w (UnionShape tag))
 found_union w tag None laid is = tt
 found_union w tag (Some u) laid is = union_layout w tag (union_tree u) laid (sym is)
-
--- a word counts its members
-pub found_few : (unions : List Layout) (tag : List ℕ) (found : Option code.Union) → AreUnions unions → AreUnionsLaid unions
-    → option_map union_tree found ≡ first_union unions tag → IfSome found (λ u. length u.members.now < 2 ^ 32)
-found_few unions tag None are laid is = tt
-found_few unions tag (Some u) are laid is =
-    let of = union_found unions tag (union_tree u) laid (sym is) in
-    let parts_are : map part_of (map member_tree u.members.now) ≡ parts_of unions tag = ap (λ (x : Union). x.parts) of.parts in
-    omega (arith, union_few unions tag are, ap length parts_are, length-map (map member_tree u.members.now) part_of, length-map u.members.now member_tree)
 
 -- none has the tag where none is found
 pub none_has : (unions : List Layout) (tag : List ℕ) (found : Option code.Union) → found ≡ None → option_map union_tree found ≡ first_union unions tag

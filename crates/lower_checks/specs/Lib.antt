@@ -14,6 +14,7 @@ pub mod Signs
 pub mod Simple
 pub mod Structs
 pub mod Tables
+pub mod UnionMembers
 pub mod Unions
 pub mod Views
 pub mod Visible

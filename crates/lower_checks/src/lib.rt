@@ -50,6 +50,7 @@ mod subscript;
 mod switch;
 mod table;
 mod text;
+mod union_members;
 mod unions;
 mod usage;
 mod values;

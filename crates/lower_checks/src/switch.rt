@@ -1,12 +1,12 @@
 // `switch`: a clause for each member of a union.
 
-ghost use Rattle.std.specs.Prelude.{◌≡◌, ◌+◌, ◌<◌, ◌^◌, ◌∷◌, ◌++◌, [], IfSome, List, is_some, length, map, true};
+ghost use Rattle.std.specs.Prelude.{◌≡◌, ◌+◌, ◌∷◌, ◌++◌, [], IfSome, List, is_some, map, true};
 ghost use Rattle.core_meaning.specs.Core as core;
 ghost use Rattle.cyc_core.specs.Trees.{statement_tree};
 ghost use Rattle.cyc_tree.specs.Tree as tree;
-ghost use Rattle.cyc_tree.specs.View.{clause_tree, clauses_of, expression_tree, item_tree, items_of, member_tree, name_tree};
+ghost use Rattle.cyc_tree.specs.View.{clause_tree, clauses_of, expression_tree, item_tree, items_of, name_tree};
 ghost use Rattle.source_meaning.specs.Programs.{world_of};
-ghost use Rattle.source_meaning.specs.Shapes.{Part, part_of, part_shape, part_shapes};
+ghost use Rattle.source_meaning.specs.Shapes.{Part, part_shape, part_shapes, parts_of};
 ghost use Rattle.source_lowering.specs.Lowered.{
   all_of,
   expression_values,
@@ -51,20 +51,20 @@ use crate::shape::Shape;
 use crate::statement::{declare, enter, lower_block, lower_inside, lower_items};
 use crate::stored::Stored;
 use crate::table::Table;
-use crate::unions::{Chosen, member_named};
+use crate::union_members::Chosen;
 use crate::variable::lower_put_local;
 use crate::words::{lower_held_loads, lower_tag};
 use cyc_core::{Binary, Operation, Statement, Temporary, Variable};
-use cyc_tree::{BlockItem, Clause, Expression, Member, Name, Pattern};
+use cyc_tree::{BlockItem, Clause, Expression, Name, Pattern};
 
-/// Appends what leaves a pointer to a place that is a union in a temporary, and the union's tag in the next one; gives the union's members,
-/// where the place is a union of the program; appends the shapes of the unnamed values.
+/// Appends what leaves a pointer to a place that is a union in a temporary, and the number of the member that it holds in the next one; gives
+/// the tag of the union's type, where that is one of the program; appends the shapes of the unnamed values.
 fn lower_union_place<'p>(
     scope: &Scope<'_, 'p>,
     place: &'p Expression,
     body: &mut Body<'p>,
     to: Temporary,
-) -> Option<&'p [Member]>
+) -> Option<&'p [u8]>
     requires room { HasRoom to.0 (1 + room (expression_tree place.now)) }
     requires taken { let w = world_in scope.now in
         let e = expression_tree place.now in
@@ -73,30 +73,25 @@ fn lower_union_place<'p>(
         let e = expression_tree place.entry.now in
         Writes body.old body.new (place_code w (names_in scope.now) e to.0 (next_of body.old) ++ tag_load (to.0 + 1) to.0)
         (expression_values w (names_in scope.now) e) }
-    ensures members { let w = world_in scope.now in
+    ensures parts { let w = world_in scope.now in
         let parts = union_parts w (static_shape w (names_in scope.now) (expression_tree place.entry.now)) in
-        IsSound body.new → IfSome result (λ ms. map part_of (map member_tree ms.now) ≡ parts) }
-    ensures few { IfSome result (λ ms. length ms.now < 2 ^ 32) }
-    ensures values { IsSound body.new → IfSome result (λ ms. AreValues (part_shapes (map part_of (map member_tree ms.now)))) }
+        IsSound body.new → IfSome result (λ tag. parts_of w.unions tag.now ≡ parts) }
+    ensures values { IfSome result (λ tag. AreValues (part_shapes (parts_of (world_in scope.now).unions tag.now))) }
     ensures found { IsSound body.new → is_some result ≡ true }
 {
     let shape = lower_place(scope, place, body, to);
     let tag = behind(to, 1);
     lower_tag(body, tag, to);
-    match scope.program.union_at(shape) {
-        Some(known) => Some(known.members),
-        None => None,
-    }
+    scope.program.union_tag(shape)
 }
 
-/// The member of a name among these.
-fn chosen_of<'p>(members: &'p [Member], name: &[u8], body: &Body<'_>) -> Chosen<'p>
-    requires few { length members.now < 2 ^ 32 }
-    requires taken { IsSound body.now → IsMember (map part_of (map member_tree members.now)) name.now }
-    ensures number { let parts = map part_of (map member_tree members.entry.now) in IsSound body.now → result.number ≡ member_number parts name.now }
-    ensures shape { let parts = map part_of (map member_tree members.entry.now) in IsSound body.now → shape_tree result.shape ≡ part_shape parts name.now }
+/// The member of a name of the union of a tag.
+fn chosen_of<'p>(program: &Table<'p>, tag: &[u8], name: &[u8], body: &Body<'_>) -> Chosen<'p>
+    requires taken { IsSound body.now → IsMember (parts_of (world_of program.now).unions tag.now) name.now }
+    ensures number { let parts = parts_of (world_of program.now).unions tag.now in IsSound body.now → result.number ≡ member_number parts name.now }
+    ensures shape { let parts = parts_of (world_of program.now).unions tag.now in IsSound body.now → shape_tree result.shape ≡ part_shape parts name.now }
 {
-    match member_named(members, name) {
+    match program.member(tag, name) {
         Some(chosen) => chosen,
         None => {
             body.never();
@@ -220,13 +215,13 @@ fn lower_case<'p>(
     body.branch(test, clause, Vec::new(body.alloc));
 }
 
-/// Appends what does each clause for a member of a union with these members, one after the other; appends the shapes of the unnamed values.
+/// Appends what does each clause for a member of the union of a tag, one after the other; appends the shapes of the unnamed values.
 #[cycle(statement)]
 fn lower_cases<'p>(
     program: &Table<'p>,
     shape: &Shape<'_>,
     locals: &mut Locals<'p>,
-    members: &'p [Member],
+    tag: &[u8],
     clauses: &'p [Clause],
     body: &mut Body<'p>,
     around: RegionsAround,
@@ -235,13 +230,12 @@ fn lower_cases<'p>(
     requires room { HasRoom around.all (clause_room (clauses_of (map clause_tree clauses.now))) }
     requires counted { IsCounted around }
     requires taken { IsSound body.old →
-        TakesClauses (world_of program.now) (shape_tree shape.now) (names_of locals.old) (map part_of (map member_tree members.now))
+        TakesClauses (world_of program.now) (shape_tree shape.now) (names_of locals.old) (parts_of (world_of program.now).unions tag.now)
         (clauses_of (map clause_tree clauses.now)) }
-    requires few { length members.now < 2 ^ 32 }
-    requires values { IsSound body.old → AreValues (part_shapes (map part_of (map member_tree members.now))) }
+    requires values { AreValues (part_shapes (parts_of (world_of program.now).unions tag.now)) }
     ensures writes { let w = world_of program.now in
         let names = names_of locals.old in
-        let parts = map part_of (map member_tree members.entry.now) in
+        let parts = parts_of w.unions tag.now in
         let cs = clauses_of (map clause_tree clauses.entry.now) in
         Writes body.old body.new (cases_code w (shape_tree shape.now) names (regions_tree around opened.now) parts (next_of body.old) cs)
         (case_values w names parts cs) }
@@ -251,7 +245,7 @@ fn lower_cases<'p>(
         let pattern = &clause.pattern;
         match pattern {
             Pattern::Case(member, name) => {
-                let chosen = chosen_of(members, &member.text, body);
+                let chosen = chosen_of(program, tag, &member.text, body);
                 lower_case(
                     program,
                     shape,
@@ -331,7 +325,7 @@ pub fn lower_switch<'p>(
     ensures kept { IsSound body.new → locals.new ≡ locals.old }
 {
     let outer = body.begin();
-    let members = lower_union_place(
+    let tag = lower_union_place(
         &Scope {
             alloc: body.alloc,
             program,
@@ -343,10 +337,8 @@ pub fn lower_switch<'p>(
         around.value(),
     );
     let inside = around.in_switch();
-    match members {
-        Some(members) => lower_cases(
-            program, shape, locals, members, clauses, body, inside, opened,
-        ),
+    match tag {
+        Some(tag) => lower_cases(program, shape, locals, tag, clauses, body, inside, opened),
         None => body.never(),
     }
     lower_default(program, shape, locals, clauses, body, inside, opened);

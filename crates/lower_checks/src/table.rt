@@ -1,15 +1,15 @@
 // The functions, globals and structs of a program, by their names.
 
-ghost use Rattle.std.specs.Prelude.{◌≡◌, ◌<◌, ◌^◌, ℕ, suc, List, ◌∷◌, [], IfOk, OnOk, IfSome, length, map, option_copied, option_map};
+ghost use Rattle.std.specs.Prelude.{◌≡◌, ℕ, suc, List, ◌∷◌, [], IfOk, OnOk, IfSome, is_some, length, map, option_copied, option_map};
 ghost use Rattle.cyc_tree.specs.Tree as tree;
-ghost use Rattle.cyc_tree.specs.View.{program_tree, function_tree, global_tree, member_tree};
-ghost use Rattle.source_meaning.specs.Shapes.{StructShape, UnionShape, part_of, part_shapes, written, settled};
+ghost use Rattle.cyc_tree.specs.View.{program_tree, function_tree, global_tree};
+ghost use Rattle.source_meaning.specs.Shapes.{StructShape, UnionShape, part_position, part_shape, part_shapes, parts_of, written, settled};
 ghost use Rattle.source_meaning.specs.Places.{bound_to, or_else, string_at};
 ghost use Rattle.source_meaning.specs.Strings.{program_strings};
 ghost use Rattle.listed_strings.specs.Listing.{literal_of};
 ghost use Rattle.source_meaning.specs.Calls.{function_of};
 ghost use Rattle.source_meaning.specs.Programs.{functions_of, routine_of, globals_from, global_shape, structs_from, unions_of, world_of};
-ghost use Rattle.source_lowering.specs.Lowered.{number_of};
+ghost use Rattle.source_lowering.specs.Lowered.{number_of, union_parts};
 ghost use Rattle.source_meaning.specs.Sizes.{union_extent};
 ghost use Rattle.lower_checks.specs.Structs.{IsFound, Knows, room_tree};
 ghost use Rattle.lower_checks.specs.Views.{found_entity, shape_tree, stored_tree, text_value};
@@ -24,6 +24,7 @@ use crate::first::Firsts;
 use crate::layouts::{Known, Room, Structs};
 use crate::shape::Shape;
 use crate::stored::Stored;
+use crate::union_members::{Chosen, UnionMembers, all_members};
 use crate::unions::{Union, first_unions};
 use bumpalo::Bump;
 use cyc_core::Width;
@@ -53,8 +54,8 @@ pub struct Text {
     pub count: u32,
 }
 
-/// A program, with its functions, globals and structs by their names, its strings by their places, and an arena for what shapes hold beside
-/// the text. A contract sees it as the program's tree.
+/// A program, with its functions, globals, structs and members of unions by their names, its strings by their places, and an arena for what
+/// shapes hold beside the text. A contract sees it as the program's tree.
 #[derive(Drop)]
 pub struct Table<'p> {
     items: &'p [Item],
@@ -62,6 +63,7 @@ pub struct Table<'p> {
     functions: Firsts<'p, Callee<'p>>,
     globals: Firsts<'p, Found<'p>>,
     structs: Structs<'p>,
+    members: UnionMembers<'p>,
     strings: Strings<'p>,
     // how many globals there are, behind which the strings lie
     behind: usize,
@@ -80,7 +82,7 @@ impl<'p> Model for Table<'p> {
 
     ghost view = { λ t. program_tree t.items.now };
 
-    ghost invariant = { λ t. AreTables (program_tree t.items.now) t.functions t.globals t.structs t.strings t.behind };
+    ghost invariant = { λ t. AreTables (program_tree t.items.now) t.functions t.globals t.structs t.members t.strings t.behind };
 }
 
 /// The first function of each name. Fails only where no host memory is left.
@@ -181,6 +183,7 @@ impl<'p> Table<'p> {
         let functions = first_functions(alloc, items)?;
         let globals = first_globals(alloc, items)?;
         let structs = all_structs(alloc, items)?;
+        let members = all_members(alloc, items)?;
         let strings = Strings::of(alloc, items)?;
         Ok(Table {
             items,
@@ -188,6 +191,7 @@ impl<'p> Table<'p> {
             functions,
             globals,
             structs,
+            members,
             strings,
             behind,
         })
@@ -218,7 +222,6 @@ impl<'p> Table<'p> {
     pub fn union_of(&self, tag: &[u8]) -> Option<Union<'p>>
         ensures found { option_map union_tree result ≡ first_union (unions_of self.now) tag.now }
         ensures layout { IfSome result (λ u. part_layout u.cell ≡ layout_of (world_of self.now) (UnionShape tag.now)) }
-        ensures few { IfSome result (λ u. length u.members.now < 2 ^ 32) }
     {
         self.structs.union_of(tag)
     }
@@ -226,13 +229,34 @@ impl<'p> Table<'p> {
     /// The union of a shape, if it is one of the program's.
     pub fn union_at(&self, shape: Shape<'_>) -> Option<Union<'p>>
         ensures found { option_map union_tree result ≡ union_by (unions_of self.now) (shape_tree shape.entry) }
-        ensures values { IfSome result (λ u. AreValues (part_shapes (map part_of (map member_tree u.members.now)))) }
-        ensures few { IfSome result (λ u. length u.members.now < 2 ^ 32) }
     {
         match shape {
             Shape::Union(tag) => self.structs.union_of(tag),
             _ => None,
         }
+    }
+
+    /// The tag of a shape, if it is one of the program's unions.
+    pub fn union_tag(&self, shape: Shape<'p>) -> Option<&'p [u8]>
+        ensures found { is_some result ≡ is_some (union_by (unions_of self.now) (shape_tree shape.entry)) }
+        ensures parts { IfSome result (λ tag. parts_of (unions_of self.now) tag.now ≡ union_parts (world_of self.now) (shape_tree shape.entry)) }
+        ensures values { IfSome result (λ tag. AreValues (part_shapes (parts_of (unions_of self.now) tag.now))) }
+    {
+        match shape {
+            Shape::Union(tag) => match self.structs.union_of(tag) {
+                Some(_) => Some(tag),
+                None => None,
+            },
+            _ => None,
+        }
+    }
+
+    /// The member of a name of the union of a tag, if there is one.
+    pub fn member(&self, tag: &[u8], name: &[u8]) -> Option<Chosen<'p>>
+        ensures number { let parts = parts_of (unions_of self.now) tag.now in option_map (λ m. m.number) result ≡ part_position parts name.now }
+        ensures shape { let parts = parts_of (unions_of self.now) tag.now in IfSome result (λ m. shape_tree m.shape ≡ part_shape parts name.now) }
+    {
+        self.members.of(tag, name)
     }
 
     /// The bytes of the union of a tag; where there is none, of a word for a tag.

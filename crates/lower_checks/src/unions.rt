@@ -1,13 +1,12 @@
 // The tagged unions of a program by their tags: their members, and what their cells are made for.
 
-ghost use Rattle.std.specs.Prelude.{◌≡◌, ◌<◌, ◌^◌, ℕ, List, IfOk, IfSome, Some, length, map, option_map};
+ghost use Rattle.std.specs.Prelude.{◌≡◌, ℕ, List, IfOk, map};
 ghost use Rattle.cyc_tree.specs.View.{member_tree, program_tree};
-ghost use Rattle.source_meaning.specs.Shapes.{part_of, part_position, part_shape, part_shapes};
+ghost use Rattle.source_meaning.specs.Shapes.{part_of, part_shapes};
 ghost use Rattle.source_meaning.specs.Programs.{unions_of};
 ghost use Rattle.source_lowering.specs.Layouts.{has_fat};
 ghost use Rattle.source_lowering.specs.Lowerable.{AreUnions, AreValues, HasMember};
 ghost use Rattle.lower_checks.specs.Unions.{AreUnionsLaid, HaveCells, cell_by, first_union, union_in};
-ghost use Rattle.lower_checks.specs.Views.{shape_tree};
 
 use crate::first::Firsts;
 use crate::layouts::cell_of;
@@ -21,13 +20,6 @@ use std::alloc::{AllocError, Global};
 pub struct Union<'p> {
     pub members: &'p [Member],
     pub cell: Cell,
-}
-
-/// A member of a union that was found by its name: its number, from 0 on, and the shape of its type.
-#[derive(Clone, Copy)]
-pub struct Chosen<'p> {
-    pub number: u32,
-    pub shape: Shape<'p>,
 }
 
 /// What the cell of a union with these members is made for: integers, pointers, handles and keys, at least one.
@@ -64,25 +56,4 @@ pub fn first_unions<'p>(
         }
     }
     Ok(unions)
-}
-
-/// The member of a name among these, if there is one.
-pub fn member_named<'p>(members: &'p [Member], name: &[u8]) -> Option<Chosen<'p>>
-    requires few { length members.now < 2 ^ 32 }
-    ensures number { let parts = map part_of (map member_tree members.entry.now) in
-        option_map (λ m. m.number) result ≡ part_position parts name.now }
-    ensures shape { let parts = map part_of (map member_tree members.entry.now) in
-        IfSome result (λ m. shape_tree m.shape ≡ part_shape parts name.now) }
-{
-    let mut number = 0;
-    'each: for member in members {
-        if member.name.text.as_slice() == name {
-            return Some(Chosen {
-                number,
-                shape: Shape::of(&member.of),
-            });
-        }
-        number += 1;
-    }
-    None
 }

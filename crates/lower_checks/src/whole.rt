@@ -1,6 +1,6 @@
 // Structs and tagged unions as values: made of their members, or copied from a place.
 
-ghost use Rattle.std.specs.Prelude.{◌≡◌, ◌≤◌, ◌+◌, ◌++◌, ◌<◌, ◌^◌, ◌∷◌, length, suc, true, map};
+ghost use Rattle.std.specs.Prelude.{◌≡◌, ◌≤◌, ◌+◌, ◌++◌, ◌∷◌, suc, true, map};
 ghost use Rattle.core_meaning.specs.Core as core;
 ghost use Rattle.cyc_tree.specs.View.{member_tree, expression_tree, expressions_of};
 ghost use Rattle.source_meaning.specs.Shapes.{StructShape, UnionShape, has_tag, part_of, part_shape, parts_of};
@@ -52,7 +52,6 @@ use crate::shape::Shape;
 use crate::shaped::shape_of;
 use crate::sizes::{count, extent};
 use crate::table::Table;
-use crate::unions::member_named;
 use crate::values::lower_conversion;
 use crate::words::{lower_held_stores, lower_set_tag, lower_stores};
 use cyc_core::{Operation, Origin, Temporary};
@@ -206,11 +205,11 @@ fn lower_made<'p>(
     }
 }
 
-/// Appends what makes the union to which the pointer in a temporary leads hold the member of a name, whose value, of another shape as yet,
-/// is in the next temporaries.
+/// Appends what makes the union of a tag, to which the pointer in a temporary leads, hold the member of a name, whose value, of another shape
+/// as yet, is in the next temporaries.
 fn lower_held(
     program: &Table<'_>,
-    members: &[Member],
+    tag: &[u8],
     member: &[u8],
     from: &Shape<'_>,
     body: &mut Body<'_>,
@@ -218,13 +217,12 @@ fn lower_held(
     at: Origin,
 )
     requires room { rooms.HasRoom to.0 4 }
-    requires few { length members.now < 2 ^ 32 }
-    requires taken { IsSound body.old → IsMember (map part_of (map member_tree members.now)) member.now }
-    ensures { let parts = map part_of (map member_tree members.now) in
+    requires taken { IsSound body.old → IsMember (parts_of (world_of program.now).unions tag.now) member.now }
+    ensures { let parts = parts_of (world_of program.now).unions tag.now in
         Emits body.old body.new
         (union_code (world_of program.now) (part_shape parts member.now) (shape_tree from.now) (member_number parts member.now) to.0) }
 {
-    match member_named(members, member) {
+    match program.member(tag, member) {
         Some(chosen) => {
             let value = behind(to, 1);
             let free = behind(value, chosen.shape.words());
@@ -261,24 +259,19 @@ fn lower_union<'p>(
         union_code w (part_shape parts member.now) (static_shape w names e) (member_number parts member.now) to.0))
         (UnionShape tag.entry.now ∷ expression_values w names e) }
 {
-    match scope.program.union_of(tag) {
-        Some(known) => {
-            let own = body.value(&Shape::Union(tag));
-            body.operation(Operation::OwnAddress(to, own));
-            let next = behind(to, 1);
-            let from = lower_expression(scope, value, body, next);
-            lower_held(
-                scope.program,
-                known.members,
-                member,
-                &from,
-                body,
-                to,
-                Origin(value.place()),
-            );
-        }
-        None => body.never(),
-    }
+    let own = body.value(&Shape::Union(tag));
+    body.operation(Operation::OwnAddress(to, own));
+    let next = behind(to, 1);
+    let from = lower_expression(scope, value, body, next);
+    lower_held(
+        scope.program,
+        tag,
+        member,
+        &from,
+        body,
+        to,
+        Origin(value.place()),
+    );
 }
 
 /// Appends what gives the members of a struct, to which the pointer in a temporary leads, the values of arguments, each where its member

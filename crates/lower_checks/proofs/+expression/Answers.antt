@@ -99,17 +99,11 @@ whole::lower_made-returns-in-Some = Wholes.whole::lower_made-returns-in-Some
 pub whole::lower_union-lower_held-requires : goal.whole::lower_union-lower_held-requires
 whole::lower_union-lower_held-requires = Wholes.whole::lower_union-lower_held-requires
 
-pub whole::lower_union-never-requires : goal.whole::lower_union-never-requires
-whole::lower_union-never-requires = Wholes.whole::lower_union-never-requires
-
-pub whole::lower_union-returns-in-None : goal.whole::lower_union-returns-in-None
-whole::lower_union-returns-in-None = Wholes.whole::lower_union-returns-in-None
-
 pub whole::lower_member-lower_struct_member-requires : goal.whole::lower_member-lower_struct_member-requires
 whole::lower_member-lower_struct_member-requires = Wholes.whole::lower_member-lower_struct_member-requires
 
-pub whole::lower_union-returns-in-Some : goal.whole::lower_union-returns-in-Some
-whole::lower_union-returns-in-Some = Wholes.whole::lower_union-returns-in-Some
+pub whole::lower_union-returns : goal.whole::lower_union-returns
+whole::lower_union-returns = Wholes.whole::lower_union-returns
 
 pub place::lower_through-returns : goal.place::lower_through-returns
 place::lower_through-returns = Places.place::lower_through-returns

@@ -93,8 +93,8 @@ switch::lower_default-returns-in-Default-clause-writes = Switches.switch::lower_
 pub switch::lower_default-returns-clause-writes : goal.switch::lower_default-returns-clause-writes
 switch::lower_default-returns-clause-writes = Switches.switch::lower_default-returns-clause-writes
 
-pub switch::lower_switch-lower_union_place-members-requires : goal.switch::lower_switch-lower_union_place-members-requires
-switch::lower_switch-lower_union_place-members-requires = Switches.switch::lower_switch-lower_union_place-members-requires
+pub switch::lower_switch-lower_union_place-tag-requires : goal.switch::lower_switch-lower_union_place-tag-requires
+switch::lower_switch-lower_union_place-tag-requires = Switches.switch::lower_switch-lower_union_place-tag-requires
 
 pub switch::lower_switch-lower_cases-requires : goal.switch::lower_switch-lower_cases-requires
 switch::lower_switch-lower_cases-requires = Switches.switch::lower_switch-lower_cases-requires

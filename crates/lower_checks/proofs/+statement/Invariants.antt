@@ -1,7 +1,7 @@
 use Rattle.std.proofs.Common.{◌≡◌, ◌≤◌, ◌++◌, length, map, drop, List}
-use Rattle.cyc_tree.specs.View.{clause_tree, clauses_of, item_tree, items_of, member_tree}
+use Rattle.cyc_tree.specs.View.{clause_tree, clauses_of, item_tree, items_of}
 use Rattle.source_meaning.specs.Programs.{world_of}
-use Rattle.source_meaning.specs.Shapes.{Part, part_of}
+use Rattle.source_meaning.specs.Shapes.{Part, parts_of}
 use Rattle.source_lowering.specs.Programs.{block_shapes, case_values, cases_code, default_code, default_values, item_values, items_code}
 use Rattle.source_lowering.specs.Lowerable.{TakesClauses, TakesItems}
 use Rattle.cyc_tree.specs.Room.{clause_room, item_room}
@@ -46,7 +46,7 @@ invariant-switch::lower_cases-each l =
     let result = shape_tree l.shape in
     let names = names_of l.initial.locals in
     let h = regions_tree l.around l.opened in
-    let parts = map part_of (map member_tree l.members) in
+    let parts = parts_of w.unions l.tag in
     let all = clauses_of (map clause_tree l.clauses) in
     let others = clauses_of (map clause_tree (drop l.clause-index l.clauses)) in
     record {

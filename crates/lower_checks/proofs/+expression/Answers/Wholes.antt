@@ -30,13 +30,10 @@ use Rattle.cyc_tree.specs.Room.{argument_room}
 use Rattle.lower_checks.specs.Room as rooms
 use Rattle.lower_checks.specs.Scoped.{names_in, world_in}
 use Rattle.lower_checks.specs.Structs.{HaveRoom, room_tree}
-use Rattle.lower_checks.specs.Unions.{union_tree}
 use Rattle.lower_checks.specs.Views.{shape_tree}
 use Rattle.lower_checks.specs.Within.{AreWithin}
 use Rattle.lower_checks.specs.Writing.{IsEmitted, IsLeft, IsWritten, next_of}
 use Rattle.lower_checks.proofs.Making.{IsWholeOne, room_whole}
-use Rattle.lower_checks.proofs.Clauses.{parts_known}
-use Rattle.lower_checks.proofs.UnionCells.{none_has}
 use Rattle.lower_checks.proofs.Writing.{
   emitted_next,
   left_more,
@@ -211,24 +208,11 @@ whole::lower_made-returns-in-Some t c = record {
 pub whole::lower_union-lower_held-requires : goal.whole::lower_union-lower_held-requires
 whole::lower_union-lower_held-requires t c = record {
   room = omega (arith, c.requires.room);
-  few = c.in-Some.ensures.few;
   taken = λ sound.
-      let w = world_in c.args.scope.now in
       let three = c.lower_expression-from.ensures.writes sound in
       let one = c.operation.ensures three.sound in
       let a = (c.value-own.ensures.writes one.sound).sound in
-      let parts_are = parts_known w (UnionShape c.args.tag.now) (union_tree c.in-Some.known) (sym c.in-Some.ensures.found) in
-      subst (λ ps. IsMember ps c.args.member.now) (sym parts_are) (c.requires.taken a).1.0;
-}
-
-pub whole::lower_union-never-requires : goal.whole::lower_union-never-requires
-whole::lower_union-never-requires t c sound =
-    none_has (world_in c.args.scope.now).unions c.args.tag.now c.union_of.result c.in-None.is c.union_of.ensures.found (c.requires.taken sound).0
-
-pub whole::lower_union-returns-in-None : goal.whole::lower_union-returns-in-None
-whole::lower_union-returns-in-None t c = record {
-  writes = λ sound.
-      absurd (none_has (world_in c.args.scope.now).unions c.args.tag.now c.union_of.result c.in-None.is c.union_of.ensures.found (c.requires.taken sound).0);
+      (c.requires.taken a).1.0;
 }
 
 -- a member that is a struct or a union, and has room, is one of the program's
@@ -243,8 +227,8 @@ whole::lower_member-lower_struct_member-requires t c = record {
       room_whole w.unions w.structs s one (c.requires.taken a).0;
 }
 
-pub whole::lower_union-returns-in-Some : goal.whole::lower_union-returns-in-Some
-whole::lower_union-returns-in-Some t c = record {
+pub whole::lower_union-returns : goal.whole::lower_union-returns
+whole::lower_union-returns t c = record {
   writes = λ sound.
       let w = world_in c.args.scope.now in
       let names = names_in c.args.scope.now in
@@ -260,8 +244,7 @@ whole::lower_union-returns-in-Some t c = record {
       let x = c.lower_expression-from.new.body in
       let z = c.lower_held.new.body in
       let next = c.behind-next.result.0 in
-      let parts = map part_of (map member_tree c.in-Some.known.members.now) in
-      let parts_are : parts_of w.unions tag ≡ parts = sym (parts_known w (UnionShape tag) (union_tree c.in-Some.known) (sym c.in-Some.ensures.found)) in
+      let parts = parts_of w.unions tag in
       let five = c.lower_held.ensures sound in
       let four = c.lower_expression-from.ensures.writes five.sound in
       let two = c.operation.ensures four.sound in
@@ -274,13 +257,11 @@ whole::lower_union-returns-in-Some t c = record {
       let begun = subst (λ n. IsWritten o x (expression_code w names e n (next_of o)) values) at_is four in
       let value = expression_code w names e (d + 1) (suc own) in
       let valued = subst (λ n. IsWritten o x (expression_code w names e (d + 1) n) values) number begun in
-      let holding : List Part → Shape → List Statement = λ ps from. union_code w (part_shape ps member) from (member_number ps member) d in
-      let held = subst (λ r. IsEmitted x z (holding parts r)) (c.lower_expression-from.ensures.shape five.sound) five in
+      let holding : Shape → List Statement = λ from. union_code w (part_shape parts member) from (member_number parts member) d in
+      let held = subst (λ r. IsEmitted x z (holding r)) (c.lower_expression-from.ensures.shape five.sound) five in
       let first = write_emit a v o [] here here (UnionShape tag ∷ []) one address refl in
-      let second = write_emit o x z value (holding parts s) (value ++ holding parts s) values valued held refl in
-      subst (λ ps. IsWritten a z (here ++ (value ++ holding ps s)) (UnionShape tag ∷ values)) (sym parts_are)
-      (write_write a o z here (value ++ holding parts s) (here ++ (value ++ holding parts s)) (UnionShape tag ∷ []) values (UnionShape tag ∷ values) first
-      second refl refl);
+      let second = write_emit o x z value (holding s) (value ++ holding s) values valued held refl in
+      write_write a o z here (value ++ holding s) (here ++ (value ++ holding s)) (UnionShape tag ∷ []) values (UnionShape tag ∷ values) first second refl refl;
 }
 
 -- what is copied from a place has room for the temporary behind it

@@ -1,12 +1,12 @@
 -- The clauses of a `switch` that name a member, one after another.
 use Rattle.std.proofs.Common.{rules, ◌≡◌, ◌∙◌, ◌+◌, ℕ, arith, sym, ap, subst, [], ◌∷◌, ◌++◌, length, map, drop, List}
 use Rattle.std.proofs.lemmas.List.{drop_all}
-use Rattle.cyc_tree.specs.View.{clause_tree, clauses_of, name_tree, item_tree, items_of, member_tree, pattern_tree}
+use Rattle.cyc_tree.specs.View.{clause_tree, clauses_of, name_tree, item_tree, items_of, pattern_tree}
 use Rattle.cyc_tree.specs.Tree as tree
 use Rattle.cyc_tree.specs.Tree.{BlockItems, Clauses, NoClauses, MoreClauses}
 use Rattle.cyc_tree.specs.declared.statement.BlockItem.TheFolds.{the_lemmas}
 use Rattle.core_meaning.specs.Core as core
-use Rattle.source_meaning.specs.Shapes.{Shape, part_of, part_shape}
+use Rattle.source_meaning.specs.Shapes.{Shape, part_shape, parts_of}
 use Rattle.source_meaning.specs.Programs.{world_of}
 use Rattle.source_lowering.specs.Lowered.{Named, all_of, held_loads, member_number, put_local}
 use Rattle.source_lowering.specs.Programs.{block_shapes, case_values, cases_code, item_values, items_code, locals_of, named_here, outward}
@@ -25,12 +25,11 @@ use Rattle.lower_checks.proofs.+statement.Goals.{switch::lower_cases-in-Case, sw
 -- a clause of those that are left
 pub switch::lower_cases-chosen_of-chosen-requires : goal.switch::lower_cases-chosen_of-chosen-requires
 switch::lower_cases-chosen_of-chosen-requires t c = record {
-  few = c.requires.few;
   taken = λ sound.
       let w = world_of c.args.program.now in
       let result = shape_tree c.args.shape.now in
       let names = names_of c.args.locals.now in
-      let parts = map part_of (map member_tree c.args.members.now) in
+      let parts = parts_of w.unions c.args.tag.now in
       let k = c.each.clause-index in
       let clause = c.clause-item.result in
       let others = clauses_of (map clause_tree (drop (k + 1) c.args.clauses.now)) in
@@ -46,7 +45,7 @@ switch::lower_cases-lower_case-requires t c =
     let w = world_of c.args.program.now in
     let result = shape_tree c.args.shape.now in
     let names = names_of c.args.locals.now in
-    let parts = map part_of (map member_tree c.args.members.now) in
+    let parts = parts_of w.unions c.args.tag.now in
     let k = c.each.clause-index in
     let clause = c.clause-item.result in
     let others = clauses_of (map clause_tree (drop (k + 1) c.args.clauses.now)) in
@@ -70,9 +69,8 @@ switch::lower_cases-lower_case-requires t c =
     (subst (λ ms. TakesItems w result (named_here text s 0 ∷ outward (names_of ms)) 1 items) (sym (c.each.invariant.written sound).locals) named) in
     let variable : IsSound c.each.body → IsVariable w.unions w.structs s = λ sound.
     let one = (inside sound).0 in
-    let first = (c.each.invariant.written sound).code.sound in
     subst (IsVariable w.unions w.structs) (sym (shape_is sound))
-    (member_variable w.unions w.structs parts member one.number (c.requires.values first) one.is) in
+    (member_variable w.unions w.structs parts member one.number c.requires.values one.is) in
     let both : HasRoom c.args.around.all (16 + (item_room items + clause_room others)) =
     subst (λ (cs : Clauses). HasRoom c.args.around.all (clause_room cs)) here c.each.invariant.room in
     let room : HasRoom c.args.around.all (16 + item_room its) =
@@ -87,7 +85,7 @@ switch::lower_cases-each-preserved t c =
     let result = shape_tree c.args.shape.now in
     let names = names_of c.args.locals.now in
     let h = regions_tree c.args.around c.args.opened.now in
-    let parts = map part_of (map member_tree c.args.members.now) in
+    let parts = parts_of w.unions c.args.tag.now in
     let k = c.each.clause-index in
     let clause = c.clause-item.result in
     let items = items_of (map item_tree clause.body.items) in
@@ -180,7 +178,7 @@ switch::lower_cases-returns-clause-writes t c sound =
     let result = shape_tree c.args.shape.now in
     let names = names_of c.args.locals.now in
     let h = regions_tree c.args.around c.args.opened.now in
-    let parts = map part_of (map member_tree c.args.members.now) in
+    let parts = parts_of w.unions c.args.tag.now in
     let a = c.args.body.now in
     let b = c.each.body in
     let all = clauses_of (map clause_tree c.args.clauses.now) in

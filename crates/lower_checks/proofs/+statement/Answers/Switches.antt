@@ -1,5 +1,5 @@
 -- A `switch`: its place, its clauses, and what is done by default.
-use Rattle.std.proofs.Common.{rules, ◌≡◌, ◌∙◌, ◌+◌, ◌<◌, ◌^◌, ℕ, arith, sym, ap, subst, [], ◌∷◌, ◌++◌, length, map, drop, List, append-nil}
+use Rattle.std.proofs.Common.{rules, ◌≡◌, ◌∙◌, ◌+◌, ℕ, arith, sym, ap, subst, [], ◌∷◌, ◌++◌, length, map, drop, List, append-nil}
 use Rattle.std.proofs.lemmas.List.{drop_all}
 use Rattle.std.specs.Prelude.{IfSome, is_some, true}
 use Rattle.cyc_tree.specs.View.{
@@ -10,7 +10,6 @@ use Rattle.cyc_tree.specs.View.{
   statement_tree as source_tree,
   item_tree,
   items_of,
-  member_tree,
   pattern_tree,
 }
 use Rattle.cyc_tree.specs.Tree as tree
@@ -19,7 +18,7 @@ use Rattle.cyc_tree.proofs.StatementForms.{switch_tree}
 use Rattle.cyc_tree.specs.declared.statement.BlockItem.TheFolds.{the_lemmas}
 use Rattle.core_meaning.specs.Core as core
 use Rattle.cyc_core.specs.Trees.{statement_tree}
-use Rattle.source_meaning.specs.Shapes.{Part, part_of, part_shapes}
+use Rattle.source_meaning.specs.Shapes.{Part, part_shapes, parts_of}
 use Rattle.source_meaning.specs.Programs.{world_of}
 use Rattle.source_lowering.specs.Lowered.{Named, all_of, expression_values, place_code, static_shape, tag_load, union_parts}
 use Rattle.source_lowering.specs.Programs.{
@@ -180,15 +179,15 @@ switch::lower_default-returns-clause-writes t c sound =
     }
 
 -- its place has room for the tag behind it
-pub switch::lower_switch-lower_union_place-members-requires : goal.switch::lower_switch-lower_union_place-members-requires
-switch::lower_switch-lower_union_place-members-requires t c = record {
+pub switch::lower_switch-lower_union_place-tag-requires : goal.switch::lower_switch-lower_union_place-tag-requires
+switch::lower_switch-lower_union_place-tag-requires t c = record {
   room = omega (arith, c.requires.room, c.value.ensures);
   taken = λ sound.
       let taken = c.requires.taken (sym c.begin-outer.ensures.begun.failed ∙ sound) in
       (taken.0, taken.1.0);
 }
 
--- the members are those of the union that is switched on
+-- the tag is that of the union that is switched on
 pub switch::lower_switch-lower_cases-requires : goal.switch::lower_switch-lower_cases-requires
 switch::lower_switch-lower_cases-requires t c =
     let w = world_of c.args.program.now in
@@ -196,19 +195,18 @@ switch::lower_switch-lower_cases-requires t c =
     let names = names_of c.args.locals.now in
     let parts = union_parts w (static_shape w names (expression_tree c.args.place.now)) in
     let clauses = clauses_of (map clause_tree c.args.clauses.now) in
-    let found = map part_of (map member_tree c.in-Some.members.now) in
-    let place = c.lower_union_place-members in
-    let taken : IsSound c.lower_union_place-members.new.body → TakesClauses w result names found clauses = λ sound.
-    let members_are = subst (λ r. IfSome r (λ ms. map part_of (map member_tree ms.now) ≡ parts)) c.in-Some.is (place.ensures.members sound) in
+    let found = parts_of w.unions c.in-Some.tag.now in
+    let place = c.lower_union_place-tag in
+    let taken : IsSound c.lower_union_place-tag.new.body → TakesClauses w result names found clauses = λ sound.
+    let parts_are = subst (λ r. IfSome r (λ tag. parts_of w.unions tag.now ≡ parts)) c.in-Some.is (place.ensures.parts sound) in
     let first = sym c.begin-outer.ensures.begun.failed ∙ (place.ensures.writes sound).sound in
-    subst (λ (ps : List Part). TakesClauses w result names ps clauses) (sym members_are) (c.requires.taken first).1.1 in
-    let values : IsSound c.lower_union_place-members.new.body → AreValues (part_shapes found) = λ sound.
-    subst (λ r. IfSome r (λ ms. AreValues (part_shapes (map part_of (map member_tree ms.now))))) c.in-Some.is (place.ensures.values sound) in
-    let few : length c.in-Some.members.now < 2 ^ 32 = subst (λ r. IfSome r (λ ms. length ms.now < 2 ^ 32)) c.in-Some.is place.ensures.few in
+    subst (λ (ps : List Part). TakesClauses w result names ps clauses) (sym parts_are) (c.requires.taken first).1.1 in
+    let values : AreValues (part_shapes found) =
+    subst (λ r. IfSome r (λ tag. AreValues (part_shapes (parts_of w.unions tag.now)))) c.in-Some.is place.ensures.values in
     let all_is : c.in_switch-inside.result.all ≡ c.args.around.all = c.in_switch-inside.ensures.all in
     let room : HasRoom c.in_switch-inside.result.all (clause_room clauses) = omega (arith, all_is, c.requires.room) in
     let counted : IsCounted c.in_switch-inside.result = c.in_switch-inside.ensures.counted in
-    search (rules, the_lemmas, room, counted, taken, few, values)
+    search (rules, the_lemmas, room, counted, taken, values)
 
 pub switch::lower_switch-returns-clause-writes : goal.switch::lower_switch-returns-clause-writes
 switch::lower_switch-returns-clause-writes t c sound =
@@ -223,8 +221,8 @@ switch::lower_switch-returns-clause-writes t c sound =
     let parts = union_parts w (static_shape w names e) in
     let a = c.args.body.now in
     let b = c.begin-outer.new.self in
-    let x = c.lower_union_place-members.new.body in
-    let y = c.match-members.body in
+    let x = c.lower_union_place-tag.new.body in
+    let y = c.match-tag.body in
     let v = c.lower_default.new.body in
     let f = c.end-all.new.self in
     let z = c.leaves.new.self in
@@ -233,23 +231,23 @@ switch::lower_switch-returns-clause-writes t c sound =
     let p = expression_values w names e in
     let q = case_values w names parts clauses in
     let r = default_values w names clauses in
-    let place = c.lower_union_place-members in
+    let place = c.lower_union_place-tag in
     let inside_is = c.in_switch-inside.ensures.regions c.args.opened.now in
     let to_is : c.value.result.0 ≡ d = c.value.ensures in
     let ended = c.end-all.ensures.ended in
     let begun = c.begin-outer.ensures.begun in
     let four = c.leaves.ensures sound in
     let three = c.lower_default.ensures.writes (sym ended.failed ∙ four.sound) in
-    let joined : IsWritten x y (cases (next_of x)) q × (c.match-members.locals ≡ c.args.locals.now) =
-    elim c.match-members.branch [
+    let joined : IsWritten x y (cases (next_of x)) q × (c.match-tag.locals ≡ c.args.locals.now) =
+    elim c.match-tag.branch [
       | switch::lower_switch-in-Some v ↦
           let done = v.lower_cases.ensures.writes (subst IsSound v.body-is three.sound) in
-          let members_are = subst (λ s. IfSome s (λ ms. map part_of (map member_tree ms.now) ≡ parts)) v.in-Some.is (place.ensures.members done.sound) in
+          let parts_are = subst (λ s. IfSome s (λ tag. parts_of w.unions tag.now ≡ parts)) v.in-Some.is (place.ensures.parts done.sound) in
           let last = v.lower_cases.new.body in
           let at_parts =
           subst (λ (ps : List Part). IsWritten x last
           (cases_code w result names (regions_tree c.in_switch-inside.result c.args.opened.now) ps (next_of x) clauses)
-          (case_values w names ps clauses)) members_are done in
+          (case_values w names ps clauses)) parts_are done in
           let at_regions =
           subst (λ (i : RegionsAround). IsWritten x last (cases_code w result names i parts (next_of x) clauses) q) inside_is at_parts in (
             subst (λ k. IsWritten x k (cases (next_of x)) q) (sym v.body-is) at_regions,
@@ -282,16 +280,16 @@ switch::lower_switch-lower_default-requires t c =
     let names = names_of c.args.locals.now in
     let parts = union_parts w (static_shape w names (expression_tree c.args.place.now)) in
     let clauses = clauses_of (map clause_tree c.args.clauses.now) in
-    let joined : IsSound c.match-members.body → (c.match-members.locals ≡ c.args.locals.now) × IsSound c.lower_union_place-members.new.body = λ sound.
-    elim c.match-members.branch [
+    let joined : IsSound c.match-tag.body → (c.match-tag.locals ≡ c.args.locals.now) × IsSound c.lower_union_place-tag.new.body = λ sound.
+    elim c.match-tag.branch [
       | switch::lower_switch-in-Some v ↦
           let done = subst IsSound v.body-is sound in
           (v.locals-is ∙ v.lower_cases.ensures.kept done, (v.lower_cases.ensures.writes done).sound)
       | switch::lower_switch-in-None v ↦ (v.locals-is, subst IsSound v.body-is sound)
     ] in
-    let taken : IsSound c.match-members.body → (ps : List Part) × TakesClauses w result (names_of c.match-members.locals) ps clauses = λ sound.
+    let taken : IsSound c.match-tag.body → (ps : List Part) × TakesClauses w result (names_of c.match-tag.locals) ps clauses = λ sound.
     let both = joined sound in
-    let first = sym c.begin-outer.ensures.begun.failed ∙ (c.lower_union_place-members.ensures.writes both.1).sound in
+    let first = sym c.begin-outer.ensures.begun.failed ∙ (c.lower_union_place-tag.ensures.writes both.1).sound in
     (parts, subst (λ ms. TakesClauses w result (names_of ms) parts clauses) (sym both.0) (c.requires.taken first).1.1) in
     let all_is : c.in_switch-inside.result.all ≡ c.args.around.all = c.in_switch-inside.ensures.all in
     let room : HasRoom c.in_switch-inside.result.all (clause_room clauses) = omega (arith, all_is, c.requires.room) in

@@ -26,6 +26,7 @@ use Rattle.core_eval.specs.Standing.{Known, Agrees, Gives}
 use Rattle.core_eval.specs.Costs.{IsMove}
 use Rattle.core_eval.proofs.Memories.{other_number, shows_object, shows_grown}
 use Rattle.core_eval.proofs.Lists.{get_past}
+use Rattle.core_eval.proofs.RegionsListed.{same_there}
 use Rattle.core_eval.proofs.Elements.{block_parts}
 use Rattle.core_eval.proofs.LongBlocks.{kept_grown}
 use Rattle.core_eval.proofs.Born.{reached_there, kept_shows, heap_changed, region_changed, region_shows, born_agrees}
@@ -42,11 +43,6 @@ area_born zero = refl
 area_born (suc n) = refl
 
 -- a region that stays what it is
-same_there : (regions : Regions) (n : ℕ) (held : Option Kept) → region_at regions n ≡ held → slice_set regions n held ≡ regions
-same_there [] n held e = refl
-same_there (r ∷ regions) zero held e = ap (λ o. o ∷ regions) (sym e)
-same_there (r ∷ regions) (suc n) held e = ap (λ l. r ∷ l) (same_there regions n held e)
-
 pub ungrown : (stored : Stored) (d : ℕ) (l : code.Layout) (count : ℕ) → born_objects stored d ≡ None → grown stored d l count ≡ stored
 ungrown stored zero l count none = cc
 ungrown stored (suc n) l count none =

@@ -16,7 +16,7 @@ use Rattle.core_eval.specs.declared.pending.Due.{Due}
 use Rattle.core_eval.specs.declared.memory.Memory.{Memory}
 use Rattle.core_eval.specs.declared.value.Slot.{Slot}
 use Rattle.core_eval.specs.Values.{content_of, temp_of, cells_of, is_kept, value_of}
-use Rattle.core_eval.specs.Regions.{held_region}
+use Rattle.core_eval.specs.Regions.{regions_of}
 use Rattle.core_eval.specs.LongBlocks.{long_block_of}
 use Rattle.core_eval.specs.Blocks.{Activation, Stored, Descends, AreOrdered, activation_of, slot_in, local_slot, put_local, stored_of, put_to}
 use Rattle.core_eval.specs.Pendings.{Task, Execute, Leave, Wait, Next, Go, Wrong, next_of}
@@ -121,11 +121,11 @@ blocks_known : (f : Frame) (m m' : Memory) → m'.entered ≡ m.entered → m'.o
     → m'.regions ≡ m.regions → m'.long_blocks ≡ m.long_blocks → known_of f m' ≡ record (known_of f m) { blocks = map activation_of m'.blocks.items }
 blocks_known f m m' entered owns called globals regions long_blocks =
     known_same (known_of f m') _ refl refl refl entered (ap (λ os. map activation_of os.items) owns) called
-    (ap (λ gs. map cells_of gs.items) globals) (ap (λ rs. map held_region rs.items) regions) (ap (λ bs. map long_block_of bs.items) long_blocks)
+    (ap (λ gs. map cells_of gs.items) globals) (ap regions_of regions) (ap (λ bs. map long_block_of bs.items) long_blocks)
 
 -- what is stored where regions that were born alone changed
 pub regions_known : (f : Frame) (m m' : Memory) → m'.blocks ≡ m.blocks → m'.entered ≡ m.entered → m'.owns ≡ m.owns → m'.called ≡ m.called
-    → m'.globals ≡ m.globals → m'.long_blocks ≡ m.long_blocks → known_of f m' ≡ record (known_of f m) { regions = map held_region m'.regions.items }
+    → m'.globals ≡ m.globals → m'.long_blocks ≡ m.long_blocks → known_of f m' ≡ record (known_of f m) { regions = regions_of m'.regions }
 regions_known f m m' blocks entered owns called globals long_blocks =
     known_same (known_of f m') _ refl refl (ap (λ bs. map activation_of bs.items) blocks) entered (ap (λ os. map activation_of os.items) owns) called
     (ap (λ gs. map cells_of gs.items) globals) refl (ap (λ bs. map long_block_of bs.items) long_blocks)

@@ -9,7 +9,7 @@ use Rattle.core_eval.specs.Values.{cells_of}
 use Rattle.core_eval.specs.Elements.{blank_object}
 use Rattle.core_eval.specs.declared.frame.Frame as frame_code
 use Rattle.core_eval.specs.declared.memory.Memory as memory_code
-use Rattle.core_eval.specs.Regions.{held_region}
+use Rattle.core_eval.specs.Regions.{regions_of}
 use Rattle.core_eval.specs.LongBlocks.{long_block_of}
 use Rattle.core_eval.specs.Blocks.{activation_of}
 use Rattle.core_eval.specs.Pendings.{Wait, Next, rest_of, returned_to}
@@ -45,4 +45,4 @@ pub called_known : (f : frame_code.Frame) (m m' : memory_code.Memory) (g : frame
     }
 called_known f m m' g locals base blocks entered owns called globals regions long_blocks =
     known_same (known_of g m') _ refl base (ap (λ bs. map activation_of bs.items) blocks) entered owns called (ap (λ gs. map cells_of gs.items) globals)
-    (ap (λ rs. map held_region rs.items) regions) (ap (λ bs. map long_block_of bs.items) long_blocks)
+    (ap regions_of regions) (ap (λ bs. map long_block_of bs.items) long_blocks)

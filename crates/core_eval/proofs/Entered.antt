@@ -9,7 +9,7 @@ use Rattle.core_eval.specs.declared.memory.Memory.{Memory}
 use Rattle.core_eval.specs.declared.pending.Due.{Due}
 use Rattle.core_eval.specs.Values.{cells_of}
 use Rattle.core_eval.specs.Elements.{blank_object}
-use Rattle.core_eval.specs.Regions.{held_region}
+use Rattle.core_eval.specs.Regions.{regions_of}
 use Rattle.core_eval.specs.LongBlocks.{long_block_of}
 use Rattle.core_eval.specs.Blocks.{activation_of}
 use Rattle.core_eval.specs.Pendings as specs
@@ -34,7 +34,7 @@ block_answer (Ok due) f m m' s locals locals' body body' ws ws' is same_locals s
     blocks ∙ ap (λ l. record { number = m.entered; objects = map blank_object l } ∷ map activation_of m.blocks.items) same_locals in
     let known : known_of f m' ≡ inside (known_of f m) ws locals =
     known_same (known_of f m') (inside (known_of f m) ws locals) refl refl all entered (ap (λ os. map activation_of os.items) owns) called
-    (ap (λ gs. map cells_of gs.items) globals) (ap (λ rs. map held_region rs.items) regions)
+    (ap (λ gs. map cells_of gs.items) globals) (ap regions_of regions)
     (ap (λ bs. map long_block_of bs.items) long_blocks) in
     subst (λ (t : core.Statement). IsMove (Execute t) ws (known_of f m) (next_of due) ws' (known_of f m')) (sym is)
     (subst (λ (n : specs.Next). IsMove (Execute (core.Block (map local_tree locals) body)) ws (known_of f m) n ws' (known_of f m'))

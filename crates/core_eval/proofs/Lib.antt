@@ -1,5 +1,5 @@
 mod Lists
-mod Regions
+mod RegionsListed
 mod Parts
 mod Elements
 mod LongBlocks

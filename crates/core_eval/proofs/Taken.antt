@@ -8,7 +8,7 @@ use Rattle.core_eval.specs.declared.frame.Frame.{Frame}
 use Rattle.core_eval.specs.declared.memory.Memory.{Memory}
 use Rattle.core_eval.specs.declared.pending.Due.{Due}
 use Rattle.core_eval.specs.Values.{cells_of}
-use Rattle.core_eval.specs.Regions.{held_region}
+use Rattle.core_eval.specs.Regions.{regions_of}
 use Rattle.core_eval.specs.LongBlocks.{long_block_of}
 use Rattle.core_eval.specs.Blocks.{activation_of}
 use Rattle.core_eval.specs.Pendings.{Task, Leave, Wait, Block, Caller, Next, Go, Wrong, next_of, saved_of}
@@ -35,7 +35,7 @@ pub left_known : (f g : Frame) (m m' : Memory) → LeavesCall m m'
     → known_of g m' ≡ record (known_of f m) { temps = g.temps.items; base = g.base; owns = drop 1 (map activation_of m.owns.items) }
 left_known f g m m' h =
     known_same (known_of g m') _ refl refl (ap (λ bs. map activation_of bs.items) h.blocks) h.entered h.owns h.called
-    (ap (λ gs. map cells_of gs.items) h.globals) (ap (λ rs. map held_region rs.items) h.regions) (ap (λ bs. map long_block_of bs.items) h.long_blocks)
+    (ap (λ gs. map cells_of gs.items) h.globals) (ap regions_of h.regions) (ap (λ bs. map long_block_of bs.items) h.long_blocks)
 
 -- how it is left, and what waited, said in another way, with what is known then
 pub left_to : (exit exit' : Exit) (ws ws' : List Wait) (known : Known) (next : Next) (rest : List Wait) (known' known2 : Known) → exit' ≡ exit → ws' ≡ ws
@@ -51,7 +51,7 @@ pub block_left : (exit : Exit) (ws : List Wait) (f : Frame) (m m' : Memory) → 
 block_left exit ws f m m' blocks entered owns called globals regions long_blocks =
     subst (λ (k : Known). IsMove (Leave exit) (Block ∷ ws) (known_of f m) (Go (Leave exit)) ws k)
     (sym (known_same (known_of f m') (outside_of (known_of f m)) refl refl blocks entered (ap (λ os. map activation_of os.items) owns) called
-    (ap (λ gs. map cells_of gs.items) globals) (ap (λ rs. map held_region rs.items) regions) (ap (λ bs. map long_block_of bs.items) long_blocks)))
+    (ap (λ gs. map cells_of gs.items) globals) (ap regions_of regions) (ap (λ bs. map long_block_of bs.items) long_blocks)))
     (block_leaves exit ws (known_of f m))
 
 module _ (exit : Exit) (results : List ℕ) (n : ℕ) (vs : List Content) (saved f f' : Frame) (ws : List Wait) (m m' : Memory) (left : LeavesCall m m')

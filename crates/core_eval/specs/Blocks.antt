@@ -37,7 +37,7 @@ use Rattle.core_eval.specs.declared.memory.Memory.{Memory}
 use Rattle.core_eval.specs.Values.{cells_of, slot_at, null_of, put_in, same_cell}
 use Rattle.core_eval.specs.Elements.{block_cells}
 use Rattle.core_eval.specs.LongBlocks.{LongBlock, long_block_of, with_long_block}
-use Rattle.core_eval.specs.Regions.{Regions, held_region, live_at, slot_within, put_region, grown_region, block_place}
+use Rattle.core_eval.specs.Regions.{Regions, regions_of, live_at, slot_within, put_region, grown_region, block_place}
 
 -- the locals of a block that isn't left yet, and how many blocks were entered before it; or a function's unnamed values, and how many functions were called
 -- before it
@@ -93,7 +93,7 @@ stored_of m = record {
   blocks = map activation_of m.blocks.items;
   owns = map activation_of m.owns.items;
   globals = map cells_of m.globals.items;
-  regions = map held_region m.regions.items;
+  regions = regions_of m.regions;
   long_blocks = map long_block_of m.long_blocks.items;
 }
 

@@ -1,6 +1,7 @@
 pub mod Values
 pub mod Elements
 pub mod Regions
+pub mod Lending
 pub mod LongBlocks
 pub mod Blocks
 pub mod Whole

@@ -1,5 +1,8 @@
 -- Regions that were born, by how many were before each, the heap not among them; and the blocks of regions.
-use Rattle.std.specs.Prelude.{ℕ, zero, suc, Bool, true, false, Option, Some, None, List, [], ◌∷◌, ◌++◌, map, slice_get, slice_set, option_map, if◌then◌else◌}
+use Rattle.std.specs.Prelude.{ℕ, zero, suc, ◌/◌, ◌%◌, Bool, true, false, Option, Some, None, List, [], ◌∷◌, ◌++◌, map, slice_get, slice_set, option_map, if◌then◌else◌}
+use Rattle.std.specs.List.{range_with_len}
+use Rattle.std.specs.declared.vec.Vec.{Vec}
+use Rattle.std.specs.declared.alloc.Global.{Global}
 use Rattle.cyc_core.specs.declared.operation.Width.{Width}
 use Rattle.core_eval.specs.declared.value.Area.{Area}
 use Rattle.core_eval.specs.declared.value.Area.TheVariants as area
@@ -10,6 +13,7 @@ use Rattle.core_eval.specs.declared.region.Standing.{Standing}
 use Rattle.core_eval.specs.declared.region.Standing.TheVariants as standing
 use Rattle.core_eval.specs.declared.region.Region as code
 use Rattle.core_eval.specs.declared.region.Region.TheVariants as region
+use Rattle.core_eval.specs.declared.regions.Regions as born
 use Rattle.core_eval.specs.Values.{cells_of, slot_at, put_in}
 
 -- a region that isn't freed: what it is, and its objects
@@ -23,6 +27,24 @@ Regions = List (Option Kept)
 abbrev pub held_region : code.Region → Option Kept
 held_region (region.Held s objects) = Some (record { standing = s; objects = map cells_of objects.items })
 held_region region.Freed = None
+
+-- nothing where there is no item
+abbrev pub item_held : Option code.Region → Option Kept
+item_held None = None
+item_held (Some region) = held_region region
+
+-- what the item k of a chunk is
+abbrev pub chunk_held : Option (Vec code.Region Global) → ℕ → Option Kept
+chunk_held None k = None
+chunk_held (Some chunk) k = item_held (slice_get chunk.items k)
+
+-- what is at a number, by chunks of 64
+abbrev pub held_at : List (Vec code.Region Global) → ℕ → Option Kept
+held_at chunks n = chunk_held (slice_get chunks (n / 64)) (n % 64)
+
+-- one for each number below how many were born, in order
+abbrev pub regions_of : born.Regions → Regions
+regions_of regions = map (held_at regions.chunks.items) (range_with_len 0 regions.born)
 
 -- whether pointers lead to a region's blocks
 abbrev pub is_open : Standing → Bool

@@ -18,7 +18,7 @@ use Rattle.core_eval.specs.declared.region.Standing as code_standing
 use Rattle.core_eval.specs.declared.region.Standing.TheVariants as standing
 use Rattle.core_eval.specs.Values.{spot_of, temp_of, cells_of, HasParts, Shows}
 use Rattle.core_eval.specs.Elements.{blank_object, first_object}
-use Rattle.core_eval.specs.Regions.{Kept, Regions, held_region, region_at}
+use Rattle.core_eval.specs.Regions.{Kept, Regions, regions_of, region_at}
 use Rattle.core_eval.specs.LongBlocks.{LongBlock, long_block_of}
 use Rattle.core_eval.specs.Blocks.{Activation, activation_of, position_of}
 use Rattle.core_eval.specs.Leading.{lies_among}
@@ -192,7 +192,7 @@ known_of frame m = record {
   owns = map activation_of m.owns.items;
   called = m.called;
   globals = map cells_of m.globals.items;
-  regions = map held_region m.regions.items;
+  regions = regions_of m.regions;
   long_blocks = map long_block_of m.long_blocks.items;
 }
 

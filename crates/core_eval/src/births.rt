@@ -2,12 +2,12 @@
 
 ghost use Rattle.std.specs.Prelude.{◌≡◌, ◌∷◌, ◌++◌, suc, [], Some, None, false, if◌then◌else◌, map, length, option_map, IfOk, OnOk};
 ghost use Rattle.core_eval.specs.Values.{cells_of};
-ghost use Rattle.core_eval.specs.Regions.{held_region, live_at, single_freed, turned};
+ghost use Rattle.core_eval.specs.Regions.{live_at, regions_of, single_freed, turned};
 ghost use Rattle.core_eval.specs.Blocks.{grown, next_place, stored_of};
 
 use crate::long_block::keep_block;
 use crate::memory::Memory;
-use crate::region::{self, Region, Standing};
+use crate::region::{Region, Standing, push_block};
 use crate::value::{Area, Object, Place};
 use cyc_core::Layout;
 use std::alloc::{AllocError, Global};
@@ -16,12 +16,13 @@ impl Memory {
     /// A region is born with these blocks: how many were born before it. Fails only where no host memory is left.
     pub fn make_region(
         &mut self,
+        alloc: Global,
         standing: Standing,
         objects: Vec<Object>,
     ) -> Result<u64, AllocError>
-        ensures birth { IfOk result (λ birth. birth ≡ suc (length self.old.regions.items)) }
-        ensures regions { OnOk result (map held_region self.new.regions.items
-            ≡ map held_region self.old.regions.items ++ Some (record { standing = standing; objects = map cells_of objects.items }) ∷ []) }
+        ensures birth { IfOk result (λ birth. birth ≡ suc (length (regions_of self.old.regions))) }
+        ensures regions { OnOk result (regions_of self.new.regions
+            ≡ regions_of self.old.regions ++ Some (record { standing = standing; objects = map cells_of objects.items }) ∷ []) }
         ensures blocks { OnOk result (self.new.blocks ≡ self.old.blocks) }
         ensures entered { OnOk result (self.new.entered ≡ self.old.entered) }
         ensures owns { OnOk result (self.new.owns ≡ self.old.owns) }
@@ -29,15 +30,14 @@ impl Memory {
         ensures globals { OnOk result (self.new.globals ≡ self.old.globals) }
         ensures long_blocks { OnOk result (self.new.long_blocks ≡ self.old.long_blocks) }
     {
-        self.regions.push(Region::Held(standing, objects))?;
-        Ok(self.regions.len() as u64)
+        self.regions.push(alloc, Region::Held(standing, objects))
     }
 
     /// A region becomes another one by its birth, or is freed, if it is what it has to be, and answers whether it is: the heap stays what it is.
     pub fn turn_region(&mut self, birth: u64, from: Standing, to: Option<Standing>) -> bool
-        ensures regions { turned (map held_region self.old.regions.items) birth from to
-            ≡ (if result then Some (map held_region self.new.regions.items) else None) }
-        ensures kept { result ≡ false → map held_region self.new.regions.items ≡ map held_region self.old.regions.items }
+        ensures regions { turned (regions_of self.old.regions) birth from to
+            ≡ (if result then Some (regions_of self.new.regions) else None) }
+        ensures kept { result ≡ false → regions_of self.new.regions ≡ regions_of self.old.regions }
         ensures blocks { self.new.blocks ≡ self.old.blocks }
         ensures entered { self.new.entered ≡ self.old.entered }
         ensures owns { self.new.owns ≡ self.old.owns }
@@ -45,14 +45,14 @@ impl Memory {
         ensures globals { self.new.globals ≡ self.old.globals }
         ensures long_blocks { self.new.long_blocks ≡ self.old.long_blocks }
     {
-        birth != 0 && region::turn(&mut self.regions, birth - 1, from, to)
+        birth != 0 && self.regions.turn(birth - 1, from, to)
     }
 
     /// The unique block of an area is freed, if the area is one's own, and answers whether it is.
     pub fn free_single(&mut self, area: Area) -> bool
-        ensures regions { single_freed (map held_region self.old.regions.items) area
-            ≡ (if result then Some (map held_region self.new.regions.items) else None) }
-        ensures kept { result ≡ false → map held_region self.new.regions.items ≡ map held_region self.old.regions.items }
+        ensures regions { single_freed (regions_of self.old.regions) area
+            ≡ (if result then Some (regions_of self.new.regions) else None) }
+        ensures kept { result ≡ false → regions_of self.new.regions ≡ regions_of self.old.regions }
         ensures blocks { self.new.blocks ≡ self.old.blocks }
         ensures entered { self.new.entered ≡ self.old.entered }
         ensures owns { self.new.owns ≡ self.old.owns }
@@ -61,9 +61,7 @@ impl Memory {
         ensures long_blocks { self.new.long_blocks ≡ self.old.long_blocks }
     {
         match area {
-            Area::Region(number) => {
-                region::turn(&mut self.regions, number, Standing::Single, None)
-            }
+            Area::Region(number) => self.regions.turn(number, Standing::Single, None),
             Area::Globals | Area::Block(_) | Area::Own(_) => false,
         }
     }
@@ -76,12 +74,12 @@ impl Memory {
         layout: &Layout,
         count: u32,
     ) -> Result<Option<usize>, AllocError>
-        ensures before { IfOk result (λ before. before ≡ option_map length (live_at (map held_region self.old.regions.items) number)) }
+        ensures before { IfOk result (λ before. before ≡ option_map length (live_at (regions_of self.old.regions) number)) }
         ensures stored { OnOk result (stored_of self.new ≡ grown (stored_of self.old) (suc number) layout.now count) }
         ensures entered { OnOk result (self.new.entered ≡ self.old.entered) }
         ensures called { OnOk result (self.new.called ≡ self.old.called) }
     {
-        match region::allocate(alloc, &mut self.regions, number, layout, count)? {
+        match self.regions.allocate(alloc, number, layout, count)? {
             Some(object) => {
                 keep_block(alloc, &mut self.long_blocks, number, object, layout, count)?;
                 Ok(Some(object))
@@ -111,7 +109,7 @@ impl Memory {
             ),
             None => (
                 Area::Globals,
-                Some(region::push_block(alloc, &mut self.globals, layout, count)?),
+                Some(push_block(alloc, &mut self.globals, layout, count)?),
             ),
         };
         match added {

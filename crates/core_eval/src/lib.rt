@@ -22,6 +22,7 @@ mod operation;
 mod pending;
 mod pointer;
 mod region;
+mod regions;
 mod request;
 mod running;
 mod spare;

@@ -24,7 +24,7 @@ use crate::blocks::{Block, fill_by, position_of, set_at, set_by, slot_by, value_
 use crate::held::Held;
 use crate::long_block::LongBlock;
 use crate::object::{blank_objects, first_objects};
-use crate::region::{self, Region};
+use crate::regions::Regions;
 use crate::spare::Spare;
 use crate::value::{Area, Object, Part, Place, Slot, Value, fill_in, put_in, slot_in};
 use cyc_core::{Datum, Local, Variable, Width};
@@ -45,7 +45,7 @@ pub struct Memory {
     /// The globals, and behind them the heap's blocks.
     pub globals: Vec<Object>,
     /// The regions that were born, by how many were before each.
-    pub regions: Vec<Region>,
+    pub regions: Regions,
     /// Where the cells of long blocks of regions lie, also of those that are closed or freed.
     pub long_blocks: Vec<LongBlock>,
     /// Vectors that are done with. What is known rests on none of them.
@@ -68,7 +68,7 @@ impl Memory {
             owns,
             called: 1,
             globals,
-            regions: Vec::new(alloc),
+            regions: Regions::new(alloc),
             long_blocks: Vec::new(alloc),
             spare: Spare::new(alloc),
         })
@@ -219,7 +219,7 @@ impl Memory {
     {
         match area {
             Area::Globals => slot_in(&self.globals, object, cell),
-            Area::Region(number) => region::slot_of(&self.regions, number, object, cell),
+            Area::Region(number) => self.regions.slot(number, object, cell),
             Area::Block(block) => slot_by(&self.blocks, block, object, cell),
             Area::Own(call) => slot_by(&self.owns, call, object, cell),
         }
@@ -231,7 +231,7 @@ impl Memory {
     {
         match area {
             Area::Globals => true,
-            Area::Region(number) => region::is_held(&self.regions, number),
+            Area::Region(number) => self.regions.is_held(number),
             Area::Block(block) => position_of(&self.blocks, block).is_some(),
             Area::Own(call) => position_of(&self.owns, call).is_some(),
         }
@@ -284,7 +284,7 @@ impl Memory {
         let object = place.object;
         match place.area {
             Area::Globals => put_in(&mut self.globals, object, part, value),
-            Area::Region(number) => region::put_to(&mut self.regions, number, object, part, value),
+            Area::Region(number) => self.regions.put(number, object, part, value),
             Area::Block(block) => set_by(&mut self.blocks, block, object, part, value),
             Area::Own(call) => set_by(&mut self.owns, call, object, part, value),
         }
@@ -299,13 +299,7 @@ impl Memory {
     {
         match place.area {
             Area::Globals => fill_in(&mut self.globals, place.object, place.cell, values),
-            Area::Region(number) => region::fill_to(
-                &mut self.regions,
-                number,
-                place.object,
-                place.cell,
-                values,
-            ),
+            Area::Region(number) => { self.regions.fill(number, place.object, place.cell, values) }
             Area::Block(block) => fill_by(
                 &mut self.blocks,
                 block,

@@ -1,27 +1,22 @@
-// Regions that were born, and their blocks.
+// A region that was born, and its blocks.
 
 ghost use Rattle.std.specs.Prelude.{◌≡◌, ◌++◌, ◌∷◌, [], Some, None, false, if◌then◌else◌, map, length, option_map, IfOk, OnOk};
 ghost use Rattle.core_eval.specs.Values.{cells_of};
 ghost use Rattle.core_eval.specs.Elements.{block_cells};
 ghost use Rattle.core_eval.specs.Regions.{
   grown_held,
-  grown_region,
   held_region,
   is_open,
-  live_at,
   open_objects,
   put_held,
-  put_region,
   same_standing,
-  slot_within,
   turned_held,
-  turned_region,
 };
-ghost use Rattle.core_eval.specs.Whole.{fill_held, fill_region, is_still};
+ghost use Rattle.core_eval.specs.Whole.{fill_held};
 
 use crate::held::Held;
 use crate::object::block_cells;
-use crate::value::{Object, Part, Slot, Value, fill_in, put_in, slot_in};
+use crate::value::{Object, Part, Value, fill_in, put_in};
 use cyc_core::Layout;
 use std::alloc::{AllocError, Global};
 
@@ -40,7 +35,7 @@ pub enum Standing {
 
 impl Standing {
     /// Whether pointers lead to a region's blocks.
-    fn is_open(self) -> bool
+    pub fn is_open(self) -> bool
         ensures { result ≡ is_open self }
     {
         match self {
@@ -50,7 +45,7 @@ impl Standing {
     }
 
     /// Whether two are the same.
-    fn is(self, other: Self) -> bool
+    pub fn is(self, other: Self) -> bool
         ensures { result ≡ same_standing self other }
     {
         match (self, other) {
@@ -91,7 +86,7 @@ pub fn push_block(
 impl Region {
     /// Stores a value to a part of a block, if it isn't freed or closed and there is one that lies there and has this width, and answers whether there
     /// is.
-    fn put(&mut self, index: usize, part: Part, value: Value) -> bool
+    pub fn put(&mut self, index: usize, part: Part, value: Value) -> bool
         ensures put { put_held index part.cell part.byte part.number part.width value (held_region self.old)
             ≡ (if result then Some (held_region self.new) else None) }
         ensures kept { result ≡ false → held_region self.new ≡ held_region self.old }
@@ -106,7 +101,7 @@ impl Region {
 
     /// The cells of a block get these values, from one on, if it isn't freed. Fails only where there would be a cell with a number over
     /// 2^64 - 1.
-    fn fill(&mut self, index: usize, cell: u64, values: &[Held]) -> Result<(), AllocError>
+    pub fn fill(&mut self, index: usize, cell: u64, values: &[Held]) -> Result<(), AllocError>
         ensures { OnOk result (held_region self.new ≡ fill_held index cell values.now (held_region self.old)) }
     {
         match self {
@@ -116,7 +111,7 @@ impl Region {
     }
 
     /// It becomes another one, or is freed, if it is what it has to be, and answers whether it is.
-    fn turn(&mut self, from: Standing, to: Option<Standing>) -> bool
+    pub fn turn(&mut self, from: Standing, to: Option<Standing>) -> bool
         ensures turned { turned_held from to (held_region self.old) ≡ (if result then Some (held_region self.new) else None) }
         ensures kept { result ≡ false → held_region self.new ≡ held_region self.old }
     {
@@ -136,7 +131,7 @@ impl Region {
     }
 
     /// It gets a block of a number of elements of a layout, if it isn't freed or closed: how many it had before.
-    fn allocate(
+    pub fn allocate(
         &mut self,
         alloc: Global,
         layout: &Layout,
@@ -155,94 +150,5 @@ impl Region {
             }
             Region::Freed => Ok(None),
         }
-    }
-}
-
-/// A cell of a block of the region with this number.
-pub fn slot_of(regions: &[Region], number: u64, index: usize, cell: u64) -> Option<Slot>
-    ensures { result ≡ slot_within (live_at (map held_region regions.now) number) index cell }
-{
-    match regions.get(number as usize) {
-        Some(Region::Held(standing, objects)) if standing.is_open() => {
-            slot_in(objects, index, cell)
-        }
-        _ => None,
-    }
-}
-
-/// Whether the region with this number isn't freed or closed.
-pub fn is_held(regions: &[Region], number: u64) -> bool
-    ensures { result ≡ is_still (live_at (map held_region regions.now) number) }
-{
-    match regions.get(number as usize) {
-        Some(Region::Held(standing, _)) => standing.is_open(),
-        _ => false,
-    }
-}
-
-/// Stores a value to a part of a block of the region with this number, if it isn't freed or closed and there is one that lies there and is so
-/// wide, and answers whether there is.
-pub fn put_to(
-    regions: &mut Vec<Region>,
-    number: u64,
-    index: usize,
-    part: Part,
-    value: Value,
-) -> bool
-    ensures put { put_region (map held_region regions.old.items) number index part.cell part.byte part.number part.width value
-        ≡ (if result then Some (map held_region regions.new.items) else None) }
-    ensures kept { result ≡ false → map held_region regions.new.items ≡ map held_region regions.old.items }
-{
-    match regions.get_mut(number as usize) {
-        Some(region) => region.put(index, part, value),
-        None => false,
-    }
-}
-
-/// The cells of a block of the region with this number get these values, from one on, if it isn't freed yet. Fails only where there would
-/// be a cell with a number over 2^64 - 1.
-pub fn fill_to(
-    regions: &mut Vec<Region>,
-    number: u64,
-    index: usize,
-    cell: u64,
-    values: &[Held],
-) -> Result<(), AllocError>
-    ensures { OnOk result (map held_region regions.new.items
-        ≡ fill_region (map held_region regions.old.items) number index cell values.now) }
-{
-    match regions.get_mut(number as usize) {
-        Some(region) => region.fill(index, cell, values),
-        None => Ok(()),
-    }
-}
-
-/// The region with this number becomes another one, or is freed, if it is what it has to be, and answers whether it is.
-pub fn turn(regions: &mut Vec<Region>, number: u64, from: Standing, to: Option<Standing>) -> bool
-    ensures turned { turned_region (map held_region regions.old.items) number from to
-        ≡ (if result then Some (map held_region regions.new.items) else None) }
-    ensures kept { result ≡ false → map held_region regions.new.items ≡ map held_region regions.old.items }
-{
-    match regions.get_mut(number as usize) {
-        Some(region) => region.turn(from, to),
-        None => false,
-    }
-}
-
-/// The region with this number gets a block of a number of elements of a layout, if it isn't freed or closed: how many it had before.
-pub fn allocate(
-    alloc: Global,
-    regions: &mut Vec<Region>,
-    number: u64,
-    layout: &Layout,
-    count: u32,
-) -> Result<Option<usize>, AllocError>
-    ensures number { IfOk result (λ before. before ≡ option_map length (live_at (map held_region regions.old.items) number)) }
-    ensures regions { OnOk result (map held_region regions.new.items
-        ≡ grown_region (map held_region regions.old.items) number (block_cells false layout.now count)) }
-{
-    match regions.get_mut(number as usize) {
-        Some(region) => region.allocate(alloc, layout, count),
-        None => Ok(None),
     }
 }

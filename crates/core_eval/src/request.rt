@@ -28,7 +28,7 @@ pub fn make_region<'p>(
     ensures { IfOk result (λ due. (ws : List Wait) →
         IsMove (Execute (core.Do (core.RegionNew to.0))) ws (known_of frame.old memory.old) (next_of due) ws (known_of frame.new memory.new)) }
 {
-    let birth = memory.make_region(Standing::Lexical, Vec::new(alloc))?;
+    let birth = memory.make_region(alloc, Standing::Lexical, Vec::new(alloc))?;
     give(frame, to, Value::Birth(birth))
 }
 
@@ -42,7 +42,7 @@ pub fn make_key<'p>(
     ensures { IfOk result (λ due. (ws : List Wait) →
         IsMove (Execute (core.Do (core.KeyNew to.0))) ws (known_of frame.old memory.old) (next_of due) ws (known_of frame.new memory.new)) }
 {
-    let birth = memory.make_region(Standing::Closed, Vec::new(alloc))?;
+    let birth = memory.make_region(alloc, Standing::Closed, Vec::new(alloc))?;
     give(frame, to, Value::Birth(birth))
 }
 
@@ -157,7 +157,7 @@ pub fn allocate_unique<'p>(
 {
     let mut objects = Vec::new(alloc);
     let object = push_block(alloc, &mut objects, layout, 1)?;
-    let birth = memory.make_region(Standing::Single, objects)?;
+    let birth = memory.make_region(alloc, Standing::Single, objects)?;
     keep_block(alloc, &mut memory.long_blocks, birth - 1, object, layout, 1)?;
     let place = Place {
         area: Area::Region(birth - 1),

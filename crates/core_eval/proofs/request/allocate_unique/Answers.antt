@@ -1,5 +1,4 @@
 use Rattle.std.proofs.Common.{◌≡◌, ◌-◌, false, Some, List, [], ◌∷◌, ◌++◌, length, map, ap, ◌∙◌, sym, subst, arith}
-use Rattle.std.proofs.lemmas.List.{length-map}
 use Rattle.std.specs.declared.vec.Vec.{Vec}
 use Rattle.std.specs.declared.alloc.Global.{Global}
 use Rattle.core_meaning.specs.Core as core
@@ -12,7 +11,7 @@ use Rattle.core_eval.specs.declared.value.Value.TheVariants as value
 use Rattle.core_eval.specs.declared.value.Slot.{Slot}
 use Rattle.core_eval.specs.Values.{content_of, cells_of}
 use Rattle.core_eval.specs.Elements.{block_cells}
-use Rattle.core_eval.specs.Regions.{Regions, held_region}
+use Rattle.core_eval.specs.Regions.{Regions, regions_of}
 use Rattle.core_eval.specs.declared.memory.Memory.{Memory}
 use Rattle.core_eval.specs.declared.long_block.LongBlock as code
 use Rattle.core_eval.specs.LongBlocks.{LongBlock, long_block_of, with_long_block}
@@ -36,11 +35,10 @@ returns c =
     let l = c.args.layout.now in
     let task = Execute (core.Do (core.UniqueAlloc t (layout_tree l))) in
     let after = c.in_ok-birth.ensures in
-    let rs = map held_region m.regions.items in
+    let rs = regions_of m.regions in
     let empty = c.new-objects.ensures.items in
-    let long = length-map m.regions.items held_region in
     let births = after.birth in
-    let number : c.in_ok-birth.birth - 1 ≡ length rs = omega (arith, births, long) in
+    let number : c.in_ok-birth.birth - 1 ≡ length rs = omega (arith, births) in
     let first : c.in_ok-object.object ≡ 0 = c.in_ok-object.ensures.number ∙ ap (λ (os : List Object). length os) empty in
     let block : map cells_of c.push_block.new.objects.items ≡ block_cells false l 1 ∷ [] =
     c.in_ok-object.ensures.objects ∙ ap (λ (os : List Object). map cells_of os ++ block_cells false l 1 ∷ []) empty in

@@ -2,7 +2,7 @@ use Rattle.std.specs.Prelude.{nat_eq}
 use Rattle.std.proofs.Common.{◌≡◌, true, map, arith}
 use Rattle.std.proofs.lemmas.Bool.Decides.{nat_tests}
 use Rattle.core_meaning.specs.Core as core
-use Rattle.core_eval.specs.Regions.{held_region}
+use Rattle.core_eval.specs.Regions.{regions_of}
 use Rattle.core_eval.specs.Standing.{known_of}
 use Rattle.core_eval.proofs.RegionAnswers.{done_answer}
 use Rattle.core_eval.proofs.UniqueMoves.{free_answer}
@@ -27,4 +27,4 @@ returns-in-Pointer c =
       long_blocks = after.long_blocks;
     })
     (λ ws. free_answer (known_of f m) ws x c.temp.result c.temp.ensures c.in-Pointer.place c.in-Pointer.is first c.free_single.result
-    (map held_region m'.regions.items) after.regions after.kept)
+    (regions_of m'.regions) after.regions after.kept)

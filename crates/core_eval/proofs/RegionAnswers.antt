@@ -49,7 +49,8 @@ done_answer due f m m' o is_done next alone moves ws =
 pub turn_answered : (due : Due) (f : Frame) (m m' : Memory) (o : core.Operation) (x : ℕ) (from : Standing) (to : Option Standing) → IsTurn o x from to → (v : Value)
     → content_of v ≡ temp_of f.temps.items x → (d : ℕ) → v ≡ value.Birth d → (is_done : Bool)
     → next_of due ≡ (if is_done then Go (Leave steps.Falls) else Wrong) → RegionsAlone m m'
-    → turned (regions_of m.regions) d from to ≡ (if is_done then Some (regions_of m'.regions) else None) → (is_done ≡ false → regions_of m'.regions ≡ regions_of m.regions)
+    → turned (regions_of m.regions) d from to ≡ (if is_done then Some (regions_of m'.regions) else None)
+    → (is_done ≡ false → regions_of m'.regions ≡ regions_of m.regions)
     → (ws : List Wait) → IsMove (Execute (core.Do o)) ws (known_of f m) (next_of due) ws (known_of f m')
 turn_answered due f m m' o x from to is_turn v read d is is_done next alone e kept =
     done_answer due f m m' o is_done next alone

@@ -5,7 +5,34 @@ use Rattle.std.specs.Option.{OnSome}
 use Rattle.std.specs.Vec.{with_item}
 use Rattle.std.specs.declared.vec.Vec.{Vec}
 use Rattle.std.specs.declared.alloc.Global.{Global}
-use Rattle.std.proofs.Common.{◌≡◌, ◌≢◌, ℕ, zero, suc, ◌+◌, ◌<◌, ◌≤◌, Bool, true, false, Option, Some, None, List, [], ◌∷◌, ◌++◌, length, map, refl, ap, ◌∙◌, sym, arith, MutBor}
+use Rattle.std.proofs.Common.{
+  ◌≡◌,
+  ◌≢◌,
+  ℕ,
+  zero,
+  suc,
+  ◌+◌,
+  ◌<◌,
+  ◌≤◌,
+  Bool,
+  true,
+  false,
+  Option,
+  Some,
+  None,
+  List,
+  [],
+  ◌∷◌,
+  ◌++◌,
+  length,
+  map,
+  refl,
+  ap,
+  ◌∙◌,
+  sym,
+  arith,
+  MutBor,
+}
 use Rattle.std.proofs.lemmas.List.FromFn.{length-map-range_with_len, map-range_with_len_more}
 use Rattle.std.proofs.lemmas.List.{set_past}
 use Rattle.std.proofs.lemmas.Bool.Decides.{nat_tests}
@@ -17,10 +44,12 @@ use Rattle.core_eval.proofs.Memories.{same_number}
 -- ---- what a function gives at each number
 
 module _ {A : Type 0} where
-  pub same_listed : (f g : ℕ → A) (a n : ℕ) → ((m : ℕ) → g m ≡ f m) → map g (range_with_len a n) ≡ map f (range_with_len a n)
+  -- one that gives the same everywhere
+  same_listed : (f g : ℕ → A) (a n : ℕ) → ((m : ℕ) → g m ≡ f m) → map g (range_with_len a n) ≡ map f (range_with_len a n)
   same_listed f g a zero h = refl
   same_listed f g a (suc n) h = ap (λ x. x ∷ map g (range_with_len (a + 1) n)) (h a) ∙ ap (λ l. f a ∷ l) (same_listed f g (a + 1) n h)
 
+  -- one that gives another value at a number before the first
   same_beyond : (f g : ℕ → A) (a n k : ℕ) → k < a → ((m : ℕ) → m ≢ k → g m ≡ f m) → map g (range_with_len a n) ≡ map f (range_with_len a n)
   same_beyond f g a zero k less h = refl
   same_beyond f g a (suc n) k less h =
@@ -35,8 +64,7 @@ module _ {A : Type 0} where
       ∙ ap (λ l. x ∷ l) (same_beyond f g (a + 1) n a (omega arith) (λ m other. h m (omega (arith, other))))
   set_from f g a (suc n) (suc k) x h e =
       ap (λ y. y ∷ map g (range_with_len (a + 1) n)) (h a (omega arith))
-      ∙ ap (λ l. f a ∷ l)
-      (set_from f g (a + 1) n k x (λ m other. h m (omega (arith, other))) (ap g (omega arith) ∙ e))
+      ∙ ap (λ l. f a ∷ l) (set_from f g (a + 1) n k x (λ m other. h m (omega (arith, other))) (ap g (omega arith) ∙ e))
 
   -- a function that gives another value at one number
   pub set_listed : (f g : ℕ → A) (n k : ℕ) (x : A) → ((m : ℕ) → m ≢ k → g m ≡ f m) → g k ≡ x
@@ -64,6 +92,7 @@ pub item_lent : {R X : Type 0} (now : R → X) (xs : List X) (k : ℕ) (r : Opti
 item_lent now xs k None is = get_past xs k is.3
 item_lent now xs k (Some x) is = get_within xs k (now x) is.3.0 is.1
 
+-- what holds where there is something
 pub when_some : {R : Type 0} {P : Type 0} (r : Option R) (x : R) → r ≡ Some x → OnSome r P → P
 when_some None x is p = cc
 when_some (Some y) x is p = p
@@ -72,16 +101,19 @@ pub length_listed : (cs : List Chunk) (born : ℕ) → length (listed cs born) �
 length_listed cs born = length-map-range_with_len (held_at cs) 0 born
 
 module _ (cs : List Chunk) (born n : ℕ) where
+  -- none was born with that number
   pub region_unborn : born ≤ n → region_at (listed cs born) n ≡ None
   region_unborn h = ap still_held (get_past (listed cs born) n (let many = length_listed cs born in omega (arith, h, many)))
 
-  pub region_born : n < born → region_at (listed cs born) n ≡ held_at cs n
+  region_born : n < born → region_at (listed cs born) n ≡ held_at cs n
   region_born h = ap still_held (get_listed (held_at cs) born n h)
 
+  -- the one that stands there, if there is such an item
   pub region_there : n < born → (chunk : Chunk) → slice_get cs (n / 64) ≡ Some chunk → (o : Option Region) → slice_get chunk.items (n % 64) ≡ o
       → region_at (listed cs born) n ≡ item_held o
   region_there h chunk there o item = region_born h ∙ ap (λ c. chunk_held c (n % 64)) there ∙ ap item_held item
 
+  -- there is no such chunk
   pub region_nowhere : slice_get cs (n / 64) ≡ None → region_at (listed cs born) n ≡ None
   region_nowhere none = by (nat_lt n born) refl
     where
@@ -92,9 +124,10 @@ module _ (cs : List Chunk) (born n : ℕ) where
 -- ---- an item of a chunk that changes
 
 -- a number is known by its chunk and its position in it
-pub same_place : (m n : ℕ) → m / 64 ≡ n / 64 → m % 64 ≡ n % 64 → m ≡ n
+same_place : (m n : ℕ) → m / 64 ≡ n / 64 → m % 64 ≡ n % 64 → m ≡ n
 same_place m n chunk item = omega (arith, chunk, item)
 
+-- one of two items
 pub held_if : (b : Bool) (o p : Option Region) → item_held (if b then o else p) ≡ (if b then item_held o else item_held p)
 held_if true o p = refl
 held_if false o p = refl
@@ -105,7 +138,8 @@ module _ (cs : List Chunk) (n : ℕ) (chunk : Chunk) (there : slice_get cs (n / 
     of_chunk : (m : ℕ) → slice_get (slice_set cs (n / 64) new) (m / 64) ≡ (if nat_eq (m / 64) (n / 64) then Some new else slice_get cs (m / 64))
     of_chunk m = get_set cs (n / 64) new chunk (m / 64) there
 
-    module _ (x : Option Kept) (changed : (k : ℕ) → item_held (slice_get new.items k) ≡ (if nat_eq k (n % 64) then x else item_held (slice_get chunk.items k))) where
+    module _ (x : Option Kept)
+        (changed : (k : ℕ) → item_held (slice_get new.items k) ≡ (if nat_eq k (n % 64) then x else item_held (slice_get chunk.items k))) where
       pub held_changed : held_at (slice_set cs (n / 64) new) n ≡ x
       held_changed =
           ap (λ o. chunk_held o (n % 64)) (of_chunk n ∙ ap (λ b. if b then Some new else slice_get cs (n / 64)) (same_number (n / 64)))
@@ -121,7 +155,7 @@ module _ (cs : List Chunk) (n : ℕ) (chunk : Chunk) (there : slice_get cs (n / 
           by : (b : Bool) → nat_eq (m / 64) (n / 64) ≡ b → held_at (slice_set cs (n / 64) new) m ≡ held_at cs m
           by true e =
               ap (λ o. chunk_held o (m % 64)) (of_chunk m ∙ ap (λ b. if b then Some new else slice_get cs (m / 64)) e)
-              ∙ changed (m % 64) ∙ ap (λ b. if b then x else item_held (slice_get chunk.items (m % 64))) refl
+              ∙ changed (m % 64)
               ∙ by_item (nat_eq (m % 64) (n % 64)) refl (grind (arith, nat_tests, e))
           by false e = ap (λ o. chunk_held o (m % 64)) (of_chunk m ∙ ap (λ b. if b then Some new else slice_get cs (m / 64)) e)
 
@@ -137,7 +171,7 @@ module _ (cs : List Chunk) (n : ℕ) (chunk : Chunk) (there : slice_get cs (n / 
       (held_others one (held_region w) changed) (held_changed one (held_region w) changed)
 
 -- another chunk that holds the same
-pub chunk_same : (cs : List Chunk) (c : ℕ) (chunk new : Chunk) → slice_get cs c ≡ Some chunk
+chunk_same : (cs : List Chunk) (c : ℕ) (chunk new : Chunk) → slice_get cs c ≡ Some chunk
     → ((k : ℕ) → item_held (slice_get new.items k) ≡ item_held (slice_get chunk.items k)) → (m : ℕ) → held_at (slice_set cs c new) m ≡ held_at cs m
 chunk_same cs c chunk new there same m =
     ap (λ o. chunk_held o (m % 64)) (get_set cs c new chunk (m / 64) there) ∙ by (nat_eq (m / 64) c) refl
@@ -153,7 +187,7 @@ pub kept_listed : (cs : List Chunk) (c : ℕ) (chunk new : Chunk) (born : ℕ) �
 kept_listed cs c chunk new born there same =
     same_listed (held_at cs) (held_at (slice_set cs c new)) 0 born (chunk_same cs c chunk new there same)
 
--- one more
+-- a region more
 pub more_listed : (cs cs' : List Chunk) (born : ℕ) (x : Option Kept) → ((m : ℕ) → m ≢ born → held_at cs' m ≡ held_at cs m) → held_at cs' born ≡ x
     → listed cs' (born + 1) ≡ listed cs born ++ x ∷ []
 more_listed cs cs' born x others at =

@@ -1,5 +1,26 @@
 -- Regions that were born, by how many were before each, the heap not among them; and the blocks of regions.
-use Rattle.std.specs.Prelude.{ℕ, zero, suc, ◌/◌, ◌%◌, Bool, true, false, Option, Some, None, List, [], ◌∷◌, ◌++◌, map, slice_get, slice_set, option_map, if◌then◌else◌}
+use Rattle.std.specs.Prelude.{
+  ℕ,
+  zero,
+  suc,
+  ◌/◌,
+  ◌%◌,
+  Bool,
+  true,
+  false,
+  Option,
+  Some,
+  None,
+  List,
+  [],
+  ◌∷◌,
+  ◌++◌,
+  map,
+  slice_get,
+  slice_set,
+  option_map,
+  if◌then◌else◌,
+}
 use Rattle.std.specs.List.{range_with_len}
 use Rattle.std.specs.declared.vec.Vec.{Vec}
 use Rattle.std.specs.declared.alloc.Global.{Global}
@@ -13,7 +34,7 @@ use Rattle.core_eval.specs.declared.region.Standing.{Standing}
 use Rattle.core_eval.specs.declared.region.Standing.TheVariants as standing
 use Rattle.core_eval.specs.declared.region.Region as code
 use Rattle.core_eval.specs.declared.region.Region.TheVariants as region
-use Rattle.core_eval.specs.declared.regions.Regions as born
+use Rattle.core_eval.specs.declared.regions.Regions as code_regions
 use Rattle.core_eval.specs.Values.{cells_of, slot_at, put_in}
 
 -- a region that isn't freed: what it is, and its objects
@@ -43,7 +64,7 @@ abbrev pub held_at : List (Vec code.Region Global) → ℕ → Option Kept
 held_at chunks n = chunk_held (slice_get chunks (n / 64)) (n % 64)
 
 -- one for each number below how many were born, in order
-abbrev pub regions_of : born.Regions → Regions
+abbrev pub regions_of : code_regions.Regions → Regions
 regions_of regions = map (held_at regions.chunks.items) (range_with_len 0 regions.born)
 
 -- whether pointers lead to a region's blocks

@@ -13,7 +13,7 @@ use cyc_core::Layout;
 use std::alloc::{AllocError, Global};
 
 impl Memory {
-    /// A region is born with these blocks: how many were born before it. Fails only where no host memory is left.
+    /// A region is born with these blocks: how many were born before it. Fails only where no host memory is left, or 2^64 - 1 regions were born.
     pub fn make_region(
         &mut self,
         alloc: Global,

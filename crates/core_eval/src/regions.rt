@@ -1,6 +1,25 @@
 // The regions that were born, in chunks: a chunk all of whose regions are freed keeps nothing.
 
-ghost use Rattle.std.specs.Prelude.{◌≡◌, ◌+◌, ◌<◌, ◌++◌, ◌∷◌, ℕ, [], Some, None, true, false, if◌then◌else◌, length, slice_get, nat_eq, option_map, IfOk, IfSome, OnOk};
+ghost use Rattle.std.specs.Prelude.{
+  ◌≡◌,
+  ◌+◌,
+  ◌<◌,
+  ◌++◌,
+  ◌∷◌,
+  ℕ,
+  [],
+  Some,
+  None,
+  true,
+  false,
+  if◌then◌else◌,
+  length,
+  slice_get,
+  nat_eq,
+  option_map,
+  IfOk,
+  OnOk,
+};
 ghost use Rattle.std.specs.Borrow.{sem};
 ghost use Rattle.core_eval.specs.Elements.{block_cells};
 ghost use Rattle.core_eval.specs.Regions.{

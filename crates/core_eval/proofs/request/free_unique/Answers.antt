@@ -1,5 +1,5 @@
 use Rattle.std.specs.Prelude.{nat_eq}
-use Rattle.std.proofs.Common.{◌≡◌, true, map, arith}
+use Rattle.std.proofs.Common.{◌≡◌, true, arith}
 use Rattle.std.proofs.lemmas.Bool.Decides.{nat_tests}
 use Rattle.core_meaning.specs.Core as core
 use Rattle.core_eval.specs.Regions.{regions_of}

@@ -1,4 +1,4 @@
-use Rattle.std.proofs.Common.{◌≡◌, ◌<◌, ◌≤◌, ◌/◌, ◌%◌, length, refl, rules, MutBor}
+use Rattle.std.proofs.Common.{◌<◌, ◌≤◌, ◌/◌, ◌%◌, length, refl, rules, MutBor}
 use Rattle.core_eval.specs.declared.region.Region.{Region}
 use Rattle.core_eval.proofs.Lists.{get_within, get_past}
 use Rattle.core_eval.proofs.RegionsListed.{item_lent, lent_item, kept_listed, region_there, region_unborn, region_nowhere}
@@ -25,5 +25,6 @@ returns-in-Some c =
 pub returns-in-None : goal.returns-in-None
 returns-in-None c =
     let s = c.args.self.now in
-    let past : length s.chunks.items ≤ c.args.number / 64 = search rules in
-    ((refl, (λ w. tt), refl), record { lends = tt; held = region_nowhere s.chunks.items s.born c.args.number (get_past s.chunks.items (c.args.number / 64) past) })
+    let n = c.args.number in
+    let past : length s.chunks.items ≤ n / 64 = search rules in
+    ((refl, (λ w. tt), refl), record { lends = tt; held = region_nowhere s.chunks.items s.born n (get_past s.chunks.items (n / 64) past) })

@@ -43,9 +43,9 @@ fn local(index: u32) -> Variable {
     }
 }
 
-/// So many cells and bytes on, the part of this number, which no cell has over 3.
+/// So many cells and bytes on, the part of this number, which a byte holds.
 fn distance(width: Width, cells: u32, bytes: u32, part: u32) -> Option<Distance> {
-    if part > 3 {
+    if part > 255 {
         return None;
     }
     Some(Distance {

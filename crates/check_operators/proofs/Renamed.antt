@@ -1,15 +1,19 @@
 -- Regions in place of a signature's variables.
-use Rattle.std.specs.Prelude.{map, slice_get, ◌++◌}
-use Rattle.std.proofs.Common.{◌≡◌, ◌<◌, ◌+◌, ℕ, zero, suc, Option, Some, None, List, [], ◌∷◌, refl, sym, ◌∙◌, ap, take, get_or, length}
+use Rattle.std.specs.List.{list_all}
+use Rattle.std.specs.Prelude.{map, slice_get, ◌++◌, true}
+use Rattle.std.proofs.Common.{◌≡◌, ◌<◌, ◌+◌, ℕ, zero, suc, Option, Some, None, List, [], ◌∷◌, refl, sym, ◌∙◌, ap, take, get_or, length, arith}
 use Rattle.std.proofs.lemmas.List.{map-append, take_more}
 use Rattle.cyc_types.proofs.Converting.{pointed_more}
 use Rattle.cyc_types.specs.Layers.{pointed, pointer_to}
+use Rattle.cyc_types.specs.Pointers.{is_closed}
+use Rattle.cyc_types.specs.Reaches.{reach_of}
 use Rattle.cyc_types.specs.Regions.{region_of, regions_of}
 use Rattle.cyc_types.specs.declared.layer.Layer.{Layer}
+use Rattle.cyc_types.specs.declared.layer.Layer.TheVariants as layer
 use Rattle.cyc_types.specs.declared.region.RegionId.{RegionId}
-use Rattle.source_typing.specs.Regions.{Level, Region, TheHeap}
+use Rattle.source_typing.specs.Regions.{Level, Region, TheHeap, is_heap}
 use Rattle.source_typing.specs.Tables.{argument}
-use Rattle.source_typing.specs.Types.{StaticType, renamed}
+use Rattle.source_typing.specs.Types.{Fat, StaticType, Thin, renamed}
 
 pub argument_some : (rs : List RegionId) (k : ℕ) (r : RegionId) → slice_get rs k ≡ Some r → region_of r ≡ argument (regions_of rs) (Level k)
 argument_some [] k r e = absurd cc
@@ -47,3 +51,21 @@ more_pointers f old i all l d t h was e =
     ∙ e
     ∙ ap (renamed f) (sym (pointed_more (take i old) t (get_or old i d)))
     ∙ ap (λ ls. renamed f (pointed t ls)) (sym (take_more old i d h))
+
+-- ---- pointers without variables stay as they are
+
+heap_stays : (rs : List Region) (r : Region) → is_heap r ≡ true → r ≡ argument rs r
+heap_stays rs TheHeap h = refl
+heap_stays rs (Level k) h = absurd cc
+
+closed_pointer : (rs : List Region) (l : Layer) (t : StaticType) → is_closed l ≡ true
+    → pointer_to l (renamed (argument rs) t) ≡ renamed (argument rs) (pointer_to l t)
+closed_pointer rs (layer.Thin n r) t h = ap (λ q. Thin (reach_of n) q (renamed (argument rs) t)) (heap_stays rs (region_of r) h)
+closed_pointer rs (layer.Fat r) t h = ap (λ q. Fat q (renamed (argument rs) t)) (heap_stays rs (region_of r) h)
+closed_pointer rs (layer.Unique n) t h = refl
+
+pub closed_pointers : (rs : List Region) (ls : List Layer) (t : StaticType) → list_all is_closed ls ≡ true
+    → pointed (renamed (argument rs) t) ls ≡ renamed (argument rs) (pointed t ls)
+closed_pointers rs [] t h = refl
+closed_pointers rs (l ∷ ls) t h =
+    ap (λ u. pointed u ls) (closed_pointer rs l t (grind (arith, h))) ∙ closed_pointers rs ls (pointer_to l t) (grind (arith, h))

@@ -75,7 +75,7 @@ fn renamed_pointers(regions: &[RegionId], of: &Layers) -> Result<Layers, AllocEr
     ensures { IfOk result (λ all. (t : StaticType) → pointed (renamed (argument (regions_of regions.now)) t) all.items
         ≡ renamed (argument (regions_of regions.now)) (pointed t of.now.items)) }
 {
-    let mut all = SmallVec::new(*of.allocator());
+    let mut all = Layers::new(of.allocator());
     let old = of.as_slice();
     'each: for pointer in old {
         all.push(renamed_pointer(regions, *pointer))?;
@@ -83,11 +83,23 @@ fn renamed_pointers(regions: &[RegionId], of: &Layers) -> Result<Layers, AllocEr
     Ok(all)
 }
 
+/// The same, at once where no region of them is a variable.
+fn renamed_layers(regions: &[RegionId], of: &Layers) -> Result<Layers, AllocError>
+    ensures { IfOk result (λ all. (t : StaticType) → pointed (renamed (argument (regions_of regions.now)) t) all.items
+        ≡ renamed (argument (regions_of regions.now)) (pointed t of.now.items)) }
+{
+    if of.is_closed() {
+        let same = of.try_clone()?;
+        return Ok(same);
+    }
+    renamed_pointers(regions, of)
+}
+
 /// A type of a signature, where its variables stand for these regions, or of a struct, whose arguments these are.
 pub fn renamed_type<'p>(regions: &[RegionId], of: &CType<'p>) -> Result<CType<'p>, AllocError>
     ensures { IfOk result (λ t. static_type t ≡ renamed (argument (regions_of regions.now)) (static_type of.now)) }
 {
     let base = renamed_base(regions, &of.base)?;
-    let layers = renamed_pointers(regions, &of.layers)?;
+    let layers = renamed_layers(regions, &of.layers)?;
     Ok(CType { base, layers })
 }

@@ -60,7 +60,7 @@ fn layers_from(
     ensures { (t : StaticType) → IfOk result (λ found. option_map (λ ls. pointed t ls.items) found
         ≡ all_from written.now (option_map (λ s. static_type s.now) source.entry) (Some t)) }
 {
-    let mut layers = SmallVec::new(alloc);
+    let mut layers = Layers::new(alloc);
     let mut depth = written.len();
     'each: for layer in written {
         depth -= 1;
@@ -69,7 +69,7 @@ fn layers_from(
             None => return Ok(None),
         }
     }
-    Ok(Some(layers))
+    Ok(Some(layers.into_shared()?))
 }
 
 /// The type, where each missing region is the one at the same place of the source, from the outermost pointer inwards, and else the heap. A

@@ -14,6 +14,7 @@ pub mod Outermost
 mod PlacedCells
 mod Pointers
 mod Reaches
+mod Runs
 pub mod Sameness
 mod Spread
 mod StillMeasured

@@ -8,10 +8,13 @@ pub mod Laying
 pub mod Layers
 pub mod Likeness
 pub mod Measures
+pub mod Pointers
 pub mod Reaches
 pub mod Regions
+pub mod Runs
 pub mod Sameness
 pub mod Scalars
+pub mod Shared
 pub mod Tables
 pub mod Tags
 pub mod Types

@@ -102,13 +102,6 @@ fn base_conversion(from: &BaseType, to: &BaseType) -> Option<Broken>
     }
 }
 
-/// All pointers but the outermost.
-fn inner_pointers(layers: &[Layer]) -> &[Layer]
-    ensures { result.now ≡ take (length layers.now - 1) layers.now }
-{
-    &layers[..layers.len().saturating_sub(1)]
-}
-
 impl<'p> CType<'p> {
     /// How alike the types are that two pointers lead to.
     fn inner_likeness(&self, other: &CType) -> Likeness
@@ -117,9 +110,9 @@ impl<'p> CType<'p> {
     {
         alike(
             &self.base,
-            inner_pointers(self.layers.as_slice()),
+            self.layers.inner_pointed(),
             &other.base,
-            inner_pointers(other.layers.as_slice()),
+            other.layers.inner_pointed(),
         )
     }
 

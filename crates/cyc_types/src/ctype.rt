@@ -1,20 +1,18 @@
 // Types of the language.
 
-ghost use Rattle.std.specs.Prelude.{◌≡◌, IfOk, fold, zip};
+ghost use Rattle.std.specs.Prelude.{◌≡◌, IfOk, drop, fold, zip};
 ghost use Rattle.source_typing.specs.Types.{compare, is_same};
 ghost use Rattle.cyc_types.specs.Types.{static_type};
 ghost use Rattle.cyc_types.specs.Likeness.{likeness_of};
 ghost use Rattle.cyc_types.specs.Layers.{next_alike, outermost, pointed};
+ghost use Rattle.cyc_types.specs.Runs.{IsRun};
 ghost use Rattle.cyc_types.specs.Bases.{base_type};
 
 use crate::base::BaseType;
 use crate::layer::Layer;
+use crate::layers::{Layers, Run};
 use crate::likeness::Likeness;
-use smallvec::SmallVec;
 use std::alloc::AllocError;
-
-/// The pointers of a type, the outermost last.
-pub type Layers = SmallVec<Layer, 2>;
 
 /// A type: a base, and the pointers to it from the base outwards.
 pub struct CType<'p> {
@@ -41,20 +39,54 @@ fn alike_under(mine: &[Layer], theirs: &[Layer], inner: Likeness) -> Likeness
         .fold(inner, |alike, (here, there)| here.compare(*there, alike))
 }
 
+/// The pointers of a type, or all of them but the outermost, with what they begin with.
+#[derive(Clone, Copy)]
+pub(crate) struct Pointed<'a> {
+    pub layers: &'a [Layer],
+    pub run: Run,
+}
+
+/// Some pointers without so many of the first.
+fn behind(layers: &[Layer], count: usize) -> &[Layer]
+    ensures { result.now ≡ drop count layers.now }
+{
+    &layers[count.min(layers.len())..]
+}
+
+/// The same, where the pointers begin with these runs. As many pointers as both have in them are compared at once.
+fn alike_in_runs(mine: Pointed<'_>, theirs: Pointed<'_>, inner: Likeness) -> Likeness
+    requires mine { IsRun mine.layers.now mine.run }
+    requires theirs { IsRun theirs.layers.now theirs.run }
+    ensures { result ≡ fold next_alike inner (zip mine.entry.layers.now theirs.entry.layers.now) }
+{
+    let count = mine.run.count.min(theirs.run.count);
+    if count == 0 {
+        return alike_under(mine.layers, theirs.layers, inner);
+    }
+    let first = mine.run.pointer.compare(theirs.run.pointer, inner);
+    alike_under(
+        behind(mine.layers, count),
+        behind(theirs.layers, count),
+        first,
+    )
+}
+
 /// How alike two types are, each a base under pointers.
 pub(crate) fn alike(
     mine: &BaseType,
-    pointers: &[Layer],
+    pointers: Pointed<'_>,
     theirs: &BaseType,
-    others: &[Layer],
+    others: Pointed<'_>,
 ) -> Likeness
-    ensures { result ≡ likeness_of (compare (pointed (base_type mine.now) pointers.now) (pointed (base_type theirs.now) others.now)) }
+    requires pointers { IsRun pointers.layers.now pointers.run }
+    requires others { IsRun others.layers.now others.run }
+    ensures { result ≡ likeness_of (compare (pointed (base_type mine.now) pointers.entry.layers.now) (pointed (base_type theirs.now) others.entry.layers.now)) }
 {
-    if pointers.len() != others.len() {
+    if pointers.layers.len() != others.layers.len() {
         return Likeness::Different;
     }
     let inner = mine.compare(theirs);
-    alike_under(pointers, others, inner)
+    alike_in_runs(pointers, others, inner)
 }
 
 impl<'p> CType<'p> {
@@ -64,9 +96,9 @@ impl<'p> CType<'p> {
     {
         alike(
             &self.base,
-            self.layers.as_slice(),
+            self.layers.pointed(),
             &other.base,
-            other.layers.as_slice(),
+            other.layers.pointed(),
         )
     }
 
@@ -81,11 +113,9 @@ impl<'p> CType<'p> {
     pub fn try_clone(&self) -> Result<CType<'p>, AllocError>
         ensures { IfOk result (λ copy. static_type copy ≡ static_type self.now) }
     {
-        let layers = SmallVec::from_slice(*self.layers.allocator(), self.layers.as_slice())?;
-        Ok(CType {
-            base: self.base.try_clone()?,
-            layers,
-        })
+        let layers = self.layers.try_clone()?;
+        let base = self.base.try_clone()?;
+        Ok(CType { base, layers })
     }
 
     /// The outermost pointer, where it is one.

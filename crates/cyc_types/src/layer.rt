@@ -1,7 +1,8 @@
 // Pointers, without what they lead to.
 
-ghost use Rattle.std.specs.Prelude.{◌≡◌};
+ghost use Rattle.std.specs.Prelude.{◌≡◌, true};
 ghost use Rattle.cyc_types.specs.Layers.{has_enough, layers_alike, layer_copies, layer_begins};
+ghost use Rattle.cyc_types.specs.Pointers.{is_closed};
 ghost use Rattle.cyc_types.specs.Measures.{extent_of, layer_extent};
 
 use crate::extent::Extent;
@@ -56,6 +57,30 @@ impl Layer {
             (Layer::Thin(mine, _), Layer::Thin(theirs, _)) => theirs.count() <= mine.count(),
             (Layer::Unique(_), Layer::Thin(theirs, _)) => theirs.count() <= 1,
             _ => true,
+        }
+    }
+
+    /// Whether both are the same pointer.
+    pub(crate) fn is(self, other: Layer) -> bool
+        ensures { result ≡ true → self ≡ other }
+    {
+        match (self, other) {
+            (Layer::Thin(mine, here), Layer::Thin(theirs, there)) => {
+                mine.is_same(theirs) && here.is_same(there)
+            }
+            (Layer::Fat(here), Layer::Fat(there)) => here.is_same(there),
+            (Layer::Unique(mine), Layer::Unique(theirs)) => mine == theirs,
+            _ => false,
+        }
+    }
+
+    /// Whether no region of it is a variable.
+    pub fn is_closed(self) -> bool
+        ensures { result ≡ is_closed self }
+    {
+        match self {
+            Layer::Thin(_, region) | Layer::Fat(region) => region.is_heap(),
+            Layer::Unique(_) => true,
         }
     }
 

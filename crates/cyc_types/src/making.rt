@@ -8,7 +8,7 @@ ghost use Rattle.cyc_types.specs.Types.{static_type};
 use crate::base::BaseType;
 use crate::ctype::CType;
 use crate::layer::Layer;
-use smallvec::SmallVec;
+use crate::layers::Layers;
 use std::alloc::{AllocError, Global};
 
 impl<'p> CType<'p> {
@@ -18,7 +18,7 @@ impl<'p> CType<'p> {
     {
         CType {
             base,
-            layers: SmallVec::new(alloc),
+            layers: Layers::new(alloc),
         }
     }
 
@@ -36,7 +36,7 @@ impl<'p> CType<'p> {
         ensures { MatchOption (outermost self.entry.layers.items) (static_type result ≡ static_type self.entry)
             (λ l. static_type self.entry ≡ pointer_to l (static_type result)) }
     {
-        let _outermost = self.layers.pop();
+        self.layers.pop();
         self
     }
 }

@@ -1,0 +1,29 @@
+-- Pointers of a type in code: its own, or the innermost of a list that types share.
+use Rattle.std.specs.Prelude.{◌≡◌, true, List, take, ⊤}
+use Rattle.std.specs.List.{list_all}
+use Rattle.cyc_types.specs.Pointers.{Pointers, is_closed}
+use Rattle.cyc_types.specs.Runs.{IsRun}
+use Rattle.cyc_types.specs.declared.layer.Layer.{Layer}
+use Rattle.cyc_types.specs.declared.layers.Held.{Held}
+use Rattle.cyc_types.specs.declared.layers.Held.TheVariants as held
+use Rattle.cyc_types.specs.declared.layers.Layers.TheInside.{Inside}
+use Rattle.cyc_types.specs.declared.layers.SharedLayers.{SharedLayers}
+
+abbrev pub held_items : Held → List Layer
+held_items (held.Own own) = own.items
+held_items (held.Shared all count) = take count all.value.all.items
+
+abbrev pub pointers_of : Inside → Pointers
+pointers_of l = record { items = held_items l.held }
+
+-- what is kept beside a list is true of it
+pub record IsKept (s : SharedLayers) : Type 0 where
+  pub begins : IsRun s.all.items s.run
+  pub closed : s.is_closed ≡ true → list_all is_closed s.all.items ≡ true
+
+abbrev pub IsHeld : Held → Type 0
+IsHeld (held.Own own) = ⊤
+IsHeld (held.Shared all count) = IsKept all.value
+
+abbrev pub AreHeld : Inside → Type 0
+AreHeld l = IsHeld l.held

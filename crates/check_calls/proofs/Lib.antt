@@ -4,6 +4,7 @@ pub mod Fitting
 pub mod Fixes
 pub mod Found
 pub mod Holding
+pub mod NullCalls
 pub mod Paired
 pub mod Places
 pub mod Settling

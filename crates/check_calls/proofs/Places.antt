@@ -38,7 +38,7 @@ missing_fixes_none at k r = by (same_id r (Level k))
     by true = refl
     by false = refl
 
-none_of : (at : ℕ) (t : StaticType) (k : ℕ) → first_fixing (fits_of at t None) k ≡ None
+pub none_of : (at : ℕ) (t : StaticType) (k : ℕ) → first_fixing (fits_of at t None) k ≡ None
 none_of at Int k = refl
 none_of at Unsigned k = refl
 none_of at Char k = refl

@@ -24,6 +24,7 @@ ghost use Rattle.source_typing.specs.Verdicts as verdict;
 use crate::arguments::arguments_fit;
 use crate::enclosing::Enclosing;
 use crate::making::struct_called;
+use crate::nulls::null_called;
 use crate::target::Target;
 use check_faults::{Fault, FaultKind, Verdict};
 use check_operators::{Seat, Value, argument, renamed_type};
@@ -201,6 +202,9 @@ fn function_called<'p>(
     ensures { (g : Env) → Sees scope.now g → g.enclosing ≡ enclosing_of enclosing
         → IfOk result (λ v. short_of value_of v ≡ shortened (called g at (ToFunction (signature_of signature.now)) (map value_of arguments.now))) }
 {
+    if let Some(found) = null_called(scope, enclosing, at, signature, arguments)? {
+        return Ok(found);
+    }
     let parameters = signature.parameters.as_slice();
     let variables = signature.regions;
     let fit = arguments_fit(

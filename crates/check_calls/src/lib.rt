@@ -11,6 +11,7 @@ mod enclosing;
 mod fixing;
 mod known;
 mod making;
+mod nulls;
 mod target;
 mod unions;
 

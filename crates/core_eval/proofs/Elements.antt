@@ -64,7 +64,7 @@ element_pushed f cells e count xs xs' whole less pushed so_far =
     ∙ ap (λ (n : ℕ). xs ++ (map (f e) cells ++ each_element f cells n (count - (e + 1)))) next
     ∙ sym (ap (λ (n : ℕ). xs ++ each_element f cells e n) left) ∙ so_far
 
-pub get_right : {A : Type 0} (xs ys : List A) (k : ℕ) → length xs ≤ k → slice_get (xs ++ ys) k ≡ slice_get ys (k - length xs)
+get_right : {A : Type 0} (xs ys : List A) (k : ℕ) → length xs ≤ k → slice_get (xs ++ ys) k ≡ slice_get ys (k - length xs)
 get_right [] ys k h = ap (slice_get ys) (let z : k ≡ k - 0 = omega arith in z)
 get_right (x ∷ xs) ys zero h = absurd (omega (arith, h))
 get_right (x ∷ xs) ys (suc k) h =

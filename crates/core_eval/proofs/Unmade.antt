@@ -12,11 +12,9 @@ use Rattle.std.proofs.Common.{
   ◌%◌,
   ◌<◌,
   ◌≤◌,
-  Bool,
   true,
   false,
   Option,
-  Some,
   None,
   List,
   [],
@@ -31,13 +29,12 @@ use Rattle.std.proofs.Common.{
   arith,
 }
 use Rattle.std.proofs.lemmas.Bool.Decides.{nat_tests}
-use Rattle.std.proofs.lemmas.List.{set_past, set-append_left}
+use Rattle.std.proofs.lemmas.List.{set-append_left}
 use Rattle.cyc_core.specs.declared.layout.CellLayout.{CellLayout}
 use Rattle.core_eval.specs.declared.value.Slot.{Slot}
 use Rattle.core_eval.specs.declared.begun.Begun.{Begun}
 use Rattle.core_eval.specs.Elements.{begun_cells, elements_from, slot_from}
-use Rattle.core_eval.proofs.Elements.{element_at, get_right, in_element, no_element}
-use Rattle.cyc_words.proofs.Lists.{got_before}
+use Rattle.core_eval.proofs.Elements.{element_at, in_element, no_element}
 
 -- ---- a cell of elements that aren't made
 
@@ -78,37 +75,16 @@ module _ (cells : List CellLayout) (bytes first left before size : ℕ) (counted
         ∙ ap (λ b. if b then option_map (of (first + before / size)) (slice_get cells (before % size)) else None) within
         ∙ ap (option_map (of (first + before / size))) at)
 
--- ---- a cell of a block
+-- ---- the cells of a block
 
-module _ (b : Begun) (k : ℕ) where
-  abbrev rest : List Slot
-  rest = elements_from false b.layout.value.cells.items b.layout.value.bytes b.made (b.count - b.made)
+-- one that is made is set
+pub made_set : (b : Begun) (k : ℕ) (s : Slot) → k < length b.slots.items
+    → slice_set b.slots.items k s ++ elements_from false b.layout.value.cells.items b.layout.value.bytes b.made (b.count - b.made)
+    ≡ slice_set (begun_cells b) k s
+made_set b k s less =
+    sym (set-append_left b.slots.items (elements_from false b.layout.value.cells.items b.layout.value.bytes b.made (b.count - b.made)) k s less)
 
-  -- one that is made
-  pub made_slot : k < length b.slots.items → slice_get (begun_cells b) k ≡ slice_get b.slots.items k
-  made_slot less = got_before b.slots.items rest k less
-
-  -- another one
-  pub unmade_slot : length b.slots.items ≤ k → slice_get (begun_cells b) k ≡ slice_get rest (k - length b.slots.items)
-  unmade_slot more = get_right b.slots.items rest k more
-
-  -- one that is made is set
-  pub made_set : (s : Slot) → k < length b.slots.items → slice_set b.slots.items k s ++ rest ≡ slice_set (begun_cells b) k s
-  made_set s less = sym (set-append_left b.slots.items rest k s less)
-
-  -- there is no such cell
-  pub unmade_set : (s : Slot) → length b.slots.items ≤ k → begun_cells b ≡ b.slots.items → begun_cells b ≡ slice_set (begun_cells b) k s
-  unmade_set s more all =
-      sym (set_past (begun_cells b) k s (let long : length (begun_cells b) ≡ length b.slots.items = ap (λ (l : List Slot). length l) all in omega (arith, long, more)))
-
--- ---- blocks that are made whole
-
-pub all_made : (b : Begun) → b.count ≤ b.made → begun_cells b ≡ b.slots.items
-all_made b past =
-    let none : b.count - b.made ≡ 0 = omega (arith, past) in
-    ap (λ (n : ℕ). b.slots.items ++ elements_from false b.layout.value.cells.items b.layout.value.bytes b.made n) none ∙ append-nil b.slots.items
-
--- elements that have no cell
+-- elements that have no cell need not be made
 pub none_made : (b : Begun) → length b.layout.value.cells.items ≡ 0 → begun_cells b ≡ b.slots.items
 none_made b none =
     ap (λ (l : List Slot). b.slots.items ++ l)

@@ -1,6 +1,6 @@
 // Blocks of which the last elements hold nothing as yet.
 
-ghost use Rattle.std.specs.Prelude.{◌≡◌, ◌-◌, ◌≤◌, [], Some, None, false, if◌then◌else◌, length, slice_get, slice_set, IfOk, OnOk};
+ghost use Rattle.std.specs.Prelude.{◌≡◌, ◌-◌, ◌≤◌, Some, None, false, if◌then◌else◌, length, slice_get, slice_set, IfOk, OnOk};
 ghost use Rattle.core_eval.specs.Values.{put_cell};
 ghost use Rattle.core_eval.specs.Elements.{begun_cells, block_cells, elements_from};
 

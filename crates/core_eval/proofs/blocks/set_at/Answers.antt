@@ -8,8 +8,8 @@ returns-in-Some-clause-put c =
     let bs = c.args.blocks.now.items in
     let within : c.args.position < length bs = search rules in
     IfOk-weaker c.put_in.result _ _
-    (λ is_put put. put_some bs c.args.position c.args.index c.args.part.cell c.args.part.byte c.args.part.number c.args.part.width c.args.value c.in-Some.block.now
-    (record { number = c.in-Some.block.now.number; objects = c.put_in.new.objects }) is_put within c.in-Some.ensures.value refl put)
+    (λ is_put put. put_some bs c.args.position c.args.index c.args.part.cell c.args.part.byte c.args.part.number c.args.part.width c.args.value
+    c.in-Some.block.now (record { number = c.in-Some.block.now.number; objects = c.put_in.new.objects }) is_put within c.in-Some.ensures.value refl put)
     c.put_in.ensures.put
 
 pub returns-in-None-clause-put : goal.returns-in-None-clause-put

@@ -15,7 +15,8 @@ use Rattle.core_eval.specs.declared.frame.Frame.{Frame}
 use Rattle.core_eval.specs.declared.pending.Due.{Due}
 use Rattle.core_eval.specs.declared.memory.Memory.{Memory}
 use Rattle.core_eval.specs.declared.value.Slot.{Slot}
-use Rattle.core_eval.specs.Values.{content_of, temp_of, cells_of, is_kept, value_of}
+use Rattle.core_eval.specs.Values.{content_of, temp_of, is_kept, value_of}
+use Rattle.core_eval.specs.Elements.{cells_of}
 use Rattle.core_eval.specs.Regions.{regions_of}
 use Rattle.core_eval.specs.LongBlocks.{long_block_of}
 use Rattle.core_eval.specs.Blocks.{Activation, Stored, Descends, AreOrdered, activation_of, slot_in, local_slot, put_local, stored_of, put_to}

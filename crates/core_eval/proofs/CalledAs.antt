@@ -5,8 +5,7 @@ use Rattle.core_meaning.specs.Core.{Function}
 use Rattle.core_meaning.specs.Steps.{Step}
 use Rattle.core_meaning.specs.Meaning.{called}
 use Rattle.cyc_core.specs.declared.layout.Local as local_code
-use Rattle.core_eval.specs.Values.{cells_of}
-use Rattle.core_eval.specs.Elements.{blank_object}
+use Rattle.core_eval.specs.Elements.{blank_object, cells_of}
 use Rattle.core_eval.specs.declared.frame.Frame as frame_code
 use Rattle.core_eval.specs.declared.memory.Memory as memory_code
 use Rattle.core_eval.specs.Regions.{regions_of}

@@ -7,8 +7,7 @@ use Rattle.cyc_core.specs.Trees.{local_tree}
 use Rattle.core_eval.specs.declared.frame.Frame.{Frame}
 use Rattle.core_eval.specs.declared.memory.Memory.{Memory}
 use Rattle.core_eval.specs.declared.pending.Due.{Due}
-use Rattle.core_eval.specs.Values.{cells_of}
-use Rattle.core_eval.specs.Elements.{blank_object}
+use Rattle.core_eval.specs.Elements.{blank_object, cells_of}
 use Rattle.core_eval.specs.Regions.{regions_of}
 use Rattle.core_eval.specs.LongBlocks.{long_block_of}
 use Rattle.core_eval.specs.Blocks.{activation_of}

@@ -2,6 +2,7 @@ mod Lists
 mod RegionsListed
 mod Parts
 mod Elements
+mod Unmade
 mod LongBlocks
 mod Positions
 mod Memories

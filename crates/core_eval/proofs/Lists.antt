@@ -13,7 +13,8 @@ use Rattle.core_eval.specs.declared.held.Held.{Held}
 use Rattle.core_eval.specs.declared.blocks.Block.{Block}
 use Rattle.core_eval.specs.declared.value.Object.{Object}
 use Rattle.core_eval.specs.declared.value.Slot.{Slot}
-use Rattle.core_eval.specs.Values.{content_of, temp_of, cells_of, with_held, fitted, is_fit, put_part, put_slot, put_within, put_cell, put_object, put_in}
+use Rattle.core_eval.specs.Values.{content_of, temp_of, with_held, fitted, is_fit, put_part, put_slot, put_within, put_cell, put_object, put_in}
+use Rattle.core_eval.specs.Elements.{cells_of}
 use Rattle.core_eval.specs.Blocks.{activation_of, put_block, put_among, put_through}
 use Rattle.core_eval.specs.Whole.{fill_cells, fill_object, fill_in, fill_among, fill_through}
 

@@ -14,7 +14,8 @@ use Rattle.core_eval.specs.declared.value.Value.TheVariants as value
 use Rattle.core_eval.specs.declared.frame.Frame.{Frame}
 use Rattle.core_eval.specs.declared.pending.Due.{Due}
 use Rattle.core_eval.specs.declared.memory.Memory.{Memory}
-use Rattle.core_eval.specs.Values.{content_of, temp_of, cells_of}
+use Rattle.core_eval.specs.Values.{content_of, temp_of}
+use Rattle.core_eval.specs.Elements.{cells_of}
 use Rattle.core_eval.specs.Regions.{Regions, regions_of, turned}
 use Rattle.core_eval.specs.Pendings.{Execute, Leave, Wait, Go, Wrong, next_of}
 use Rattle.core_eval.specs.Standing.{Known, IsSilent, Gives, known_of, standing_of}

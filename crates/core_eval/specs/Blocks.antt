@@ -34,8 +34,8 @@ use Rattle.core_eval.specs.declared.value.Value.TheVariants as value
 use Rattle.core_eval.specs.declared.value.Slot.{Slot}
 use Rattle.core_eval.specs.declared.blocks.Block.{Block}
 use Rattle.core_eval.specs.declared.memory.Memory.{Memory}
-use Rattle.core_eval.specs.Values.{cells_of, slot_at, null_of, put_in, same_cell}
-use Rattle.core_eval.specs.Elements.{block_cells}
+use Rattle.core_eval.specs.Values.{slot_at, null_of, put_in, same_cell}
+use Rattle.core_eval.specs.Elements.{block_cells, cells_of}
 use Rattle.core_eval.specs.LongBlocks.{LongBlock, long_block_of, with_long_block}
 use Rattle.core_eval.specs.Regions.{Regions, regions_of, live_at, slot_within, put_region, grown_region, block_place}
 

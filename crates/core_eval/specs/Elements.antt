@@ -1,5 +1,5 @@
--- How objects begin: of many elements, or of one cell.
-use Rattle.std.specs.Prelude.{ℕ, zero, suc, ◌+◌, ◌*◌, Bool, true, false, List, [], ◌∷◌, ◌++◌, map, if◌then◌else◌}
+-- The cells of objects, and how they begin: of many elements, or of one cell.
+use Rattle.std.specs.Prelude.{ℕ, zero, suc, ◌+◌, ◌-◌, ◌*◌, Bool, true, false, List, [], ◌∷◌, ◌++◌, map, if◌then◌else◌}
 use Rattle.cyc_core.specs.declared.operation.Cell.{Cell}
 use Rattle.cyc_core.specs.declared.layout.CellLayout.{CellLayout}
 use Rattle.cyc_core.specs.declared.layout.Layout.{Layout}
@@ -14,6 +14,9 @@ use Rattle.core_eval.specs.declared.held.Bound.TheVariants as bound
 use Rattle.core_eval.specs.declared.held.Held.{Held}
 use Rattle.core_eval.specs.declared.held.Held.TheVariants as held
 use Rattle.core_eval.specs.declared.value.Slot.{Slot}
+use Rattle.core_eval.specs.declared.begun.Begun.{Begun}
+use Rattle.core_eval.specs.declared.value.Object.{Object}
+use Rattle.core_eval.specs.declared.value.Object.TheVariants as object
 use Rattle.core_eval.specs.Values.{first_held, blanked}
 
 -- something of each cell of so many elements, of which the first has the number e
@@ -36,6 +39,16 @@ elements_from begun cells bytes e count = each_element (λ n. slot_from begun (n
 -- an object of so many elements of a layout
 abbrev pub block_cells : (begun : Bool) → Layout → ℕ → List Slot
 block_cells begun l count = elements_from begun l.cells.items l.bytes 0 count
+
+-- the cells of a block of elements of a layout: those that are made, and behind them those of the other elements, which hold nothing as yet
+abbrev pub begun_cells : Begun → List Slot
+begun_cells b = b.slots.items ++ elements_from false b.layout.value.cells.items b.layout.value.bytes b.made (b.count - b.made)
+
+-- the cells of an object
+abbrev pub cells_of : Object → List Slot
+cells_of (object.Scalar s) = s ∷ []
+cells_of (object.Whole slots) = slots.items
+cells_of (object.Begun b) = begun_cells b
 
 -- an object of one cell
 abbrev pub scalar : Held → List Slot

@@ -35,7 +35,8 @@ use Rattle.core_eval.specs.declared.region.Standing.TheVariants as standing
 use Rattle.core_eval.specs.declared.region.Region as code
 use Rattle.core_eval.specs.declared.region.Region.TheVariants as region
 use Rattle.core_eval.specs.declared.regions.Regions as code_regions
-use Rattle.core_eval.specs.Values.{cells_of, slot_at, put_in}
+use Rattle.core_eval.specs.Values.{slot_at, put_in}
+use Rattle.core_eval.specs.Elements.{cells_of}
 
 -- a region that isn't freed: what it is, and its objects
 pub record Kept : Type 0 where

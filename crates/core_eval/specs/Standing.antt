@@ -16,8 +16,8 @@ use Rattle.core_eval.specs.declared.frame.Frame.{Frame}
 use Rattle.core_eval.specs.declared.memory.Memory as code
 use Rattle.core_eval.specs.declared.region.Standing as code_standing
 use Rattle.core_eval.specs.declared.region.Standing.TheVariants as standing
-use Rattle.core_eval.specs.Values.{spot_of, temp_of, cells_of, HasParts, Shows}
-use Rattle.core_eval.specs.Elements.{blank_object, first_object}
+use Rattle.core_eval.specs.Values.{spot_of, temp_of, HasParts, Shows}
+use Rattle.core_eval.specs.Elements.{blank_object, first_object, cells_of}
 use Rattle.core_eval.specs.Regions.{Kept, Regions, regions_of, region_at}
 use Rattle.core_eval.specs.LongBlocks.{LongBlock, long_block_of}
 use Rattle.core_eval.specs.Blocks.{Activation, activation_of, position_of}

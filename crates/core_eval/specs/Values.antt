@@ -45,8 +45,6 @@ use Rattle.core_eval.specs.declared.held.Bound.TheVariants as bound
 use Rattle.core_eval.specs.declared.held.Held.{Held}
 use Rattle.core_eval.specs.declared.held.Held.TheVariants as held
 use Rattle.core_eval.specs.declared.value.Slot.{Slot}
-use Rattle.core_eval.specs.declared.value.Object.{Object}
-use Rattle.core_eval.specs.declared.value.Object.TheVariants as object
 
 -- ---- places
 
@@ -179,11 +177,7 @@ blanked (held.Fat u v w) = held.Fat value.Blank bound.Blank bound.Blank
 blanked (held.Tagged t v) = held.Tagged bound.Blank value.Blank
 blanked (held.TaggedFat t u v w) = held.TaggedFat bound.Blank value.Blank bound.Blank bound.Blank
 
--- ---- objects: the cells of each
-
-abbrev pub cells_of : Object → List Slot
-cells_of (object.Scalar s) = s ∷ []
-cells_of (object.Whole slots) = slots.items
+-- ---- objects
 
 abbrev pub same_width : Width → Width → Bool
 same_width width.Byte width.Byte = true

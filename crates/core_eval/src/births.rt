@@ -1,7 +1,7 @@
 // Regions in what is stored: how they are born, become others and are freed, and get blocks.
 
 ghost use Rattle.std.specs.Prelude.{◌≡◌, ◌∷◌, ◌++◌, suc, [], Some, None, false, if◌then◌else◌, map, length, option_map, IfOk, OnOk};
-ghost use Rattle.core_eval.specs.Values.{cells_of};
+ghost use Rattle.core_eval.specs.Elements.{cells_of};
 ghost use Rattle.core_eval.specs.Regions.{live_at, regions_of, single_freed, turned};
 ghost use Rattle.core_eval.specs.Blocks.{grown, next_place, stored_of};
 
@@ -11,6 +11,7 @@ use crate::region::{Region, Standing, push_block};
 use crate::value::{Area, Object, Place};
 use cyc_core::Layout;
 use std::alloc::{AllocError, Global};
+use std::rc::Rc;
 
 impl Memory {
     /// A region is born with these blocks: how many were born before it. Fails only where no host memory is left, or 2^64 - 1 regions were born.
@@ -71,17 +72,24 @@ impl Memory {
         &mut self,
         alloc: Global,
         number: u64,
-        layout: &Layout,
+        layout: &Rc<Layout>,
         count: u32,
     ) -> Result<Option<usize>, AllocError>
         ensures before { IfOk result (λ before. before ≡ option_map length (live_at (regions_of self.old.regions) number)) }
-        ensures stored { OnOk result (stored_of self.new ≡ grown (stored_of self.old) (suc number) layout.now count) }
+        ensures stored { OnOk result (stored_of self.new ≡ grown (stored_of self.old) (suc number) layout.now.value count) }
         ensures entered { OnOk result (self.new.entered ≡ self.old.entered) }
         ensures called { OnOk result (self.new.called ≡ self.old.called) }
     {
         match self.regions.allocate(alloc, number, layout, count)? {
             Some(object) => {
-                keep_block(alloc, &mut self.long_blocks, number, object, layout, count)?;
+                keep_block(
+                    alloc,
+                    &mut self.long_blocks,
+                    number,
+                    object,
+                    layout.as_ref(),
+                    count,
+                )?;
                 Ok(Some(object))
             }
             None => Ok(None),
@@ -94,11 +102,11 @@ impl Memory {
         &mut self,
         alloc: Global,
         birth: u64,
-        layout: &Layout,
+        layout: &Rc<Layout>,
         count: u32,
     ) -> Result<Option<Place>, AllocError>
         ensures place { IfOk result (λ place. place ≡ next_place (stored_of self.old) birth) }
-        ensures stored { OnOk result (stored_of self.new ≡ grown (stored_of self.old) birth layout.now count) }
+        ensures stored { OnOk result (stored_of self.new ≡ grown (stored_of self.old) birth layout.now.value count) }
         ensures entered { OnOk result (self.new.entered ≡ self.old.entered) }
         ensures called { OnOk result (self.new.called ≡ self.old.called) }
     {

@@ -1,6 +1,6 @@
 // Blocks and functions that are active, each with its objects, the innermost first.
 
-ghost use Rattle.std.specs.Prelude.{◌≡◌, ℕ, Some, None, false, if◌then◌else◌, map, IfSome, OnOk};
+ghost use Rattle.std.specs.Prelude.{◌≡◌, ℕ, Some, None, false, if◌then◌else◌, map, IfOk, IfSome, OnOk};
 ghost use Rattle.core_eval.specs.Blocks.{Descends, activation_of, position_of, put_through, slot_through};
 ghost use Rattle.core_eval.specs.Values.{value_of};
 ghost use Rattle.core_eval.specs.Whole.{fill_through};
@@ -79,47 +79,48 @@ pub fn slot_by(blocks: &VecDeque<Block>, number: u64, index: usize, cell: u64) -
 }
 
 /// Stores a value to a part of an object of the one that stands there, if there is one that lies there and has this width, and answers whether
-/// there is.
+/// there is. Fails only where no host memory is left.
 pub fn set_at(
     blocks: &mut VecDeque<Block>,
     position: usize,
     index: usize,
     part: Part,
     value: Value,
-) -> bool
-    ensures put { put_through (map activation_of blocks.old.items) (Some position) index part.cell part.byte part.number part.width value
-        ≡ (if result then Some (map activation_of blocks.new.items) else None) }
-    ensures kept { result ≡ false → map activation_of blocks.new.items ≡ map activation_of blocks.old.items }
+) -> Result<bool, AllocError>
+    ensures put { IfOk result (λ is_put. put_through (map activation_of blocks.old.items) (Some position)
+        index part.cell part.byte part.number part.width value
+        ≡ (if is_put then Some (map activation_of blocks.new.items) else None)) }
+    ensures kept { IfOk result (λ is_put. is_put ≡ false → map activation_of blocks.new.items ≡ map activation_of blocks.old.items) }
 {
     match blocks.get_mut(position) {
         Some(block) => put_in(&mut block.objects, index, part, value),
-        None => false,
+        None => Ok(false),
     }
 }
 
 /// Stores a value to a part of an object of the one with this number, if it isn't left yet and there is one that lies there and has this width,
-/// and answers whether there is.
+/// and answers whether there is. Fails only where no host memory is left.
 pub fn set_by(
     blocks: &mut VecDeque<Block>,
     number: u64,
     index: usize,
     part: Part,
     value: Value,
-) -> bool
-    ensures put { (bound : ℕ) → Descends bound (map activation_of blocks.old.items)
+) -> Result<bool, AllocError>
+    ensures put { IfOk result (λ is_put. (bound : ℕ) → Descends bound (map activation_of blocks.old.items)
         → put_through (map activation_of blocks.old.items) (position_of (map activation_of blocks.old.items) number)
         index part.cell part.byte part.number part.width value
-        ≡ (if result then Some (map activation_of blocks.new.items) else None) }
-    ensures kept { result ≡ false → map activation_of blocks.new.items ≡ map activation_of blocks.old.items }
+        ≡ (if is_put then Some (map activation_of blocks.new.items) else None)) }
+    ensures kept { IfOk result (λ is_put. is_put ≡ false → map activation_of blocks.new.items ≡ map activation_of blocks.old.items) }
 {
     match position_of(blocks, number) {
         Some(position) => set_at(blocks, position, index, part, value),
-        None => false,
+        None => Ok(false),
     }
 }
 
-/// The cells of an object of the one that stands there get these values, from one on. Fails only where there would be a cell with a
-/// number over 2^64 - 1.
+/// The cells of an object of the one that stands there get these values, from one on. Fails only where no host memory is left, or there would
+/// be a cell with a number over 2^64 - 1.
 fn fill_at(
     blocks: &mut VecDeque<Block>,
     position: usize,
@@ -136,8 +137,8 @@ fn fill_at(
     }
 }
 
-/// The cells of an object of the one with this number get these values, from one on, if it isn't left yet. Fails only where there would
-/// be a cell with a number over 2^64 - 1.
+/// The cells of an object of the one with this number get these values, from one on, if it isn't left yet. Fails only where no host
+/// memory is left, or there would be a cell with a number over 2^64 - 1.
 pub fn fill_by(
     blocks: &mut VecDeque<Block>,
     number: u64,

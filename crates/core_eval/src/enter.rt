@@ -226,17 +226,9 @@ pub fn enter_statement<'p>(
             clear(alloc, frame, memory, *place, layout.as_ref(), *count)
         }
         Statement::RegionAlloc(to, region, count, layout) => allocate(
-            alloc,
-            frame,
-            memory,
-            *to,
-            *region,
-            *count,
-            layout.as_ref(),
+            alloc, frame, memory, *to, *region, *count, layout,
         ),
-        Statement::UniqueAlloc(to, layout) => {
-            allocate_unique(alloc, frame, memory, *to, layout.as_ref())
-        }
+        Statement::UniqueAlloc(to, layout) => { allocate_unique(alloc, frame, memory, *to, layout) }
         Statement::Check(test, failure, origin) => Ok(check(frame, *test, *failure, *origin)),
         Statement::If(test, both) => match truth(frame.temp(*test)) {
             Some(true) => Ok(Due::Go(Now::Follow(&both.0))),

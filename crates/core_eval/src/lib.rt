@@ -8,6 +8,7 @@
 #![tactic(auto)]
 
 mod arithmetic;
+mod begun;
 mod births;
 mod blocks;
 mod call;

@@ -51,7 +51,7 @@ impl LongBlock {
 }
 
 /// The cell with this number, if there is one.
-fn cell_at(cells: &[CellLayout], cell: u64) -> Option<CellLayout>
+pub fn cell_at(cells: &[CellLayout], cell: u64) -> Option<CellLayout>
     ensures { result ≡ slice_get cells.now cell }
 {
     match cells.get(cell as usize) {

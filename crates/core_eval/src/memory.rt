@@ -2,7 +2,8 @@
 // functions that are active.
 
 ghost use Rattle.std.specs.Prelude.{◌≡◌, ◌∷◌, ◌+◌, [], Some, None, false, if◌then◌else◌, drop, map, IfOk, IfSome, OnOk};
-ghost use Rattle.core_eval.specs.Values.{cells_of, value_of};
+ghost use Rattle.core_eval.specs.Values.{value_of};
+ghost use Rattle.core_eval.specs.Elements.{cells_of};
 ghost use Rattle.core_eval.specs.declared.frame.Frame.{Frame as TheFrame};
 ghost use Rattle.core_eval.specs.Standing.{first_known, known_of};
 ghost use Rattle.core_eval.specs.Whole.{fill_to, is_held};
@@ -248,11 +249,17 @@ impl Memory {
     }
 
     /// Stores a value to the first part of a local, for a function outside of which there are `base` blocks, if there is one of this width,
-    /// and answers whether there is.
-    pub fn set_local(&mut self, base: usize, variable: Variable, width: Width, value: Value) -> bool
-        ensures blocks { put_local base (map activation_of self.old.blocks.items) variable.out variable.index width value
-            ≡ (if result then Some (map activation_of self.new.blocks.items) else None) }
-        ensures kept { result ≡ false → map activation_of self.new.blocks.items ≡ map activation_of self.old.blocks.items }
+    /// and answers whether there is. Fails only where no host memory is left.
+    pub fn set_local(
+        &mut self,
+        base: usize,
+        variable: Variable,
+        width: Width,
+        value: Value,
+    ) -> Result<bool, AllocError>
+        ensures blocks { IfOk result (λ is_put. put_local base (map activation_of self.old.blocks.items) variable.out variable.index width value
+            ≡ (if is_put then Some (map activation_of self.new.blocks.items) else None)) }
+        ensures kept { IfOk result (λ is_put. is_put ≡ false → map activation_of self.new.blocks.items ≡ map activation_of self.old.blocks.items) }
         ensures entered { self.new.entered ≡ self.old.entered }
         ensures owns { self.new.owns ≡ self.old.owns }
         ensures called { self.new.called ≡ self.old.called }
@@ -268,16 +275,17 @@ impl Memory {
                 Part::first(width),
                 value,
             ),
-            None => false,
+            None => Ok(false),
         }
     }
 
     /// Stores a value to a part of the object to which a place leads, if there is one that lies there and has this width, and answers whether there is.
-    pub fn put_to(&mut self, place: Place, part: Part, value: Value) -> bool
-        ensures put { AreOrdered self.old
+    /// Fails only where no host memory is left.
+    pub fn put_to(&mut self, place: Place, part: Part, value: Value) -> Result<bool, AllocError>
+        ensures put { IfOk result (λ is_put. AreOrdered self.old
             → put_to (stored_of self.old) place.area place.object part.cell part.byte part.number part.width value
-            ≡ (if result then Some (stored_of self.new) else None) }
-        ensures kept { result ≡ false → stored_of self.new ≡ stored_of self.old }
+            ≡ (if is_put then Some (stored_of self.new) else None)) }
+        ensures kept { IfOk result (λ is_put. is_put ≡ false → stored_of self.new ≡ stored_of self.old) }
         ensures entered { self.new.entered ≡ self.old.entered }
         ensures called { self.new.called ≡ self.old.called }
     {
@@ -290,7 +298,7 @@ impl Memory {
         }
     }
 
-    /// The cells from a place on get these values. Fails only where there would be a cell with a number over 2^64 - 1.
+    /// The cells from a place on get these values. Fails only where no host memory is left, or there would be a cell with a number over 2^64 - 1.
     pub fn fill_to(&mut self, place: Place, values: &[Held]) -> Result<(), AllocError>
         ensures stored { OnOk result (AreOrdered self.old
             → stored_of self.new ≡ fill_to (stored_of self.old) place.area place.object place.cell values.now) }

@@ -1,8 +1,18 @@
 // How objects begin.
 
 ghost use Rattle.std.specs.Prelude.{◌≡◌, ◌+◌, ◌*◌, ◌++◌, ◌∷◌, [], false, true, map, vec_len, IfOk, OnOk};
-ghost use Rattle.core_eval.specs.Values.{cells_of};
-ghost use Rattle.core_eval.specs.Elements.{blank_object, block_cells, char_slot, first_element, first_object, held_first, scalar, slot_from, text_cells};
+ghost use Rattle.core_eval.specs.Elements.{
+  blank_object,
+  block_cells,
+  cells_of,
+  char_slot,
+  first_element,
+  first_object,
+  held_first,
+  scalar,
+  slot_from,
+  text_cells,
+};
 
 use crate::held::{Bound, Held};
 use crate::value::{Area, Object, Place, Slot, Value};
@@ -36,7 +46,7 @@ fn held_first(is_begun: bool, cell: Cell) -> Held
 }
 
 /// A cell of the element with this number, where each element has `bytes` bytes.
-fn slot_from(is_begun: bool, element: u32, bytes: u32, cell: CellLayout) -> Slot
+pub fn slot_from(is_begun: bool, element: u32, bytes: u32, cell: CellLayout) -> Slot
     ensures { result ≡ slot_from is_begun (element * bytes) cell }
 {
     Slot {
@@ -47,7 +57,7 @@ fn slot_from(is_begun: bool, element: u32, bytes: u32, cell: CellLayout) -> Slot
 }
 
 /// The element with this number more, where each element has `bytes` bytes.
-fn push_element(
+pub fn push_element(
     slots: &mut Vec<Slot>,
     is_begun: bool,
     element: u32,
@@ -112,7 +122,7 @@ pub fn push_blanks(
 pub fn blank_objects(alloc: Global, locals: &[Local]) -> Result<Vec<Object>, AllocError>
     ensures { IfOk result (λ objects. map cells_of objects.items ≡ map blank_object locals.now) }
 {
-    let mut objects = Vec::new(alloc);
+    let mut objects = Vec::with_capacity(alloc, locals.len())?;
     push_blanks(alloc, &mut objects, locals)?;
     Ok(objects)
 }

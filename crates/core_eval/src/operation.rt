@@ -133,7 +133,7 @@ fn get<'p>(
     }
 }
 
-/// Stores what a temporary holds to a local. Fails only where that is a pointer or a handle, and would be a tag.
+/// Stores what a temporary holds to a local. Fails only where no host memory is left, or that is a pointer or a handle, and would be a tag.
 fn put<'p>(
     frame: &Frame,
     memory: &mut Memory,
@@ -146,7 +146,8 @@ fn put<'p>(
         (known_of frame.now memory.new)) }
 {
     let value = frame.temp(from);
-    if memory.set_local(frame.base, to, width, value) {
+    let is_put = memory.set_local(frame.base, to, width, value)?;
+    if is_put {
         return Ok(Due::Go(Now::Leave(Flow::Falls)));
     }
     match memory.local(frame.base, to, width) {
@@ -238,9 +239,9 @@ fn load<'p>(
     }
 }
 
-/// Stores what a temporary holds to the part at a distance from where another one points. Fails only where there would be a cell with a
-/// number over 2^64 - 1, the part is a byte behind the first part of its cell, of which nothing is kept, or it is a count, an index or a tag
-/// and would get a pointer or a handle.
+/// Stores what a temporary holds to the part at a distance from where another one points. Fails only where no host memory is left, there
+/// would be a cell with a number over 2^64 - 1, the part is a byte behind the first part of its cell, of which nothing is kept, or it is a
+/// count, an index or a tag and would get a pointer or a handle.
 fn store<'p>(
     frame: &Frame,
     memory: &mut Memory,
@@ -267,7 +268,8 @@ fn store<'p>(
         number: distance.part,
         width: distance.width,
     };
-    if memory.put_to(place, part, value) {
+    let is_put = memory.put_to(place, part, value)?;
+    if is_put {
         return Ok(Due::Go(Now::Leave(Flow::Falls)));
     }
     match value_of(

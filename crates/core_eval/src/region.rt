@@ -1,8 +1,7 @@
 // A region that was born, and its blocks.
 
 ghost use Rattle.std.specs.Prelude.{◌≡◌, ◌++◌, ◌∷◌, [], Some, None, false, if◌then◌else◌, map, length, option_map, IfOk, OnOk};
-ghost use Rattle.core_eval.specs.Values.{cells_of};
-ghost use Rattle.core_eval.specs.Elements.{block_cells};
+ghost use Rattle.core_eval.specs.Elements.{block_cells, cells_of};
 ghost use Rattle.core_eval.specs.Regions.{
   grown_held,
   held_region,
@@ -14,11 +13,13 @@ ghost use Rattle.core_eval.specs.Regions.{
 };
 ghost use Rattle.core_eval.specs.Whole.{fill_held};
 
+use crate::begun::Begun;
 use crate::held::Held;
 use crate::object::block_cells;
 use crate::value::{Object, Part, Value, fill_in, put_in};
 use cyc_core::Layout;
 use std::alloc::{AllocError, Global};
+use std::rc::Rc;
 
 /// What a region is that isn't freed.
 #[derive(Clone, Copy)]
@@ -67,40 +68,56 @@ pub enum Region {
     Freed,
 }
 
+/// A block of a number of elements of a layout, which hold nothing as yet: more than one aren't made before something is stored to them. Fails only
+/// where no host memory is left.
+fn new_block(alloc: Global, layout: &Rc<Layout>, count: u32) -> Result<Object, AllocError>
+    ensures { IfOk result (λ block. cells_of block ≡ block_cells false layout.now.value count) }
+{
+    if count > 1 {
+        Ok(Object::Begun(Begun::new(alloc, layout, count)?))
+    } else {
+        Ok(Object::Whole(block_cells(alloc, false, layout.as_ref(), count)?))
+    }
+}
+
 /// A block more, of a number of elements of a layout, which hold nothing as yet: how many there were before. Fails only where no host memory is left.
 pub fn push_block(
     alloc: Global,
     objects: &mut Vec<Object>,
-    layout: &Layout,
+    layout: &Rc<Layout>,
     count: u32,
 ) -> Result<usize, AllocError>
     ensures number { IfOk result (λ before. before ≡ length objects.old.items) }
-    ensures objects { OnOk result (map cells_of objects.new.items ≡ map cells_of objects.old.items ++ block_cells false layout.now count ∷ []) }
+    ensures objects { OnOk result (map cells_of objects.new.items ≡ map cells_of objects.old.items ++ block_cells false layout.now.value count ∷ []) }
 {
     let before = objects.len();
-    let slots = block_cells(alloc, false, layout, count)?;
-    objects.push(Object::Whole(slots))?;
+    let block = new_block(alloc, layout, count)?;
+    objects.push(block)?;
     Ok(before)
 }
 
 impl Region {
     /// Stores a value to a part of a block, if it isn't freed or closed and there is one that lies there and has this width, and answers whether there
-    /// is.
-    pub fn put(&mut self, index: usize, part: Part, value: Value) -> bool
-        ensures put { put_held index part.cell part.byte part.number part.width value (held_region self.old)
-            ≡ (if result then Some (held_region self.new) else None) }
-        ensures kept { result ≡ false → held_region self.new ≡ held_region self.old }
+    /// is. Fails only where no host memory is left.
+    pub fn put(&mut self, index: usize, part: Part, value: Value) -> Result<bool, AllocError>
+        ensures put { IfOk result (λ is_put. put_held index part.cell part.byte part.number part.width value (held_region self.old)
+            ≡ (if is_put then Some (held_region self.new) else None)) }
+        ensures kept { IfOk result (λ is_put. is_put ≡ false → held_region self.new ≡ held_region self.old) }
     {
         match self {
             Region::Held(standing, objects) => {
-                standing.is_open() && put_in(objects, index, part, value)
+                if standing.is_open() {
+                    put_in(objects, index, part, value)
+                } else {
+                    Ok(false)
+                }
             }
-            Region::Freed => false,
+            Region::Freed => Ok(false),
         }
     }
 
-    /// The cells of a block get these values, from one on, if it isn't freed. Fails only where there would be a cell with a number over
-    /// 2^64 - 1.
+    /// The cells of a block get these values, from one on, if it isn't freed. Fails only where no host memory is left, or there would be a cell
+    /// with a number over 2^64 - 1.
     pub fn fill(&mut self, index: usize, cell: u64, values: &[Held]) -> Result<(), AllocError>
         ensures { OnOk result (held_region self.new ≡ fill_held index cell values.now (held_region self.old)) }
     {
@@ -134,11 +151,11 @@ impl Region {
     pub fn allocate(
         &mut self,
         alloc: Global,
-        layout: &Layout,
+        layout: &Rc<Layout>,
         count: u32,
     ) -> Result<Option<usize>, AllocError>
         ensures number { IfOk result (λ before. before ≡ option_map length (open_objects (held_region self.old))) }
-        ensures held { OnOk result (held_region self.new ≡ grown_held (block_cells false layout.now count) (held_region self.old)) }
+        ensures held { OnOk result (held_region self.new ≡ grown_held (block_cells false layout.now.value count) (held_region self.old)) }
     {
         match self {
             Region::Held(standing, objects) => {

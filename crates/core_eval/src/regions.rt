@@ -42,6 +42,7 @@ use crate::region::{Region, Standing};
 use crate::value::{Part, Slot, Value, slot_in};
 use cyc_core::Layout;
 use std::alloc::{AllocError, Global};
+use std::rc::Rc;
 
 /// The regions that were born, by how many were before each, in chunks of 64: a chunk all of whose regions are freed keeps nothing. A region
 /// that has no item in its chunk is freed.
@@ -189,20 +190,26 @@ impl Regions {
     }
 
     /// Stores a value to a part of a block of the region with this number, if it isn't freed or closed and there is one that lies there and is
-    /// so wide, and answers whether there is.
-    pub fn put(&mut self, number: u64, index: usize, part: Part, value: Value) -> bool
-        ensures put { put_region (regions_of self.old) number index part.cell part.byte part.number part.width value
-            ≡ (if result then Some (regions_of self.new) else None) }
-        ensures kept { result ≡ false → regions_of self.new ≡ regions_of self.old }
+    /// so wide, and answers whether there is. Fails only where no host memory is left.
+    pub fn put(
+        &mut self,
+        number: u64,
+        index: usize,
+        part: Part,
+        value: Value,
+    ) -> Result<bool, AllocError>
+        ensures put { IfOk result (λ is_put. put_region (regions_of self.old) number index part.cell part.byte part.number part.width value
+            ≡ (if is_put then Some (regions_of self.new) else None)) }
+        ensures kept { IfOk result (λ is_put. is_put ≡ false → regions_of self.new ≡ regions_of self.old) }
     {
         match self.region_mut(number) {
             Some(region) => region.put(index, part, value),
-            None => false,
+            None => Ok(false),
         }
     }
 
-    /// The cells of a block of the region with this number get these values, from one on, if it isn't freed yet. Fails only where there
-    /// would be a cell with a number over 2^64 - 1.
+    /// The cells of a block of the region with this number get these values, from one on, if it isn't freed yet. Fails only where no host memory
+    /// is left, or there would be a cell with a number over 2^64 - 1.
     pub fn fill(
         &mut self,
         number: u64,
@@ -246,12 +253,12 @@ impl Regions {
         &mut self,
         alloc: Global,
         number: u64,
-        layout: &Layout,
+        layout: &Rc<Layout>,
         count: u32,
     ) -> Result<Option<usize>, AllocError>
         ensures number { IfOk result (λ before. before ≡ option_map length (live_at (regions_of self.old) number)) }
         ensures regions { OnOk result (regions_of self.new
-            ≡ grown_region (regions_of self.old) number (block_cells false layout.now count)) }
+            ≡ grown_region (regions_of self.old) number (block_cells false layout.now.value count)) }
     {
         match self.region_mut(number) {
             Some(region) => region.allocate(alloc, layout, count),

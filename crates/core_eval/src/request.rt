@@ -17,6 +17,7 @@ use crate::region::{Standing, push_block};
 use crate::value::{Area, Place, Value};
 use cyc_core::{Layout, Temporary};
 use std::alloc::{AllocError, Global};
+use std::rc::Rc;
 
 /// Gives a temporary the handle of a new region.
 pub fn make_region<'p>(
@@ -125,10 +126,10 @@ pub fn allocate<'p>(
     to: Temporary,
     region: Temporary,
     count: Temporary,
-    layout: &Layout,
+    layout: &Rc<Layout>,
 ) -> Result<Due<'p>, AllocError>
     ensures { IfOk result (λ due. (ws : List Wait) →
-        IsMove (Execute (core.Do (core.RegionAlloc to.0 region.0 count.0 (layout_tree layout.now)))) ws (known_of frame.old memory.old)
+        IsMove (Execute (core.Do (core.RegionAlloc to.0 region.0 count.0 (layout_tree layout.now.value)))) ws (known_of frame.old memory.old)
         (next_of due) ws (known_of frame.new memory.new)) }
 {
     let Value::Birth(birth) = frame.temp(region) else {
@@ -149,16 +150,23 @@ pub fn allocate_unique<'p>(
     frame: &mut Frame,
     memory: &mut Memory,
     to: Temporary,
-    layout: &Layout,
+    layout: &Rc<Layout>,
 ) -> Result<Due<'p>, AllocError>
     ensures { IfOk result (λ due. (ws : List Wait) →
-        IsMove (Execute (core.Do (core.UniqueAlloc to.0 (layout_tree layout.now)))) ws (known_of frame.old memory.old)
+        IsMove (Execute (core.Do (core.UniqueAlloc to.0 (layout_tree layout.now.value)))) ws (known_of frame.old memory.old)
         (next_of due) ws (known_of frame.new memory.new)) }
 {
     let mut objects = Vec::new(alloc);
     let object = push_block(alloc, &mut objects, layout, 1)?;
     let birth = memory.make_region(alloc, Standing::Single, objects)?;
-    keep_block(alloc, &mut memory.long_blocks, birth - 1, object, layout, 1)?;
+    keep_block(
+        alloc,
+        &mut memory.long_blocks,
+        birth - 1,
+        object,
+        layout.as_ref(),
+        1,
+    )?;
     let place = Place {
         area: Area::Region(birth - 1),
         object,

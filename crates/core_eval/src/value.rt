@@ -2,9 +2,11 @@
 
 ghost use Rattle.std.specs.Prelude.{◌≡◌, ◌+◌, IfOk, IfSome, OnOk, Some, None, false, if◌then◌else◌, map, slice_get, slice_set};
 ghost use Rattle.cyc_core.specs.Trees.{bytes_of};
-ghost use Rattle.core_eval.specs.Values.{cells_of, fitted, is_fit, is_kept, put_cell, put_in, put_within, same_width, slot_at, value_of};
+ghost use Rattle.core_eval.specs.Values.{fitted, is_fit, is_kept, put_cell, put_in, put_within, same_width, slot_at, value_of};
+ghost use Rattle.core_eval.specs.Elements.{cells_of};
 ghost use Rattle.core_eval.specs.Whole.{fill_cells, fill_in, fill_slot};
 
+use crate::begun::Begun;
 use crate::held::Held;
 use cyc_core::Width;
 use std::alloc::{AllocError, Global};
@@ -112,7 +114,7 @@ impl Slot {
 
     /// Stores a value to the part with this number, if there is one that lies this number of bytes on and has this width, and answers whether
     /// there is.
-    fn put(&mut self, byte: u64, part: u8, width: Width, value: Value) -> bool
+    pub fn put(&mut self, byte: u64, part: u8, width: Width, value: Value) -> bool
         ensures put { put_within self.old byte part width value ≡ (if result then Some self.new else None) }
         ensures kept { result ≡ false → self.new ≡ self.old }
     {
@@ -131,6 +133,8 @@ pub enum Object {
     Scalar(Slot),
     /// Of these cells.
     Whole(Vec<Slot>),
+    /// Of these elements.
+    Begun(Begun),
 }
 
 impl Object {
@@ -144,6 +148,7 @@ impl Object {
                 Some(slot) => Some(*slot),
                 None => None,
             },
+            Object::Begun(begun) => begun.slot(cell),
         }
     }
 
@@ -163,6 +168,12 @@ impl Object {
                 Some(slot) => slot.value(part.byte, part.number, part.width),
                 None => None,
             },
+            Object::Begun(begun) => value_of(
+                begun.slot(part.cell),
+                part.byte,
+                part.number,
+                part.width,
+            ),
         }
     }
 
@@ -172,13 +183,13 @@ impl Object {
     {
         match self {
             Object::Scalar(slot) => slot.word(),
-            Object::Whole(_) => None,
+            Object::Whole(_) | Object::Begun(_) => None,
         }
     }
 
-    /// Sets the cell with this number, if there is one.
-    fn set(&mut self, cell: u64, slot: Slot)
-        ensures { cells_of self.new ≡ slice_set (cells_of self.old) cell slot }
+    /// Sets the cell with this number, if there is one. Fails only where no host memory is left.
+    fn set(&mut self, cell: u64, slot: Slot) -> Result<(), AllocError>
+        ensures { OnOk result (cells_of self.new ≡ slice_set (cells_of self.old) cell slot) }
     {
         match self {
             Object::Scalar(old) => {
@@ -191,56 +202,63 @@ impl Object {
                     *old = slot;
                 }
             }
+            Object::Begun(begun) => begun.set(cell, slot)?,
         }
+        Ok(())
     }
 
-    /// The cell with this number gets other values in as many of its parts as these are, if there is one.
-    fn fill_one(&mut self, cell: u64, held: Held)
-        ensures { cells_of self.new ≡ fill_slot (cells_of self.old) cell held (slice_get (cells_of self.old) cell) }
+    /// The cell with this number gets other values in as many of its parts as these are, if there is one. Fails only where no host memory is
+    /// left.
+    fn fill_one(&mut self, cell: u64, held: Held) -> Result<(), AllocError>
+        ensures { OnOk result (cells_of self.new ≡ fill_slot (cells_of self.old) cell held (slice_get (cells_of self.old) cell)) }
     {
-        if let Some(slot) = self.slot(cell) {
-            self.set(
+        match self.slot(cell) {
+            Some(slot) => self.set(
                 cell,
                 Slot {
                     held: slot.held.refilled(held),
                     ..slot
                 },
-            );
+            ),
+            None => Ok(()),
         }
     }
 
-    /// The cells from one on get these values. Fails only where there would be a cell with a number over 2^64 - 1.
+    /// The cells from one on get these values. Fails only where no host memory is left, or there would be a cell with a number over 2^64 - 1.
     fn fill(&mut self, cell: u64, values: &[Held]) -> Result<(), AllocError>
         ensures { OnOk result (cells_of self.new ≡ fill_cells (cells_of self.old) cell values.now) }
     {
         let mut at = cell;
         'each: for held in values {
-            self.fill_one(at, *held);
+            self.fill_one(at, *held)?;
             at = further(at, 1)?;
         }
         Ok(())
     }
 
-    /// Stores a value to a part of it, if there is one that lies there and has this width, and answers whether there is.
-    fn put(&mut self, part: Part, value: Value) -> bool
-        ensures put { put_cell (cells_of self.old) part.cell part.byte part.number part.width value ≡ (if result then Some (cells_of self.new) else None) }
-        ensures kept { result ≡ false → self.new ≡ self.old }
+    /// Stores a value to a part of it, if there is one that lies there and has this width, and answers whether there is. Fails only where no
+    /// host memory is left.
+    fn put(&mut self, part: Part, value: Value) -> Result<bool, AllocError>
+        ensures put { IfOk result (λ is_put. put_cell (cells_of self.old) part.cell part.byte part.number part.width value
+            ≡ (if is_put then Some (cells_of self.new) else None)) }
+        ensures kept { IfOk result (λ is_put. is_put ≡ false → self.new ≡ self.old) }
     {
         match self {
-            Object::Scalar(slot) => {
-                part.cell == 0 && slot.put(part.byte, part.number, part.width, value)
-            }
+            Object::Scalar(slot) => Ok(
+                part.cell == 0 && slot.put(part.byte, part.number, part.width, value),
+            ),
             Object::Whole(slots) => {
                 let Some(slot) = slots.get(part.cell as usize) else {
-                    return false;
+                    return Ok(false);
                 };
                 let mut changed = *slot;
                 let is_put = changed.put(part.byte, part.number, part.width, value);
                 if is_put {
                     slots[part.cell as usize] = changed;
                 }
-                is_put
+                Ok(is_put)
             }
+            Object::Begun(begun) => begun.put(part, value),
         }
     }
 }
@@ -334,19 +352,25 @@ pub fn value_of(slot: Option<Slot>, byte: u64, part: u8, width: Width) -> Option
 }
 
 /// Stores a value to a part of the object with this number, if there is one that lies there and has this width, and answers whether there is.
-pub fn put_in(objects: &mut Vec<Object>, index: usize, part: Part, value: Value) -> bool
-    ensures put { put_in (map cells_of objects.old.items) index part.cell part.byte part.number part.width value
-        ≡ (if result then Some (map cells_of objects.new.items) else None) }
-    ensures kept { result ≡ false → objects.new.items ≡ objects.old.items }
+/// Fails only where no host memory is left.
+pub fn put_in(
+    objects: &mut Vec<Object>,
+    index: usize,
+    part: Part,
+    value: Value,
+) -> Result<bool, AllocError>
+    ensures put { IfOk result (λ is_put. put_in (map cells_of objects.old.items) index part.cell part.byte part.number part.width value
+        ≡ (if is_put then Some (map cells_of objects.new.items) else None)) }
+    ensures kept { IfOk result (λ is_put. is_put ≡ false → objects.new.items ≡ objects.old.items) }
 {
     match objects.get_mut(index) {
         Some(object) => object.put(part, value),
-        None => false,
+        None => Ok(false),
     }
 }
 
-/// The cells of the object with this number get these values, from one on. Fails only where there would be a cell with a number over
-/// 2^64 - 1.
+/// The cells of the object with this number get these values, from one on. Fails only where no host memory is left, or there would be a cell
+/// with a number over 2^64 - 1.
 pub fn fill_in(
     objects: &mut Vec<Object>,
     index: usize,

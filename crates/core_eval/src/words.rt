@@ -55,17 +55,18 @@ fn word_given(operation: &Operation, frame: &Frame, memory: &Memory) -> Option<G
     }
 }
 
-/// Stores what a temporary holds to a local, if that is what an operation does, and answers whether it is done.
-fn put(operation: &Operation, frame: &Frame, memory: &mut Memory) -> bool
-    ensures done { result ≡ true → IsDone operation.now (known_of frame.now memory.old) (known_of frame.now memory.new) }
-    ensures kept { result ≡ false → known_of frame.now memory.new ≡ known_of frame.now memory.old }
+/// Stores what a temporary holds to a local, if that is what an operation does, and answers whether it is done. Fails only where no host memory is
+/// left.
+fn put(operation: &Operation, frame: &Frame, memory: &mut Memory) -> Result<bool, AllocError>
+    ensures done { IfOk result (λ is_done. is_done ≡ true → IsDone operation.now (known_of frame.now memory.old) (known_of frame.now memory.new)) }
+    ensures kept { IfOk result (λ is_done. is_done ≡ false → known_of frame.now memory.new ≡ known_of frame.now memory.old) }
 {
     match operation {
         Operation::Put(width, from, to) => {
             let value = frame.temp(*from);
             memory.set_local(frame.base, *to, *width, value)
         }
-        _ => false,
+        _ => Ok(false),
     }
 }
 
@@ -84,6 +85,6 @@ pub fn operate_on_words(
             frame.set_temp(given.to, Value::Word(given.word))?;
             Ok(true)
         }
-        None => Ok(put(operation, frame, memory)),
+        None => put(operation, frame, memory),
     }
 }

@@ -1,6 +1,5 @@
 use Rattle.std.proofs.Common.{◌≡◌, ◌++◌, drop, map}
-use Rattle.core_eval.specs.Values.{cells_of}
-use Rattle.core_eval.specs.Elements.{first_object}
+use Rattle.core_eval.specs.Elements.{first_object, cells_of}
 use Rattle.core_eval.proofs.object.first_objects.Given as goal
 
 abbrev pub invariant-each : goal.invariant-each

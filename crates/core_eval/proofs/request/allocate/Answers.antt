@@ -21,7 +21,7 @@ returns-in-Some c =
     let m = c.args.memory.now in
     let m' = c.allocate.new.self in
     let t = c.args.to.0 in
-    let l = c.args.layout.now in
+    let l = c.args.layout.now.value in
     let task = Execute (core.Do (core.RegionAlloc t c.args.region.0 c.args.count.0 (layout_tree l))) in
     let after = c.in_ok-place.ensures in
     given_after c.give.result f f' t (content_of (value.Pointer c.in-Some.place)) task m m'
@@ -40,7 +40,7 @@ returns-in-None c =
     let f = c.args.frame.now in
     let m = c.args.memory.now in
     let m' = c.allocate.new.self in
-    let l = c.args.layout.now in
+    let l = c.args.layout.now.value in
     let after = c.in_ok-place.ensures in
     let none : next_place (stored_of m) c.in-Birth.birth ≡ None = sym after.place ∙ c.in-None.is in
     let same = ungrown (stored_of m) c.in-Birth.birth l c.in-Word.count (unplaced (stored_of m) c.in-Birth.birth none) in

@@ -3,14 +3,15 @@ use Rattle.std.specs.declared.vec.Vec.{Vec}
 use Rattle.std.specs.declared.alloc.Global.{Global}
 use Rattle.core_meaning.specs.Core as core
 use Rattle.core_meaning.specs.Steps as steps
+use Rattle.cyc_core.specs.declared.layout.Layout.{Layout}
 use Rattle.cyc_core.specs.Trees.{layout_tree}
 use Rattle.core_eval.specs.declared.region.Standing.TheVariants as standing
 use Rattle.core_eval.specs.declared.value.Area.TheVariants as area
 use Rattle.core_eval.specs.declared.value.Object.{Object}
 use Rattle.core_eval.specs.declared.value.Value.TheVariants as value
 use Rattle.core_eval.specs.declared.value.Slot.{Slot}
-use Rattle.core_eval.specs.Values.{content_of, cells_of}
-use Rattle.core_eval.specs.Elements.{block_cells}
+use Rattle.core_eval.specs.Values.{content_of}
+use Rattle.core_eval.specs.Elements.{block_cells, cells_of}
 use Rattle.core_eval.specs.Regions.{Regions, regions_of}
 use Rattle.core_eval.specs.declared.memory.Memory.{Memory}
 use Rattle.core_eval.specs.declared.long_block.LongBlock as code
@@ -32,7 +33,7 @@ returns c =
     let born = c.make_region.new.self in
     let m' : Memory = record born { long_blocks = c.keep_block.new.blocks } in
     let t = c.args.to.0 in
-    let l = c.args.layout.now in
+    let l = c.args.layout.now.value in
     let task = Execute (core.Do (core.UniqueAlloc t (layout_tree l))) in
     let after = c.in_ok-birth.ensures in
     let rs = regions_of m.regions in
@@ -53,6 +54,7 @@ returns c =
     let longs = map long_block_of m.long_blocks.items in
     let kept : map long_block_of c.keep_block.new.blocks.items ≡ with_long_block longs (length rs) 0 l 1 =
     c.in_ok-keep_block.ensures
+    ∙ ap (λ (x : Layout). with_long_block (map long_block_of born.long_blocks.items) (c.in_ok-birth.birth - 1) c.in_ok-object.object x 1) c.as_ref.ensures
     ∙ ap (λ (bs : Vec code.LongBlock Global). with_long_block (map long_block_of bs.items) (c.in_ok-birth.birth - 1) c.in_ok-object.object l 1) after.long_blocks
     ∙ ap (λ n. with_long_block longs n c.in_ok-object.object l 1) number ∙ ap (λ n. with_long_block longs (length rs) n l 1) first in
     given_after c.give.result f f' t

@@ -1,5 +1,5 @@
 use Rattle.std.proofs.Common.{◌≡◌, drop}
-use Rattle.core_eval.specs.Values.{cells_of}
+use Rattle.core_eval.specs.Elements.{cells_of}
 use Rattle.core_eval.specs.Whole.{fill_cells}
 use Rattle.core_eval.proofs.value.Object.fill.Given as goal
 

@@ -2,7 +2,8 @@ use Rattle.std.specs.Prelude.{if◌then◌else◌, slice_get, slice_set}
 use Rattle.std.proofs.Common.{◌≡◌, Bool, List, Some, None, ap, ◌∙◌, sym}
 use Rattle.core_eval.specs.declared.value.Object.{Object}
 use Rattle.core_eval.specs.declared.value.Slot.{Slot}
-use Rattle.core_eval.specs.Values.{cells_of, put_cell}
+use Rattle.core_eval.specs.Values.{put_cell}
+use Rattle.core_eval.specs.Elements.{cells_of}
 use Rattle.core_eval.proofs.Lists.{get_within, put_cell_some}
 use Rattle.core_eval.proofs.value.Object.put.Goals as goal
 

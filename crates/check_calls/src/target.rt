@@ -51,12 +51,14 @@ fn target_by<'a, 'p>(
             kind: FaultKind::Name,
             at,
         }),
-        Some(Named::Variable(_, _) | Named::Array(_, _) | Named::Counter) => Verdict::Wrong(
-            Fault {
-                kind: FaultKind::Typing,
-                at,
-            },
-        ),
+        Some(Named::Variable(_, _)) => Verdict::Wrong(Fault {
+            kind: FaultKind::Typing,
+            at,
+        }),
+        Some(Named::Array(_, _) | Named::Counter) => Verdict::Wrong(Fault {
+            kind: FaultKind::Typing,
+            at,
+        }),
         Some(Named::Tag { is_union: true, .. }) => Verdict::Wrong(Fault {
             kind: FaultKind::Typing,
             at,

@@ -99,10 +99,16 @@ fn union_by<'a, 'p>(
             kind: FaultKind::Name,
             at,
         }),
+        Some(Named::Variable(_, _)) => Verdict::Wrong(Fault {
+            kind: FaultKind::Typing,
+            at,
+        }),
+        Some(Named::Array(_, _)) => Verdict::Wrong(Fault {
+            kind: FaultKind::Typing,
+            at,
+        }),
         Some(
-            Named::Variable(_, _)
-            | Named::Array(_, _)
-            | Named::Counter
+            Named::Counter
             | Named::Function(_)
             | Named::Builtin(_)
             | Named::Tag {

@@ -30,13 +30,9 @@ fn tag_name(named: Option<Named<'_, '_>>) -> TagName
         Some(Named::Tag { is_union, regions }) => TagName::Tag { is_union, regions },
         Some(Named::FaultyTag(regions)) => TagName::NotJudged(regions),
         Some(Named::NotKnown) => TagName::NotJudged(0),
-        Some(
-            Named::Variable(_, _)
-            | Named::Array(_, _)
-            | Named::Counter
-            | Named::Function(_)
-            | Named::Builtin(_),
-        ) => TagName::Other,
+        Some(Named::Variable(_, _)) => TagName::Other,
+        Some(Named::Array(_, _)) => TagName::Other,
+        Some(Named::Counter | Named::Function(_) | Named::Builtin(_)) => TagName::Other,
     }
 }
 

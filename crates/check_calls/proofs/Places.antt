@@ -1,8 +1,8 @@
 -- The regions of two types at the same places, by their pointers in code.
-use Rattle.std.specs.Prelude.{nat_eq, option_map, ◌++◌, ◌-◌, ◌&&◌, if◌then◌else◌, min}
-use Rattle.std.proofs.Common.{◌≡◌, ℕ, Bool, true, false, Option, Some, None}
+use Rattle.std.specs.Prelude.{nat_eq, option_map, ◌++◌, ◌-◌, ◌&&◌, if◌then◌else◌, min, slice_get, ◌+◌}
+use Rattle.std.proofs.Common.{◌≡◌, ℕ, zero, suc, Bool, true, false, Option, Some, None}
 use Rattle.std.proofs.Common.{List, [], ◌∷◌, refl, sym, ◌∙◌, ap, arith, take, drop, length, true≢false}
-use Rattle.std.proofs.lemmas.List.{append_assoc, append-nil, length-drop, length-take, take-append-drop, take_rest}
+use Rattle.std.proofs.lemmas.List.{append_assoc, append-nil, length-drop, length-take, take-append-drop}
 use Rattle.std.proofs.lemmas.Bool.Decides.{nat_tests}
 use Rattle.cyc_types.proofs.Outermost.{base_leads, base_outer}
 use Rattle.cyc_types.specs.Bases.{base_type}
@@ -21,7 +21,8 @@ use Rattle.source_typing.specs.Regions.{Level, Region, same_id}
 use Rattle.source_typing.specs.Types.{Char, Fat, Handle, Int, Key, Null, StaticType, Struct, Thin, Union, Unique, Unsigned, Void}
 use Rattle.source_typing.specs.Written.{Missing}
 use Rattle.check_operators.specs.declared.value.Value.{Value}
-use Rattle.check_calls.specs.Fitted.{base_fits, fits_all, layer_fits, parameter_fits, pointer_fits}
+use Rattle.check_operators.proofs.Renamed.{pointed_both}
+use Rattle.check_calls.specs.Fitted.{base_fits, fits_all, layer_fits, parameter_fits, place_fits, pointer_fits}
 use Rattle.check_calls.specs.Fixings.{Fixing, first_fixing, fixed_with, of_fit, or_else}
 use Rattle.check_calls.proofs.Fixes.{Alike, first_both, with_alike, with_both}
 
@@ -119,10 +120,6 @@ under_both at (l ∷ ls) (k ∷ ks) t u h =
 nat_same : (m n : ℕ) → m ≡ n → nat_eq m n ≡ true
 nat_same m n e = grind (arith, e)
 
-pointed_both : (ls ks : List Layer) (t : StaticType) → pointed t (ls ++ ks) ≡ pointed (pointed t ls) ks
-pointed_both [] ks t = refl
-pointed_both (l ∷ ls) ks t = pointed_both ls ks (pointer_to l t)
-
 split_at : (n : ℕ) (ls : List Layer) (t : StaticType) → pointed t ls ≡ pointed (pointed t (take n ls)) (drop n ls)
 split_at n ls t = ap (λ xs. pointed t xs) (sym (take-append-drop n ls)) ∙ pointed_both (take n ls) (drop n ls) t
 
@@ -198,34 +195,54 @@ fits_by_pointers at t u count h = record { fixes = λ k. fixes_as_pointers at t 
 
 -- the last so many, as code has them
 abbrev last_of : ℕ → List Layer → List Layer
-last_of count ls = take (length ls - (length ls - count)) (drop (length ls - count) ls)
+last_of count ls = drop (length ls - count) ls
 
-last_is : (count : ℕ) (ls : List Layer) → last_of count ls ≡ drop (length ls - count) ls
-last_is count ls = take_rest ls (length ls - count)
+pub last_is : (count many : ℕ) (ls all last : List Layer) → last ≡ drop (many - count) all → many ≡ length all → all ≡ ls → last ≡ last_of count ls
+last_is count many ls all last d m e = d ∙ ap (λ n. drop (n - count) all) m ∙ ap (λ l. last_of count l) e
 
-pub type_fixes : (at : ℕ) (t u : CType) (first second : List Layer) (count : ℕ) (before middle after : List (Option Fixing)) → first ≡ t.layers.items
-    → second ≡ u.layers.items → count ≡ min (length first) (length second) → middle ≡ fixed_with (base_fits at t u) 0 before
-    → after ≡ fixed_with (pointer_fits at (last_of count first) (last_of count second)) 0 middle
+pub type_fixes : (at : ℕ) (t u : CType) (first second : List Layer) (count : ℕ) (before middle after : List (Option Fixing))
+    → count ≡ min (length t.layers.items) (length u.layers.items) → first ≡ last_of count t.layers.items → second ≡ last_of count u.layers.items
+    → middle ≡ fixed_with (base_fits at t u) 0 before → after ≡ fixed_with (pointer_fits at first second) 0 middle
     → after ≡ fixed_with (fits_of at (static_type t) (Some (static_type u))) 0 before
-type_fixes at t u first second count before middle after p q h m a =
+type_fixes at t u first second count before middle after h p q m a =
     let ls = t.layers.items in
     let ks = u.layers.items in
-    let fits = pointer_fits at (drop (length ls - count) ls) (drop (length ks - count) ks) in
+    let fits = pointer_fits at (last_of count ls) (last_of count ks) in
     a
-    ∙ ap (λ l. fixed_with (pointer_fits at (last_of count l) (last_of count second)) 0 middle) p
-    ∙ ap (λ l. fixed_with (pointer_fits at (last_of count ls) (last_of count l)) 0 middle) q
-    ∙ ap (λ l. fixed_with (pointer_fits at l (last_of count ks)) 0 middle) (last_is count ls)
-    ∙ ap (λ l. fixed_with (pointer_fits at (drop (length ls - count) ls) l) 0 middle) (last_is count ks)
+    ∙ ap (λ l. fixed_with (pointer_fits at l second) 0 middle) p
+    ∙ ap (λ l. fixed_with (pointer_fits at (last_of count ls) l) 0 middle) q
     ∙ ap (fixed_with fits 0) m
     ∙ with_both (base_fits at t u) fits 0 before
-    ∙ with_alike (base_fits at t u ++ fits) (fits_of at (static_type t) (Some (static_type u))) 0 before
-    (fits_by_pointers at t u count (h ∙ ap (λ l. min (length l) (length second)) p ∙ ap (λ l. min (length ls) (length l)) q))
+    ∙ with_alike (base_fits at t u ++ fits) (fits_of at (static_type t) (Some (static_type u))) 0 before (fits_by_pointers at t u count h)
 
 -- ---- lists of them
 
 pub no_pointer_fits : (at : ℕ) (ls : List Layer) → pointer_fits at ls [] ≡ []
 no_pointer_fits at [] = refl
 no_pointer_fits at (l ∷ ls) = refl
+
+no_place_fits : (at : ℕ) (o : Option Layer) → place_fits at o None ≡ []
+no_place_fits at None = refl
+no_place_fits at (Some l) = refl
+
+places_from : (at i : ℕ) (ls ks : List Layer)
+    → pointer_fits at (drop i ls) (drop i ks) ≡ place_fits at (slice_get ls i) (slice_get ks i) ++ pointer_fits at (drop (suc i) ls) (drop (suc i) ks)
+places_from at zero [] ks = refl
+places_from at zero (l ∷ ls) [] = sym (no_pointer_fits at ls)
+places_from at zero (l ∷ ls) (k ∷ ks) = refl
+places_from at (suc i) [] ks = refl
+places_from at (suc i) (l ∷ ls) [] =
+    no_pointer_fits at (drop i ls)
+    ∙ sym (no_pointer_fits at (drop (suc i) ls))
+    ∙ ap (λ fs. fs ++ pointer_fits at (drop (suc i) ls) []) (sym (no_place_fits at (slice_get ls i)))
+places_from at (suc i) (l ∷ ls) (k ∷ ks) = places_from at i ls ks
+
+-- what stands at one place of both, and then the rest of them
+pub next_places : (at i : ℕ) (ls ks : List Layer)
+    → pointer_fits at (drop i ls) (drop i ks) ≡ place_fits at (slice_get ls i) (slice_get ks i) ++ pointer_fits at (drop (i + 1) ls) (drop (i + 1) ks)
+next_places at i ls ks =
+    let next : suc i ≡ i + 1 = omega arith in
+    places_from at i ls ks ∙ ap (λ n. place_fits at (slice_get ls i) (slice_get ks i) ++ pointer_fits at (drop n ls) (drop n ks)) next
 
 pub no_fits : (ps : List (Option CType)) → fits_all ps [] ≡ []
 no_fits [] = refl

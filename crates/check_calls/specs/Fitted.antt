@@ -23,6 +23,11 @@ layer_fits at (pointer.Thin n r) k = fit at (region_of r) (found_in k) ∷ []
 layer_fits at (pointer.Fat r) k = fit at (region_of r) (found_in k) ∷ []
 layer_fits at (pointer.Unique n) k = []
 
+-- what stands at a place of both, if there is something
+abbrev pub place_fits : ℕ → Option Layer → Option Layer → List Fit
+place_fits at (Some l) (Some k) = layer_fits at l k
+place_fits at l k = []
+
 -- from the innermost one on
 abbrev pub pointer_fits : ℕ → List Layer → List Layer → List Fit
 pointer_fits at (l ∷ ls) (k ∷ ks) = layer_fits at l k ++ pointer_fits at ls ks

@@ -4,18 +4,19 @@ ghost use Rattle.std.specs.List.{list_all};
 ghost use Rattle.std.specs.Prelude.{◌≡◌, [], ◌∷◌, IfOk, None, Some, is_some, option_map, replicate};
 ghost use Rattle.cyc_types.specs.Bases.{base_type};
 ghost use Rattle.cyc_types.specs.Regions.{region_of, regions_of};
+ghost use Rattle.cyc_types.specs.Shared.{listed};
 ghost use Rattle.cyc_types.specs.Types.{static_type};
 ghost use Rattle.source_typing.specs.Faults.{earliest};
 ghost use Rattle.source_typing.specs.Fixing.{fit, fit_all, fits_of};
 ghost use Rattle.check_faults.specs.Faults.{faults_of};
-ghost use Rattle.check_calls.specs.Fitted.{base_fits, fits_all, found_in, layer_fits, parameter_fits, pointer_fits};
+ghost use Rattle.check_calls.specs.Fitted.{base_fits, fits_all, found_in, layer_fits, parameter_fits, place_fits, pointer_fits};
 ghost use Rattle.check_calls.specs.Enclosings.{enclosing_of};
 ghost use Rattle.check_calls.specs.Fixings.{fixed_with, fixing_faults, fixing_of, fixings_of, found_of, last_fixing, noted, regions_by, settled};
 
 use crate::enclosing::Enclosing;
 use check_faults::{Fault, FaultKind, sooner};
 use check_operators::Value;
-use cyc_types::{BaseType, CType, Layer, RegionId};
+use cyc_types::{BaseType, CType, Layer, PointerList, RegionId};
 use std::alloc::{AllocError, Global};
 
 /// What a region variable is instantiated to.
@@ -79,13 +80,36 @@ fn note_pointer(fixings: &mut Vec<Option<Fixing>>, mine: Layer, theirs: Layer, a
     }
 }
 
+/// The same at a place where both types may have a pointer. If one has none there, nothing is instantiated.
+#[tactic(auto, using(crate::proofs::Fixes::with_nothing))]
+fn note_place(
+    fixings: &mut Vec<Option<Fixing>>,
+    mine: Option<Layer>,
+    theirs: Option<Layer>,
+    at: u32,
+)
+    ensures { fixings_of fixings.new.items ≡ fixed_with (place_fits at mine theirs) 0 (fixings_of fixings.old.items) }
+{
+    match (mine, theirs) {
+        (Some(mine), Some(theirs)) => note_pointer(fixings, mine, theirs, at),
+        _ => {}
+    }
+}
+
 /// Instantiates the variables of the pointers in a parameter's type, from the innermost one on.
-fn note_pointers(fixings: &mut Vec<Option<Fixing>>, mine: &[Layer], theirs: &[Layer], at: u32)
-    ensures { fixings_of fixings.new.items ≡ fixed_with (pointer_fits at mine.now theirs.now) 0 (fixings_of fixings.old.items) }
+fn note_pointers(
+    fixings: &mut Vec<Option<Fixing>>,
+    mine: PointerList<'_>,
+    theirs: PointerList<'_>,
+    at: u32,
+)
+    ensures { fixings_of fixings.new.items ≡ fixed_with (pointer_fits at (listed mine.entry) (listed theirs.entry)) 0 (fixings_of fixings.old.items) }
 {
     let count = mine.len().min(theirs.len());
     'each: for index in 0..count {
-        note_pointer(fixings, mine[index], theirs[index], at);
+        let here = mine.get(index);
+        let there = theirs.get(index);
+        note_place(fixings, here, there, at);
     }
 }
 
@@ -148,13 +172,13 @@ fn note_type(fixings: &mut Vec<Option<Fixing>>, mine: &CType, theirs: &CType, at
     ensures { fixings_of fixings.new.items ≡ fixed_with (fits_of at (static_type mine.now) (Some (static_type theirs.now))) 0 (fixings_of fixings.old.items) }
 {
     note_bases(fixings, mine, theirs, at);
-    let here = mine.layers.as_slice();
-    let there = theirs.layers.as_slice();
+    let here = mine.layers.pointers();
+    let there = theirs.layers.pointers();
     let count = here.len().min(there.len());
     note_pointers(
         fixings,
-        &here[here.len() - count..],
-        &there[there.len() - count..],
+        here.from(here.len() - count),
+        there.from(there.len() - count),
         at,
     );
 }

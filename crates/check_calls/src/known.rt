@@ -4,6 +4,7 @@ ghost use Rattle.std.specs.Prelude.{◌≡◌, [], ◌∷◌};
 ghost use Rattle.std.specs.List.{list_all};
 ghost use Rattle.cyc_types.specs.Bases.{base_type};
 ghost use Rattle.cyc_types.specs.Regions.{region_of};
+ghost use Rattle.cyc_types.specs.Shared.{listed};
 ghost use Rattle.cyc_types.specs.Types.{static_type};
 ghost use Rattle.source_typing.specs.Fixing.{all_regions, is_known};
 ghost use Rattle.source_typing.specs.Regions.{Level};
@@ -11,7 +12,7 @@ ghost use Rattle.check_calls.specs.Fixings.{fixings_of, which_are_known};
 ghost use Rattle.check_calls.specs.Held.{layer_holds};
 
 use crate::fixing::{Fixed, Fixing};
-use cyc_types::{BaseType, CType, Layer, RegionId};
+use cyc_types::{BaseType, CType, Layer, PointerList, RegionId};
 
 /// Whether it is known what a variable stands for.
 fn is_known_variable(fixings: &[Option<Fixing>], variable: usize) -> bool
@@ -60,11 +61,13 @@ fn is_known_pointer(fixings: &[Option<Fixing>], pointer: Layer) -> bool
 }
 
 /// Whether it is known what the pointers' regions stand for.
-fn are_known_pointers(fixings: &[Option<Fixing>], pointers: &[Layer]) -> bool
-    ensures { result ≡ list_all (layer_holds (is_known (which_are_known (fixings_of fixings.now)))) pointers.now }
+fn are_known_pointers(fixings: &[Option<Fixing>], pointers: PointerList<'_>) -> bool
+    ensures { result ≡ list_all (layer_holds (is_known (which_are_known (fixings_of fixings.now)))) (listed pointers.entry) }
 {
     pointers
+        .inner
         .iter()
+        .chain(pointers.outer.iter())
         .all(|pointer| is_known_pointer(fixings, *pointer))
 }
 
@@ -92,7 +95,7 @@ fn is_known_base(fixings: &[Option<Fixing>], of: &BaseType) -> bool
 pub(crate) fn is_known_type(fixings: &[Option<Fixing>], of: &CType) -> bool
     ensures { result ≡ all_regions (is_known (which_are_known (fixings_of fixings.now))) (static_type of.now) }
 {
-    let pointers = are_known_pointers(fixings, of.layers.as_slice());
+    let pointers = are_known_pointers(fixings, of.layers.pointers());
     let base = is_known_base(fixings, &of.base);
     pointers && base
 }

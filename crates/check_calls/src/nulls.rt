@@ -1,9 +1,7 @@
 // Calls all of whose arguments are `NULL`. None of them instantiates a region variable, so all variables become one region, however many they are.
 
-ghost use Rattle.std.specs.List.{list_all};
 ghost use Rattle.std.specs.Prelude.{◌≡◌, ◌&&◌, IfOk, IfSome, List, [], map, option_map, true};
 ghost use Rattle.cyc_types.specs.Bases.{base_type};
-ghost use Rattle.cyc_types.specs.Pointers.{is_closed};
 ghost use Rattle.cyc_types.specs.Types.{static_type};
 ghost use Rattle.check_operators.specs.Values.{value_of};
 ghost use Rattle.check_scopes.specs.Knows.{Sees};
@@ -24,7 +22,7 @@ use crate::enclosing::Enclosing;
 use check_faults::Verdict;
 use check_operators::Value;
 use check_scopes::{Scope, Signature};
-use cyc_types::{BaseType, CType, Layers, RegionId};
+use cyc_types::{BaseType, CType, RegionId};
 use std::alloc::AllocError;
 
 /// Whether a parameter is a pointer that `NULL` converts to.
@@ -72,13 +70,6 @@ fn is_live_around(scope: &Scope, enclosing: Enclosing) -> bool
     }
 }
 
-/// Whether it is known that no region of some pointers is a variable.
-fn are_closed(layers: &Layers) -> bool
-    ensures { result ≡ true → list_all is_closed layers.now.items ≡ true }
-{
-    layers.is_closed() || layers.is_empty()
-}
-
 /// Whether a type that is no pointer has no regions.
 fn has_no_region(base: &BaseType) -> bool
     ensures { result ≡ true → (rs : List Region) → renamed (argument rs) (base_type base.now) ≡ base_type base.now }
@@ -93,7 +84,7 @@ fn has_no_region(base: &BaseType) -> bool
 fn is_closed(of: &CType) -> bool
     ensures { result ≡ true → (rs : List Region) → renamed (argument rs) (static_type of.now) ≡ static_type of.now }
 {
-    are_closed(&of.layers) && has_no_region(&of.base)
+    of.layers.is_closed() && has_no_region(&of.base)
 }
 
 /// Whether a call of a function of the program has no fault: all its arguments are `NULL`, which its parameters take, what its variables become is

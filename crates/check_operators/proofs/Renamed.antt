@@ -41,16 +41,21 @@ more_renamed f old i all r d h was e =
     ∙ ap (λ rs. map f (regions_of rs)) (sym (take_more old i d h))
 
 -- one more pointer
-pub more_pointers : (f : Region → Region) (old : List Layer) (i : ℕ) (all : List Layer) (l d : Layer) (t : StaticType) → i < length old
-    → pointed (renamed f t) all ≡ renamed f (pointed t (take i old))
+pub more_pointers : (f : Region → Region) (old : List Layer) (i : ℕ) (all : List Layer) (l d : Layer) (t u : StaticType) → i < length old
+    → pointed u all ≡ renamed f (pointed t (take i old))
     → pointer_to l (renamed f (pointed t (take i old))) ≡ renamed f (pointer_to (get_or old i d) (pointed t (take i old)))
-    → pointed (renamed f t) (all ++ l ∷ []) ≡ renamed f (pointed t (take (i + 1) old))
-more_pointers f old i all l d t h was e =
-    pointed_more all (renamed f t) l
+    → pointed u (all ++ l ∷ []) ≡ renamed f (pointed t (take (i + 1) old))
+more_pointers f old i all l d t u h was e =
+    pointed_more all u l
     ∙ ap (pointer_to l) was
     ∙ e
     ∙ ap (renamed f) (sym (pointed_more (take i old) t (get_or old i d)))
     ∙ ap (λ ls. renamed f (pointed t ls)) (sym (take_more old i d h))
+
+-- some pointers, and more that stand on them
+pub pointed_both : (ls ks : List Layer) (t : StaticType) → pointed t (ls ++ ks) ≡ pointed (pointed t ls) ks
+pointed_both [] ks t = refl
+pointed_both (l ∷ ls) ks t = pointed_both ls ks (pointer_to l t)
 
 -- ---- pointers without variables stay as they are
 

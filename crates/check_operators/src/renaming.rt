@@ -1,6 +1,6 @@
 // Types with regions in place of variables: those of a signature, or of the parameters of a struct.
 
-ghost use Rattle.std.specs.Prelude.{◌≡◌, IfOk, map};
+ghost use Rattle.std.specs.Prelude.{◌≡◌, IfOk, OnOk, map};
 ghost use Rattle.cyc_types.specs.Bases.{base_type};
 ghost use Rattle.cyc_types.specs.Layers.{pointed, pointer_to};
 ghost use Rattle.cyc_types.specs.Regions.{region_of, regions_of};
@@ -70,16 +70,30 @@ fn renamed_pointer(regions: &[RegionId], of: Layer) -> Layer
     }
 }
 
+/// The same of the next pointers outwards.
+fn push_renamed(
+    regions: &[RegionId],
+    pointers: &[Layer],
+    all: &mut Layers,
+) -> Result<(), AllocError>
+    ensures { OnOk result ((t u : StaticType) → pointed u all.old.items ≡ renamed (argument (regions_of regions.now)) t
+        → pointed u all.new.items ≡ renamed (argument (regions_of regions.now)) (pointed t pointers.now)) }
+{
+    'each: for pointer in pointers {
+        all.push(renamed_pointer(regions, *pointer))?;
+    }
+    Ok(())
+}
+
 /// The same of pointers.
 fn renamed_pointers(regions: &[RegionId], of: &Layers) -> Result<Layers, AllocError>
     ensures { IfOk result (λ all. (t : StaticType) → pointed (renamed (argument (regions_of regions.now)) t) all.items
         ≡ renamed (argument (regions_of regions.now)) (pointed t of.now.items)) }
 {
     let mut all = Layers::new(of.allocator());
-    let old = of.as_slice();
-    'each: for pointer in old {
-        all.push(renamed_pointer(regions, *pointer))?;
-    }
+    let pointers = of.pointers();
+    push_renamed(regions, pointers.inner, &mut all)?;
+    push_renamed(regions, pointers.outer, &mut all)?;
     Ok(all)
 }
 

@@ -47,6 +47,13 @@ none_taken : (n : ℕ) → take n (let ls : List Layer = [] in ls) ≡ []
 none_taken zero = refl
 none_taken (suc n) = refl
 
+-- the outermost of the first pointers
+pub last_taken : (n : ℕ) (ls : List Layer) → n < length ls → slice_get ls n ≡ outermost (take (suc n) ls)
+last_taken n [] h = absurd (omega (arith, h))
+last_taken zero (l ∷ ls) h = refl
+last_taken (suc n) (l ∷ []) h = absurd (omega (arith, h))
+last_taken (suc n) (l ∷ k ∷ ks) h = last_taken n (k ∷ ks) (omega (arith, h))
+
 -- all but so many of all but the last
 taken_less : (m : ℕ) (k : Layer) (ks : List Layer) → take (length (take (length ks) (k ∷ ks)) - m) (take (length ks) (k ∷ ks))
     ≡ take (length (k ∷ ks) - suc m) (k ∷ ks)

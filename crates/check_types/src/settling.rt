@@ -4,6 +4,7 @@ ghost use Rattle.std.specs.Prelude.{◌≡◌, ◌-◌, IfOk, Some, length, opti
 ghost use Rattle.source_typing.specs.Missing.{outer_region, settled};
 ghost use Rattle.source_typing.specs.Types.{StaticType};
 ghost use Rattle.cyc_types.specs.Layers.{outermost, pointed};
+ghost use Rattle.cyc_types.specs.Shared.{listed};
 ghost use Rattle.cyc_types.specs.Types.{static_type};
 ghost use Rattle.check_faults.specs.Verdicts.{short_of, shortened};
 ghost use Rattle.check_types.specs.Settling.{all_from, outer_found, reached};
@@ -12,7 +13,7 @@ ghost use Rattle.check_types.specs.Written.{partial_type};
 use crate::base::WrittenBase;
 use crate::layer::WrittenLayer;
 use check_faults::{Fault, FaultKind, Verdict};
-use cyc_types::{CType, Layer, Layers};
+use cyc_types::{CType, Layer, Layers, PointerList};
 use smallvec::SmallVec;
 use std::alloc::{AllocError, Global};
 
@@ -26,19 +27,15 @@ pub struct WrittenType<'p> {
     pub layers: WrittenLayers,
 }
 
-/// The outermost of some pointers.
-#[tactic(auto, using(cyc_types::proofs::Outermost::last_is))]
-fn outer_of(layers: &[Layer]) -> Option<Layer>
-    ensures { result ≡ outermost layers.now }
+/// The outermost of all pointers but the `depth` outermost ones.
+fn outer_of(layers: PointerList<'_>, depth: usize) -> Option<Layer>
+    ensures { result ≡ outermost (take (length (listed layers.entry) - depth) (listed layers.entry)) }
 {
-    layers.last().copied()
-}
-
-/// All pointers but the `depth` outermost ones.
-fn inside(layers: &[Layer], depth: usize) -> &[Layer]
-    ensures { result.now ≡ take (length layers.now - depth) layers.now }
-{
-    &layers[..layers.len().saturating_sub(depth)]
+    let count = layers.len();
+    if count <= depth {
+        return None;
+    }
+    layers.get(count - depth - 1)
 }
 
 /// The outermost pointer of the type that is reached through `depth` pointers.
@@ -46,7 +43,7 @@ fn outer_at(source: Option<&CType<'_>>, depth: usize) -> Option<Layer>
     ensures { outer_found result ≡ outer_region (reached depth (option_map (λ s. static_type s.now) source.entry)) }
 {
     match source {
-        Some(of) => outer_of(inside(of.layers.as_slice(), depth)),
+        Some(of) => outer_of(of.layers.pointers(), depth),
         None => None,
     }
 }

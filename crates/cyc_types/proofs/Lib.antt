@@ -20,4 +20,5 @@ mod Spread
 mod StillMeasured
 mod StructBytes
 mod StructCells
+pub mod TwoParts
 pub mod WrittenTags

@@ -1,9 +1,9 @@
--- A pointer again and again, in code.
+-- A pointer again and again, or into one region after the other, in code.
 use Rattle.std.specs.Prelude.{List}
 use Rattle.cyc_types.specs.Pointers.{BeginsWith}
 use Rattle.cyc_types.specs.declared.layer.Layer.{Layer}
-use Rattle.cyc_types.specs.declared.layers.Run.{Run}
+use Rattle.cyc_types.specs.declared.run.Run.{Run}
 
 -- pointers begin with it
 abbrev pub IsRun : List Layer → Run → Type 0
-IsRun ls r = BeginsWith r.count r.pointer ls
+IsRun ls r = BeginsWith r.steps r.count r.pointer ls

@@ -1,17 +1,20 @@
 // Types of the language.
 
-ghost use Rattle.std.specs.Prelude.{◌≡◌, IfOk, drop, fold, zip};
+ghost use Rattle.std.specs.Prelude.{◌≡◌, IfOk, fold, zip};
 ghost use Rattle.source_typing.specs.Types.{compare, is_same};
 ghost use Rattle.cyc_types.specs.Types.{static_type};
 ghost use Rattle.cyc_types.specs.Likeness.{likeness_of};
 ghost use Rattle.cyc_types.specs.Layers.{next_alike, outermost, pointed};
 ghost use Rattle.cyc_types.specs.Runs.{IsRun};
+ghost use Rattle.cyc_types.specs.Shared.{listed};
 ghost use Rattle.cyc_types.specs.Bases.{base_type};
 
 use crate::base::BaseType;
 use crate::layer::Layer;
-use crate::layers::{Layers, Run};
+use crate::layers::Layers;
 use crate::likeness::Likeness;
+use crate::pointer_list::PointerList;
+use crate::run::Run;
 use std::alloc::AllocError;
 
 /// A type: a base, and the pointers to it from the base outwards.
@@ -31,44 +34,34 @@ impl Drop for CType<'_> {
 }
 
 /// How alike two types are under pointers, by how alike they are themselves.
-fn alike_under(mine: &[Layer], theirs: &[Layer], inner: Likeness) -> Likeness
-    ensures { result ≡ fold next_alike inner (zip mine.now theirs.now) }
+fn alike_under(mine: PointerList<'_>, theirs: PointerList<'_>, inner: Likeness) -> Likeness
+    ensures { result ≡ fold next_alike inner (zip (listed mine.entry) (listed theirs.entry)) }
 {
-    mine.iter()
-        .zip(theirs.iter())
+    let mine = mine.inner.iter().chain(mine.outer.iter());
+    let theirs = theirs.inner.iter().chain(theirs.outer.iter());
+    mine.zip(theirs)
         .fold(inner, |alike, (here, there)| here.compare(*there, alike))
 }
 
 /// The pointers of a type, or all of them but the outermost, with what they begin with.
 #[derive(Clone, Copy)]
 pub(crate) struct Pointed<'a> {
-    pub layers: &'a [Layer],
+    pub layers: PointerList<'a>,
     pub run: Run,
-}
-
-/// Some pointers without so many of the first.
-fn behind(layers: &[Layer], count: usize) -> &[Layer]
-    ensures { result.now ≡ drop count layers.now }
-{
-    &layers[count.min(layers.len())..]
 }
 
 /// The same, where the pointers begin with these runs. As many pointers as both have in them are compared at once.
 fn alike_in_runs(mine: Pointed<'_>, theirs: Pointed<'_>, inner: Likeness) -> Likeness
-    requires mine { IsRun mine.layers.now mine.run }
-    requires theirs { IsRun theirs.layers.now theirs.run }
-    ensures { result ≡ fold next_alike inner (zip mine.entry.layers.now theirs.entry.layers.now) }
+    requires mine { IsRun (listed mine.layers) mine.run }
+    requires theirs { IsRun (listed theirs.layers) theirs.run }
+    ensures { result ≡ fold next_alike inner (zip (listed mine.entry.layers) (listed theirs.entry.layers)) }
 {
-    let count = mine.run.count.min(theirs.run.count);
+    let count = mine.run.common(theirs.run);
     if count == 0 {
         return alike_under(mine.layers, theirs.layers, inner);
     }
     let first = mine.run.pointer.compare(theirs.run.pointer, inner);
-    alike_under(
-        behind(mine.layers, count),
-        behind(theirs.layers, count),
-        first,
-    )
+    alike_under(mine.layers.from(count), theirs.layers.from(count), first)
 }
 
 /// How alike two types are, each a base under pointers.
@@ -78,9 +71,10 @@ pub(crate) fn alike(
     theirs: &BaseType,
     others: Pointed<'_>,
 ) -> Likeness
-    requires pointers { IsRun pointers.layers.now pointers.run }
-    requires others { IsRun others.layers.now others.run }
-    ensures { result ≡ likeness_of (compare (pointed (base_type mine.now) pointers.entry.layers.now) (pointed (base_type theirs.now) others.entry.layers.now)) }
+    requires pointers { IsRun (listed pointers.layers) pointers.run }
+    requires others { IsRun (listed others.layers) others.run }
+    ensures { result ≡ likeness_of (compare (pointed (base_type mine.now) (listed pointers.entry.layers))
+        (pointed (base_type theirs.now) (listed others.entry.layers))) }
 {
     if pointers.layers.len() != others.layers.len() {
         return Likeness::Different;
@@ -123,6 +117,7 @@ impl<'p> CType<'p> {
     pub fn outer(&self) -> Option<Layer>
         ensures { result ≡ outermost self.now.layers.items }
     {
-        self.layers.as_slice().last().copied()
+        let last = self.layers.len().saturating_sub(1);
+        self.layers.pointers().get(last)
     }
 }

@@ -1,8 +1,8 @@
 // Pointers, without what they lead to.
 
-ghost use Rattle.std.specs.Prelude.{◌≡◌, true};
+ghost use Rattle.std.specs.Prelude.{◌≡◌, IfSome, true};
 ghost use Rattle.cyc_types.specs.Layers.{has_enough, layers_alike, layer_copies, layer_begins};
-ghost use Rattle.cyc_types.specs.Pointers.{is_closed};
+ghost use Rattle.cyc_types.specs.Pointers.{is_closed, next_pointer};
 ghost use Rattle.cyc_types.specs.Measures.{extent_of, layer_extent};
 
 use crate::extent::Extent;
@@ -71,6 +71,17 @@ impl Layer {
             (Layer::Fat(here), Layer::Fat(there)) => here.is_same(there),
             (Layer::Unique(mine), Layer::Unique(theirs)) => mine == theirs,
             _ => false,
+        }
+    }
+
+    /// The same pointer into the next region. None: there is no such region.
+    pub(crate) fn next(self) -> Option<Layer>
+        ensures { IfSome result (λ l. l ≡ next_pointer self) }
+    {
+        match self {
+            Layer::Thin(bound, region) => Some(Layer::Thin(bound, region.next()?)),
+            Layer::Fat(region) => Some(Layer::Fat(region.next()?)),
+            Layer::Unique(may_be_null) => Some(Layer::Unique(may_be_null)),
         }
     }
 

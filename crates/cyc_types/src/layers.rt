@@ -1,12 +1,15 @@
 // The pointers of a type: its own, or those that types share.
 
-ghost use Rattle.std.specs.Prelude.{◌≡◌, ◌<◌, ◌++◌, ◌∷◌, ◌-◌, ◌==◌, [], IfOk, List, OnOk, Some, length, take, true};
+ghost use Rattle.std.specs.Prelude.{◌≡◌, ◌++◌, ◌∷◌, ◌-◌, ◌==◌, [], IfOk, OnOk, length, take, true};
 ghost use Rattle.std.specs.List.{list_all};
-ghost use Rattle.cyc_types.specs.Pointers.{BeginsWith, is_closed};
+ghost use Rattle.cyc_types.specs.Pointers.{is_closed};
 ghost use Rattle.cyc_types.specs.Runs.{IsRun};
+ghost use Rattle.cyc_types.specs.Shared.{listed};
 
 use crate::ctype::Pointed;
 use crate::layer::Layer;
+use crate::pointer_list::PointerList;
+use crate::run::{Run, run_of};
 use smallvec::SmallVec;
 use std::alloc::{AllocError, Global};
 use std::marker::Model;
@@ -38,8 +41,8 @@ impl Model for Layers {
 enum Held {
     /// In a list of its own.
     Own(SmallVec<Layer, 2>),
-    /// So many of the innermost ones of a list that types share.
-    Shared(Rc<SharedLayers>, usize),
+    /// So many of the innermost ones of a list that types share, and those that stand on them.
+    Shared(Rc<SharedLayers>, usize, SmallVec<Layer, 1>),
 }
 
 /// Pointers that types share, and what is known of them.
@@ -50,62 +53,6 @@ struct SharedLayers {
     run: Run,
     /// That no region of them is a variable. If it's false, one may be.
     is_closed: bool,
-}
-
-/// A pointer again and again, from the base on.
-#[derive(Clone, Copy)]
-pub(crate) struct Run {
-    pub pointer: Layer,
-    pub count: usize,
-}
-
-impl Run {
-    /// No pointer.
-    fn none() -> Run
-        ensures { result.count ≡ 0 }
-    {
-        Run {
-            pointer: Layer::default(),
-            count: 0,
-        }
-    }
-
-    /// What the innermost so many begin with, of pointers that begin with it.
-    fn at_most(self, count: usize) -> Run
-        ensures { (ls : List Layer) → IsRun ls self → IsRun (take count ls) result }
-    {
-        Run {
-            pointer: self.pointer,
-            count: self.count.min(count),
-        }
-    }
-}
-
-/// How many of some pointers, from the first on, are this one.
-fn count_same(first: Layer, layers: &[Layer]) -> usize
-    ensures { BeginsWith result first layers.now }
-{
-    let mut count = 0;
-    'each: for layer in layers {
-        if !first.is(*layer) {
-            return count;
-        }
-        count += 1;
-    }
-    count
-}
-
-/// What some pointers begin with.
-fn run_of(layers: &[Layer]) -> Run
-    ensures { IsRun layers.now result }
-{
-    match layers.first() {
-        Some(first) => Run {
-            pointer: *first,
-            count: count_same(*first, layers),
-        },
-        None => Run::none(),
-    }
 }
 
 /// Whether no region of some pointers is a variable.
@@ -133,12 +80,18 @@ impl Layers {
     }
 
     /// The pointers.
-    pub fn as_slice(&self) -> &[Layer]
-        ensures { result.now ≡ self.now.items }
+    pub fn pointers(&self) -> PointerList<'_>
+        ensures { listed result ≡ self.now.items }
     {
         match &self.held {
-            Held::Own(own) => own.as_slice(),
-            Held::Shared(all, count) => innermost(all.all.as_slice(), *count),
+            Held::Own(own) => PointerList {
+                inner: own.as_slice(),
+                outer: &[],
+            },
+            Held::Shared(all, count, outer) => PointerList {
+                inner: innermost(all.all.as_slice(), *count),
+                outer: outer.as_slice(),
+            },
         }
     }
 
@@ -146,7 +99,7 @@ impl Layers {
     pub fn len(&self) -> usize
         ensures value { result ≡ length self.now.items }
     {
-        self.as_slice().len()
+        self.pointers().len()
     }
 
     /// Whether there are none.
@@ -160,7 +113,7 @@ impl Layers {
     pub fn allocator(&self) -> Global {
         match &self.held {
             Held::Own(own) => *own.allocator(),
-            Held::Shared(all, _) => *all.all.allocator(),
+            Held::Shared(_, _, outer) => *outer.allocator(),
         }
     }
 
@@ -170,29 +123,29 @@ impl Layers {
     {
         match &self.held {
             Held::Own(_) => Run::none(),
-            Held::Shared(all, count) => all.run.at_most(*count),
+            Held::Shared(all, count, _) => all.run.at_most(*count),
         }
     }
 
     /// All of them, and what they begin with.
     pub(crate) fn pointed(&self) -> Pointed<'_>
-        ensures layers { result.layers.now ≡ self.now.items }
+        ensures layers { listed result.layers ≡ self.now.items }
         ensures run { IsRun self.now.items result.run }
     {
         Pointed {
-            layers: self.as_slice(),
+            layers: self.pointers(),
             run: self.run(),
         }
     }
 
     /// All of them but the outermost, and what they begin with.
     pub(crate) fn inner_pointed(&self) -> Pointed<'_>
-        ensures layers { result.layers.now ≡ take (length self.now.items - 1) self.now.items }
-        ensures run { IsRun result.layers.now result.run }
+        ensures layers { listed result.layers ≡ take (length self.now.items - 1) self.now.items }
+        ensures run { IsRun (listed result.layers) result.run }
     {
         let count = self.len().saturating_sub(1);
         Pointed {
-            layers: innermost(self.as_slice(), count),
+            layers: self.pointers().up_to(count),
             run: self.run().at_most(count),
         }
     }
@@ -202,8 +155,8 @@ impl Layers {
         ensures { result ≡ true → list_all is_closed self.now.items ≡ true }
     {
         match &self.held {
-            Held::Own(_) => false,
-            Held::Shared(all, _) => all.is_closed,
+            Held::Own(own) => own.len() <= FEW && are_closed(own.as_slice()),
+            Held::Shared(all, _, outer) => all.is_closed && are_closed(outer.as_slice()),
         }
     }
 
@@ -213,7 +166,10 @@ impl Layers {
     {
         let held = match &self.held {
             Held::Own(own) => Held::Own(SmallVec::from_slice(*own.allocator(), own.as_slice())?),
-            Held::Shared(all, count) => Held::Shared(all.clone()?, *count),
+            Held::Shared(all, count, outer) => {
+                let outer = SmallVec::from_slice(*outer.allocator(), outer.as_slice())?;
+                Held::Shared(all.clone()?, *count, outer)
+            }
         };
         Ok(Layers { held })
     }
@@ -222,13 +178,10 @@ impl Layers {
     pub fn push(&mut self, pointer: Layer) -> Result<(), AllocError>
         ensures ok { OnOk result (self.new.items ≡ self.old.items ++ pointer ∷ []) }
     {
-        if let Held::Own(own) = &mut self.held {
-            own.push(pointer)?;
-            return Ok(());
+        match &mut self.held {
+            Held::Own(own) => own.push(pointer)?,
+            Held::Shared(_, _, outer) => outer.push(pointer)?,
         }
-        let mut own = SmallVec::from_slice(self.allocator(), self.as_slice())?;
-        own.push(pointer)?;
-        self.held = Held::Own(own);
         Ok(())
     }
 
@@ -241,7 +194,11 @@ impl Layers {
             Held::Own(own) => {
                 let _outermost = own.pop();
             }
-            Held::Shared(_, count) => *count = rest,
+            Held::Shared(_, count, outer) => {
+                if outer.pop().is_none() {
+                    *count = rest;
+                }
+            }
         }
     }
 
@@ -254,8 +211,8 @@ impl Layers {
         }
         match self.held {
             Held::Own(own) => shared(own),
-            Held::Shared(all, count) => Ok(Layers {
-                held: Held::Shared(all, count),
+            Held::Shared(all, count, outer) => Ok(Layers {
+                held: Held::Shared(all, count, outer),
             }),
         }
     }
@@ -275,6 +232,6 @@ fn shared(all: SmallVec<Layer, 2>) -> Result<Layers, AllocError>
         is_closed,
     };
     Ok(Layers {
-        held: Held::Shared(Rc::new(alloc, list)?, count),
+        held: Held::Shared(Rc::new(alloc, list)?, count, SmallVec::new(alloc)),
     })
 }

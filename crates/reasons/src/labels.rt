@@ -154,7 +154,8 @@ impl<'p> Labels<'p> {
                 self.add(region, Label::Of(parameter.name, parameter.at))?;
             }
         }
-        for layer in of.layers.as_slice() {
+        let pointers = of.layers.pointers();
+        for layer in pointers.inner.iter().chain(pointers.outer.iter()) {
             if let Some(region) = layer_region(*layer) {
                 self.add(region, Label::Within(parameter.name, parameter.at))?;
             }

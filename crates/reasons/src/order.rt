@@ -6,7 +6,7 @@ use crate::words::Words;
 use check_faults::Verdict;
 use check_heads::Head;
 use check_scopes::Scope;
-use cyc_types::{CType, Layer, RegionId};
+use cyc_types::{CType, Layer, PointerList, RegionId};
 use std::alloc::AllocError;
 
 /// Two regions that don't agree: that of what was found, and of what was wanted.
@@ -54,12 +54,11 @@ fn layers_apart(one: Layer, other: Layer) -> Option<Apart> {
 
 /// The regions of two types that have to be the same, and aren't.
 fn inner_apart(found: &CType<'_>, wanted: &CType<'_>) -> Option<Apart> {
-    let mine = found.layers.as_slice();
-    let theirs = wanted.layers.as_slice();
-    let inner = mine.len().saturating_sub(1);
-    for (index, (one, other)) in mine.iter().zip(theirs.iter()).enumerate() {
-        if index < inner {
-            if let Some(apart) = layers_apart(*one, *other) {
+    let mine = found.layers.pointers();
+    let theirs = wanted.layers.pointers();
+    for index in 0..mine.len().saturating_sub(1) {
+        if let (Some(one), Some(other)) = (mine.get(index), theirs.get(index)) {
+            if let Some(apart) = layers_apart(one, other) {
                 return Some(apart);
             }
         }
@@ -202,10 +201,10 @@ fn say_pointers(
     words: &mut Words<'_>,
     labels: &Labels<'_>,
     cure: Cure<'_>,
-    layers: &[Layer],
+    layers: PointerList<'_>,
 ) -> Result<bool, AllocError> {
     let mut is_named = false;
-    for layer in layers {
+    for layer in layers.inner.iter().chain(layers.outer.iter()) {
         if is_named {
             words.say(" ")?;
         }
@@ -230,14 +229,14 @@ fn say_declaration(
     say_base(words, labels, &of.base)?;
     say_arguments(words, labels, cure, base_regions(&of.base))?;
     words.say(" ")?;
-    let is_named = say_pointers(words, labels, cure, of.layers.as_slice())?;
+    let is_named = say_pointers(words, labels, cure, of.layers.pointers())?;
     words.say(if is_named { " " } else { "" })?;
     words.name(name)
 }
 
 /// Whether all regions of a parameter's type are to have one name: it is a pointer to a struct or union with regions.
 fn is_alike(of: &CType<'_>) -> bool {
-    of.layers.as_slice().len() == 1 && !base_regions(&of.base).is_empty()
+    of.layers.len() == 1 && !base_regions(&of.base).is_empty()
 }
 
 /// The parameter that a region is of which has no name, by where it stands.

@@ -130,9 +130,9 @@ pub(crate) fn say_type(
 ) -> Result<(), AllocError> {
     say_base(words, labels, &of.base)?;
     say_arguments(words, labels, base_regions(&of.base))?;
-    let layers = of.layers.as_slice();
-    words.say(if layers.is_empty() { "" } else { " " })?;
-    for layer in layers {
+    words.say(if of.layers.is_empty() { "" } else { " " })?;
+    let layers = of.layers.pointers();
+    for layer in layers.inner.iter().chain(layers.outer.iter()) {
         say_sign(words, *layer)?;
         if let Some(region) = layer_region(*layer) {
             say_region(words, labels, region)?;

@@ -1,16 +1,17 @@
-use Rattle.std.proofs.Common.{take, ap, ◌∙◌}
+use Rattle.std.proofs.Common.{ap, sym, ◌∙◌}
 use Rattle.cyc_types.specs.Layers.{pointed}
 use Rattle.cyc_types.specs.Regions.{regions_of}
 use Rattle.source_typing.specs.Tables.{argument}
 use Rattle.source_typing.specs.Types.{renamed}
-use Rattle.check_operators.proofs.Renamed.{more_pointers}
+use Rattle.check_operators.proofs.Renamed.{pointed_both}
 use Rattle.check_operators.proofs.renaming.renamed_pointers.Goals as goal
 
-pub each-preserved : goal.each-preserved
-each-preserved c t =
+pub returns : goal.returns
+returns c t =
     let f = argument (regions_of c.args.regions.now) in
-    let old = c.as_slice-old.result.now in
-    let i = c.each.pointer-index in
-    ap (pointed (renamed f t)) c.in_ok-push.ensures.ok
-    ∙ more_pointers f old i c.each.all.items c.renamed_pointer.result _ t c.each-test.true (c.each.invariant t)
-    (c.renamed_pointer.ensures (pointed t (take i old)))
+    let inner = c.pointers-pointers.result.inner.now in
+    let outer = c.pointers-pointers.result.outer.now in
+    let first = c.in_ok-push_renamed.ensures t (renamed f t) (ap (pointed (renamed f t)) c.new-all.ensures) in
+    c.in_ok-push_renamed-2.ensures (pointed t inner) (renamed f t) first
+    ∙ ap (renamed f) (sym (pointed_both inner outer t))
+    ∙ ap (λ ls. renamed f (pointed t ls)) c.pointers-pointers.ensures

@@ -10,7 +10,7 @@ use Rattle.check_types.proofs.settling.outer_at.Goals as goal
 pub returns-in-Some : goal.returns-in-Some
 returns-in-Some c =
     let of = c.in-Some.of.now in
-    ap outer_found (c.outer_of.ensures ∙ ap outermost (c.inside.ensures ∙ ap (λ ls. take (length ls - c.args.depth) ls) c.as_slice.ensures))
+    ap outer_found (c.outer_of.ensures ∙ ap (λ ls. outermost (take (length ls - c.args.depth) ls)) c.pointers.ensures)
     ∙ outer_reached c.args.depth of.layers.items of.base
     ∙ ap (λ o. outer_region (reached c.args.depth (option_map (λ s. static_type s.now) o))) (sym c.in-Some.is)
 

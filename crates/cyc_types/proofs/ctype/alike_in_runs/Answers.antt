@@ -1,14 +1,18 @@
-use Rattle.std.proofs.Common.{◌<◌, sym, arith}
-use Rattle.cyc_types.proofs.Runs.{begins_fewer, runs_alike}
+use Rattle.std.proofs.Common.{◌<◌, ◌∙◌, sym, arith}
+use Rattle.cyc_types.specs.Shared.{listed}
+use Rattle.cyc_types.proofs.Runs.{runs_alike}
 use Rattle.cyc_types.proofs.ctype.alike_in_runs.Goals as goal
 
 pub returns : goal.returns
 returns c =
-    let n = c.min-count.result in
+    let n = c.common-count.result in
     let mine = c.args.mine in
     let theirs = c.args.theirs in
     let some : 0 < n = omega (arith, c.if-count-eq0.false) in
-    let first = begins_fewer n mine.run.count mine.run.pointer mine.layers.now (grind (arith, c.min-count.ensures)) c.requires.mine in
-    let second = begins_fewer n theirs.run.count theirs.run.pointer theirs.layers.now (grind (arith, c.min-count.ensures)) c.requires.theirs in
-    rw (c.alike_under-2.ensures, c.compare-first.ensures, c.behind.ensures, c.behind-2.ensures)
-    (sym (runs_alike n mine.run.pointer theirs.run.pointer mine.layers.now theirs.layers.now c.args.inner some first second))
+    let ls = listed mine.layers in
+    let ks = listed theirs.layers in
+    let first = c.common-count.ensures.mine ls c.requires.mine in
+    let second = c.common-count.ensures.theirs ks c.requires.theirs in
+    c.alike_under-2.ensures
+    ∙ (rw (c.compare-first.ensures, c.from.ensures, c.from-2.ensures)
+    (sym (runs_alike mine.run.steps n mine.run.pointer theirs.run.pointer ls ks c.args.inner some first second)))

@@ -36,4 +36,5 @@ mod UnionMembers
 mod Wholes
 mod Within
 mod Near
+mod NoIndices
 mod Writing

@@ -168,7 +168,11 @@ fn order_suffixes(order: &mut Order, suffixes: &[Suffix], first: usize) -> usize
     ensures { let ss = suffixes_of (map suffix_tree suffixes.entry.now) in
         Orders order.old order.new (suffix_order first ss) result (first + indices_in_suffixes ss) }
 {
-    let next = order.behind(first, indices_in_suffixes(suffixes));
+    let count = indices_in_suffixes(suffixes);
+    let next = order.behind(first, count);
+    if count == 0 {
+        return next;
+    }
     let mut behind = next;
     'each: for suffix in suffixes {
         match suffix {

@@ -1,14 +1,29 @@
-use Rattle.std.proofs.Common.{◌≡◌, ◌∙◌, ◌+◌, ◌-◌, ◌^◌, ◌≤◌, ℕ, min, arith, sym, ap, subst, List, ◌∷◌, map, drop}
+use Rattle.std.proofs.Common.{◌≡◌, ◌∙◌, ◌+◌, ◌-◌, ◌^◌, ℕ, min, arith, sym, ap, subst, List, ◌∷◌, ◌++◌, append-nil, map, drop}
 use Rattle.cyc_tree.proofs.PartForms.{arrow_tree, dot_tree, index_tree}
 use Rattle.cyc_tree.specs.Tree as tree
 use Rattle.cyc_tree.specs.View.{OneSuffix, expression_tree, name_tree, suffix_tree, suffixes_of}
 use Rattle.source_lowering.specs.Order.{expression_order, indices_in, indices_in_suffixes, suffix_order}
 use Rattle.lower_checks.specs.Ordering.{AreLeft, IsOrdered}
 use Rattle.lower_checks.specs.declared.order.Order.{Order}
+use Rattle.lower_checks.proofs.NoIndices.{count_none, suffixes_none}
 use Rattle.lower_checks.proofs.Ordered.{count_before, left_behind}
 use Rattle.lower_checks.proofs.Remaining.{left_suffixes}
 use Rattle.lower_checks.proofs.indices.+indexed.Goals as goal
 use Rattle.lower_checks.proofs.indices.+indexed.Goals.{order_suffixes-in-Arrow, order_suffixes-in-Dot, order_suffixes-in-Index}
+
+-- no index is put in order where there is none
+pub order_suffixes-returns-then-count-eq0 : goal.order_suffixes-returns-then-count-eq0
+order_suffixes-returns-then-count-eq0 t c sound =
+    let ss = suffixes_of (map suffix_tree c.args.suffixes.now) in
+    let none = count_none (indices_in_suffixes ss) c.indices_in_suffixes-count.result c.indices_in_suffixes-count.ensures c.if-count-eq0.true in
+    let first = c.args.first in
+    let old = c.args.order.now.numbers.items in
+    let behind = c.behind-next.ensures sound in
+    record {
+      sound = behind.sound;
+      numbers = ap (λ ns. ns.items) behind.numbers ∙ sym (append-nil old) ∙ ap (λ ns. old ++ ns) (sym (suffixes_none first ss none));
+      behind = behind.sum ∙ ap (λ n. first + n) (c.if-count-eq0.true ∙ sym none);
+    }
 
 -- the indices of a subscript have the numbers before those of the suffixes on its left
 pub order_suffixes-each-preserved : goal.order_suffixes-each-preserved

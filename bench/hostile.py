@@ -112,6 +112,7 @@ TEXTS = [
     Text("a deep pointer type, followed 200 times at once",
          lambda n: uncalled(f"int {'*' * (200 + n)}p; " + f"{'*' * 200}p; " * (n // 200 + 1))),
     Text("a deep pointer type, and assignments", lambda n: uncalled(f"int {'*' * n}p; int {'*' * n}q; " + "p=q;" * n)),
+    Text("a deep pointer type of a parameter, and assignments", lambda n: uncalled("p=p;" * n, f"void f(int {'*' * n}p)")),
     Text("a deep type of two pointers in turn, and assignments", lambda n: uncalled(f"int {'@*' * n}p; int {'@*' * n}q; " + "p=q;" * n)),
     Text("a deep pointer type, and addresses", lambda n: uncalled(f"int {'*' * n}p; " + "&p;" * n)),
     Text("a deep pointer type of a member", lambda n: uncalled("struct S s; " + "s.p;" * n, before=f"struct S {{ int {'*' * n}p; }};\n")),

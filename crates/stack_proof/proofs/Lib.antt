@@ -1,0 +1,4 @@
+pub mod Kept
+pub mod Forms
+pub mod Runs
+pub mod Suffices

@@ -10,14 +10,13 @@ use Rattle.core_meaning.specs.Meaning.{core as core_source}
 use Rattle.rv32_machine.specs.State.{Areas, State}
 use Rattle.rv32_machine.specs.Run.{run_steps, from, ending_of}
 use Rattle.rv32_machine.specs.Implements.{Meaning, Implements, AgreesIn, Reaches}
-use Rattle.core_lines.specs.Running.{named, core_meaning, IsNeverStuck}
+use Rattle.core_lines.specs.Running.{named, core_meaning, AreBounded, IsNeverStuck}
 use Rattle.source_lowering.specs.Programs.{program_code}
 use Rattle.source_lowering.specs.Lowerable.{IsLowerable}
 use Rattle.source_lowering.specs.Simulation.{SameEvent, BothVisible, BothCalled, BothReturned, SameEvents, SameOutcome}
 use Rattle.source_lowering.proofs.Programs.{programs_are_the_same}
-use Rattle.compile_proof.specs.Promise.{meaning_of, name_in, names_of, DoesAsSource, AreNamedApart, frame_bound_of}
+use Rattle.compile_proof.specs.Promise.{meaning_of, name_in, names_of, DoesWithin, AreNamedApart}
 use Rattle.selectable_proof.proofs.Selectable.{selectable}
-use Rattle.compile_proof.proofs.Frames.{frames_bounded}
 
 -- ---- one meaning for another
 
@@ -87,11 +86,10 @@ module _ (p : Program) (lowerable : IsLowerable p) (input : List ℕ) (bytes : A
   core_sound : IsNeverStuck (core_meaning (names_of w.functions) (program_code p) input)
   core_sound fuel stuck = sound fuel ((both fuel).ending ∙ stuck)
 
--- Lines of the Core of a program that is taken do what its source does, where no two functions have one name.
-pub does_as_source : (p : Program) → IsLowerable p → AreNamedApart (world_of p).functions → DoesAsSource p
-does_as_source p lowerable named_apart lines are wide each n places s input bytes begins sound =
+-- Lines of the Core of a program that is taken do what its source does, where no two functions have one name, with all bounds that its frames are within.
+pub does_within : (bound : List ℕ → ℕ) (p : Program) → IsLowerable p → AreNamedApart (world_of p).functions
+    → AreBounded (names_of (world_of p).functions) bound (program_code p).functions → DoesWithin bound p
+does_within bound p lowerable named_apart bounded lines are wide each n places s input bytes begins sound =
     let names = names_of (world_of p).functions in
-    let bound = frame_bound_of (world_of p) in
     implements_same bound n s input (core_meaning names (program_code p) input) (meaning_of p input) (core_is_source p lowerable input bytes sound)
-    (are.does (selectable p lowerable) wide each names bound n places s input bytes (frames_bounded p lowerable named_apart) begins
-    (core_sound p lowerable input bytes sound))
+    (are.does (selectable p lowerable) wide each names bound n places s input bytes bounded begins (core_sound p lowerable input bytes sound))

@@ -16,7 +16,7 @@ use Rattle.source_lowering.specs.Lowerable.{IsLowerable}
 use Rattle.source_lowering.specs.Bounds.{frame_bound}
 use Rattle.source_lowering.proofs.bounds.Bounded.{frame_bounded}
 use Rattle.source_lowering.proofs.Programs.{routines_are}
-use Rattle.compile_proof.specs.Promise.{name_in, names_of, AreNamedApart, bound_in, frame_bound_of}
+use Rattle.compile_proof.specs.Promise.{name_in, names_of, AreNamedApart, bound_in, frame_bound_of, core_bound_in, core_bound_of}
 use Rattle.selectable_proof.proofs.Selectable.{code_of}
 use Rattle.type_proof.proofs.invariant.Layouts.{same_text}
 
@@ -56,3 +56,15 @@ frames_bounded p h apart number f is =
     let within = subst (λ (g : Function). core_bound g ≤ frame_bound w c.routine) c.same (frame_bounded w c.routine c.is) in
     let bound = bound_is w number c.routine apart c.there in
     omega (arith, within, bound)
+
+-- and the bounds that their Core gives are those themselves
+pub frames_closely_bounded : (p : Program) → IsLowerable p → AreNamedApart (world_of p).functions
+    → AreBounded (names_of (world_of p).functions) (core_bound_of (world_of p)) (program_code p).functions
+frames_closely_bounded p h apart number f is =
+    let w : World = world_of p in
+    let c = code_of w w.functions number f (routines_are (world_of p) p h.items) is in
+    let bound : core_bound_of w (names_of w.functions number) ≡ core_bound f =
+    ap (λ name. core_bound_of w name) (name_is w.functions number c.routine c.there)
+    ∙ ap (λ (z : Option Routine). core_bound_in w z) (named_one w.functions number c.routine apart c.there)
+    ∙ ap (λ (g : Function). core_bound g) c.same in
+    omega arith

@@ -9,7 +9,7 @@ use Rattle.source_meaning.specs.Programs.{world_of, source}
 use Rattle.rv32_machine.specs.State.{Areas, State}
 use Rattle.rv32_machine.specs.Implements.{Meaning, Implements}
 use Rattle.core_lines.specs.declared.line.Line.{Line}
-use Rattle.core_meaning.specs.Bounds.{core_code}
+use Rattle.core_meaning.specs.Bounds.{core_bound, core_code}
 use Rattle.core_lines.specs.Promise.{AreLinesOf}
 use Rattle.core_lines.specs.Relaxed.{shortened}
 use Rattle.core_lines.specs.Running.{Begins, IsNeverStuck}
@@ -45,19 +45,33 @@ bound_in w (Some f) = frame_bound w f
 abbrev pub frame_bound_of : World → List ℕ → ℕ
 frame_bound_of w name = bound_in w (function_of w.functions name)
 
+-- the same by its Core, which is less
+abbrev pub core_bound_in : World → Option Routine → ℕ
+core_bound_in w None = 0
+core_bound_in w (Some f) = core_bound (lower.function_code w f)
+
+abbrev pub core_bound_of : World → List ℕ → ℕ
+core_bound_of w name = core_bound_in w (function_of w.functions name)
+
 -- ---- the promise
 
 -- A machine that begins with lines of the program's lowered Core, whichever of their conditional jumps are of two words, and with its data does what the source
--- does, on each input of bytes on which the source is never stuck, whatever its store answers.
-abbrev pub DoesAsSource : Program → Type 0
-DoesAsSource p =
+-- does, on each input of bytes on which the source is never stuck, whatever its store answers. `bound` says of each function how many bytes its frame may take.
+abbrev pub DoesWithin : (List ℕ → ℕ) → Program → Type 0
+DoesWithin bound p =
     (lines : List Line) → AreLinesOf (lower.program_code p) lines → (wide : List Bool) → length wide ≡ length lines
     → (n : Areas) (places : ℕ → ℕ) (s : State) (input : List ℕ) → AreBytes input
     → Begins n places (shortened wide lines) (lower.program_code p).data_objects s → IsNeverStuck (meaning_of p input)
-    → Implements (frame_bound_of (world_of p)) n s input (meaning_of p input)
+    → Implements bound n s input (meaning_of p input)
+
+-- with the bounds that the source gives
+abbrev pub DoesAsSource : Program → Type 0
+DoesAsSource p = DoesWithin (frame_bound_of (world_of p)) p
 
 -- What holds of a program that is lowered where no two functions have one name: its lines do what it does, and the bound on their bytes is within that of its
 -- text.
 pub record LowerableDoes (p : Program) : Type 0 where
   pub does : DoesAsSource p
+  -- and so with the bounds that its Core gives
+  pub close : DoesWithin (core_bound_of (world_of p)) p
   pub code : core_code (lower.program_code p) ≤ code_bound (world_of p).functions

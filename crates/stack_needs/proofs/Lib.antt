@@ -1,0 +1,2 @@
+mod Looking
+mod Needs

@@ -1,2 +1,5 @@
+mod Listing
 mod Looking
 mod Needs
+mod Standing
+mod Table

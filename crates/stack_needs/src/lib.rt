@@ -6,4 +6,9 @@
 //! Stands on the bounds of `core_meaning`, on `compile_proof`, which says what they bound, and on `stack_proof`.
 #![tactic(auto)]
 
+mod bodies;
+mod callee;
+mod calls;
+mod expressions;
+mod numbers;
 mod rounds;

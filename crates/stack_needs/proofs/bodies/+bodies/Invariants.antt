@@ -1,0 +1,12 @@
+use Rattle.std.proofs.Common.{map}
+use Rattle.cyc_tree.specs.View.{clause_tree, clauses_of, item_tree, items_of}
+use Rattle.stack_proof.specs.Callees.{clauses_callees, items_callees}
+use Rattle.stack_needs.specs.Listing.{ListsTo}
+use Rattle.stack_needs.proofs.bodies.+bodies.Given as goal
+
+-- those so far and the rest are all
+abbrev pub invariant-list_items-each : goal.invariant-list_items-each
+invariant-list_items-each l = ListsTo (λ is. items_callees (items_of (map item_tree is))) l.initial.callees l.items l.item-index l.callees
+
+abbrev pub invariant-list_clauses-each : goal.invariant-list_clauses-each
+invariant-list_clauses-each l = ListsTo (λ cs. clauses_callees (clauses_of (map clause_tree cs))) l.initial.callees l.clauses l.clause-index l.callees

@@ -1,0 +1,15 @@
+use Rattle.std.proofs.Common.{rules, ◌∙◌, ap, sym}
+use Rattle.std.proofs.lemmas.Map.Text.{hash_map_updates_str}
+use Rattle.std.specs.Cmp.Lexicographic.{bytes_decides}
+use Rattle.std.specs.Prelude.{Some, bytes_eq}
+use Rattle.stack_needs.specs.Numbers.{number_in}
+use Rattle.stack_needs.proofs.Table.{first_added, has_none}
+use Rattle.stack_needs.proofs.numbers.Numbers.add.Goals as goal
+
+pub returns-in_ok-insert : goal.returns-in_ok-insert
+returns-in_ok-insert c =
+    λ other.
+    hash_map_updates_str c.args.name.now c.args.self.now.by_name c.insert.new.self (Some c.args.number) c.in_ok-insert.ensures.updates other
+    ∙ first_added (bytes_eq c.args.name.now other) c.args.number (number_in c.args.self.now other)
+    (λ same. ap (number_in c.args.self.now) (sym ((bytes_decides c.args.name.now other).0 same))
+    ∙ has_none (number_in c.args.self.now c.args.name.now) (search rules))

@@ -1,5 +1,9 @@
 mod Listing
 mod Looking
+mod Main
 mod Needs
+mod Paths
 mod Standing
+mod Suffices
 mod Table
+mod Words

@@ -1,3 +1,4 @@
 pub mod Graph
+pub mod Laws
 pub mod Listing
 pub mod Numbers

@@ -10,5 +10,13 @@ mod bodies;
 mod callee;
 mod calls;
 mod expressions;
+mod frames;
+mod laws;
+mod need;
 mod numbers;
+mod recursion;
 mod rounds;
+
+pub use laws::answered_stack_suffices;
+pub use need::{recursion_of, stack_need};
+pub use recursion::Recursion;

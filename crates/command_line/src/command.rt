@@ -82,6 +82,12 @@ pub enum Command<'a> {
         shows_why: bool,
         shows_where: bool,
     },
+    /// Says how much stack a source's calls need.
+    Stack {
+        input: &'a str,
+        shows_why: bool,
+        shows_all: bool,
+    },
     /// Runs an image, for at most `steps` instructions.
     Exec {
         input: &'a str,
@@ -108,6 +114,7 @@ impl<'a> Command<'a> {
             | Command::Compile { input, .. }
             | Command::Run { input, .. }
             | Command::Eval { input, .. }
+            | Command::Stack { input, .. }
             | Command::Exec { input, .. }
             | Command::Dump { input } => Some(input),
             Command::Explain { .. } => None,

@@ -104,6 +104,13 @@ const ALL: Choice = Choice {
     takes: Takes::Nothing,
 };
 
+/// Whether the need of each function is told.
+const EACH: Choice = Choice {
+    name: "all",
+    help: "Says the frame and the need of each function; of a rejected source one fault of each function and global",
+    takes: Takes::Nothing,
+};
+
 /// Whether it is told where a run by the meaning stopped.
 const STOP: Choice = Choice {
     name: "where",
@@ -141,7 +148,7 @@ pub struct Words {
     pub choices: &'static [Choice],
 }
 
-pub const COMMANDS: [Words; 7] = [
+pub const COMMANDS: [Words; 8] = [
     Words {
         name: "check",
         about: "Says whether a source is accepted",
@@ -165,6 +172,12 @@ pub const COMMANDS: [Words; 7] = [
         about: "Runs a source by its meaning",
         below: SOURCE_FAULTS,
         choices: &[SOURCE, FUEL, ENDING, WHY, STOP],
+    },
+    Words {
+        name: "stack",
+        about: "Says how much stack a source's calls need, or which recursion has no bound (status 1)",
+        below: SOURCE_FAULTS,
+        choices: &[SOURCE, WHY, EACH],
     },
     Words {
         name: "exec",

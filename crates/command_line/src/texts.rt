@@ -4,7 +4,7 @@
 pub const STATUSES_AND_RUNS: &str = "\
 Statuses:
   0  the run ended with 0, or the command succeeded
-  1  the run ended with another status
+  1  the run ended with another status, or there is no bound on the stack
   2  a null pointer or an index out of bounds was raised
   3  the memory for regions, blocks or the stack is exhausted
   4  the steps, or the units of fuel, are used up

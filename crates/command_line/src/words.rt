@@ -129,6 +129,11 @@ fn read<'a>(name: &str, matches: &ArgMatches<'a>) -> Option<Command<'a>> {
             shows_why: matches.get_flag("why"),
             shows_all: matches.get_flag("all"),
         }),
+        "stack" => Some(Command::Stack {
+            input,
+            shows_why: matches.get_flag("why"),
+            shows_all: matches.get_flag("all"),
+        }),
         "dump" => Some(Command::Dump { input }),
         "compile" => compile(input, matches),
         _ => bounded(name, input, matches),

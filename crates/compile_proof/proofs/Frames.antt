@@ -10,13 +10,15 @@ use Rattle.source_meaning.specs.Calls.{function_of}
 use Rattle.source_meaning.specs.Programs.{world_of}
 use Rattle.core_meaning.specs.Core.{Function}
 use Rattle.core_meaning.specs.Bounds.{core_bound}
+use Rattle.core_lines.specs.LocalPlaces.{frame_bytes}
+use Rattle.core_lines.proofs.homes.Locals as homes
 use Rattle.core_lines.specs.Running.{AreBounded}
 use Rattle.source_lowering.specs.Programs.{program_code}
 use Rattle.source_lowering.specs.Lowerable.{IsLowerable}
 use Rattle.source_lowering.specs.Bounds.{frame_bound}
 use Rattle.source_lowering.proofs.bounds.Bounded.{frame_bounded}
 use Rattle.source_lowering.proofs.Programs.{routines_are}
-use Rattle.compile_proof.specs.Promise.{name_in, names_of, AreNamedApart, bound_in, frame_bound_of, core_bound_in, core_bound_of}
+use Rattle.compile_proof.specs.Promise.{name_in, names_of, AreNamedApart, bound_in, frame_bound_of, frame_size_in, frame_size_of}
 use Rattle.selectable_proof.proofs.Selectable.{code_of}
 use Rattle.type_proof.proofs.invariant.Layouts.{same_text}
 
@@ -55,16 +57,17 @@ frames_bounded p h apart number f is =
     let c = code_of w w.functions number f (routines_are (world_of p) p h.items) is in
     let within = subst (λ (g : Function). core_bound g ≤ frame_bound w c.routine) c.same (frame_bounded w c.routine c.is) in
     let bound = bound_is w number c.routine apart c.there in
-    omega (arith, within, bound)
+    let frame = homes.frame_bounded f in
+    omega (arith, within, bound, frame)
 
--- and the bounds that their Core gives are those themselves
+-- and the frames that their code has are bounds themselves
 pub frames_closely_bounded : (p : Program) → IsLowerable p → AreNamedApart (world_of p).functions
-    → AreBounded (names_of (world_of p).functions) (core_bound_of (world_of p)) (program_code p).functions
+    → AreBounded (names_of (world_of p).functions) (frame_size_of (world_of p)) (program_code p).functions
 frames_closely_bounded p h apart number f is =
     let w : World = world_of p in
     let c = code_of w w.functions number f (routines_are (world_of p) p h.items) is in
-    let bound : core_bound_of w (names_of w.functions number) ≡ core_bound f =
-    ap (λ name. core_bound_of w name) (name_is w.functions number c.routine c.there)
-    ∙ ap (λ (z : Option Routine). core_bound_in w z) (named_one w.functions number c.routine apart c.there)
-    ∙ ap (λ (g : Function). core_bound g) c.same in
+    let size : frame_size_of w (names_of w.functions number) ≡ frame_bytes f =
+    ap (λ name. frame_size_of w name) (name_is w.functions number c.routine c.there)
+    ∙ ap (λ (z : Option Routine). frame_size_in w z) (named_one w.functions number c.routine apart c.there)
+    ∙ ap (λ (g : Function). frame_bytes g) c.same in
     omega arith

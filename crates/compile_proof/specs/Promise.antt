@@ -9,10 +9,11 @@ use Rattle.source_meaning.specs.Programs.{world_of, source}
 use Rattle.rv32_machine.specs.State.{Areas, State}
 use Rattle.rv32_machine.specs.Implements.{Meaning, Implements}
 use Rattle.core_lines.specs.declared.line.Line.{Line}
-use Rattle.core_meaning.specs.Bounds.{core_bound, core_code}
+use Rattle.core_meaning.specs.Bounds.{core_code}
 use Rattle.core_lines.specs.Promise.{AreLinesOf}
 use Rattle.core_lines.specs.Relaxed.{shortened}
 use Rattle.core_lines.specs.Running.{Begins, IsNeverStuck}
+use Rattle.core_lines.specs.LocalPlaces.{frame_bytes}
 use Rattle.source_lowering.specs.Programs as lower
 use Rattle.source_lowering.specs.Bounds.{frame_bound, code_bound}
 
@@ -45,13 +46,13 @@ bound_in w (Some f) = frame_bound w f
 abbrev pub frame_bound_of : World → List ℕ → ℕ
 frame_bound_of w name = bound_in w (function_of w.functions name)
 
--- the same by its Core, which is less
-abbrev pub core_bound_in : World → Option Routine → ℕ
-core_bound_in w None = 0
-core_bound_in w (Some f) = core_bound (lower.function_code w f)
+abbrev pub frame_size_in : World → Option Routine → ℕ
+frame_size_in w None = 0
+frame_size_in w (Some f) = frame_bytes (lower.function_code w f)
 
-abbrev pub core_bound_of : World → List ℕ → ℕ
-core_bound_of w name = core_bound_in w (function_of w.functions name)
+-- how many bytes the frame takes that its code has: no more than that bound
+abbrev pub frame_size_of : World → List ℕ → ℕ
+frame_size_of w name = frame_size_in w (function_of w.functions name)
 
 -- ---- the promise
 
@@ -72,6 +73,6 @@ DoesAsSource p = DoesWithin (frame_bound_of (world_of p)) p
 -- text.
 pub record LowerableDoes (p : Program) : Type 0 where
   pub does : DoesAsSource p
-  -- and so with the bounds that its Core gives
-  pub close : DoesWithin (core_bound_of (world_of p)) p
+  -- and so with the frames that its code has
+  pub close : DoesWithin (frame_size_of (world_of p)) p
   pub code : core_code (lower.program_code p) ≤ code_bound (world_of p).functions

@@ -48,7 +48,7 @@ use Rattle.core_lines.specs.Running.{AreBounded, Begins, DoesAsCore, data_offset
 use Rattle.core_lines.proofs.memory.Relations.{World, IsInOrder, Has}
 use Rattle.core_lines.proofs.memory.Access.{behind, first_lines, other_lines}
 use Rattle.core_lines.proofs.frames.Passing.{has_first, has_second}
-use Rattle.core_lines.proofs.homes.Locals.{offsets_lie, end_above, highest_of_above, top_of, frame_even, frame_has_all, frame_bounded}
+use Rattle.core_lines.proofs.homes.Locals.{offsets_lie, end_above, highest_of_above, top_of, frame_even, frame_has_all}
 use Rattle.core_lines.proofs.frames.Bodies.{FunctionDoes}
 use Rattle.core_lines.proofs.memory.Start.{IsStart, program_does}
 
@@ -157,7 +157,7 @@ module _ (p : Program) (wide : ℕ → Bool) (names : ℕ → List ℕ) (bound :
     where
       by : (found : Option Function) → slice_get p.functions number ≡ found → frame_in found ≤ bound (names number)
       by None is = omega arith
-      by (Some f) is = let above = bounded number f is in let frame = frame_bounded f in omega (arith, above, frame)
+      by (Some f) is = bounded number f is
 
   abbrev stub : List Line
   stub = stack_start_code ++ CallTo p.main ∷ Plain (Addi 17 0 (pos 0)) ∷ Plain Ecall ∷ []

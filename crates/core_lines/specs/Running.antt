@@ -5,7 +5,6 @@ use Rattle.cyc_words.specs.Events as source
 use Rattle.step_trees.specs.Trees.{Outcome, Bodies, run}
 use Rattle.core_meaning.specs.Memory.{Region, Frame, Own, Born, Content, Part, Memory}
 use Rattle.core_meaning.specs.Core.{Function, Datum, Program}
-use Rattle.core_meaning.specs.Bounds.{core_bound}
 use Rattle.core_meaning.specs.Steps.{Config, Event, Visible, Called, Returned, Exit, Invocation, LoopTurn, Step, read_event}
 use Rattle.core_meaning.specs.Meaning.{called, turned, datum_parts, core}
 use Rattle.rv32_machine.specs.State.{State, Areas, Runs, code_base, data_base, stack_end}
@@ -15,7 +14,7 @@ use Rattle.arena_laws.specs.Counts.{block_limit}
 use Rattle.core_lines.specs.declared.line.Line.{Line}
 use Rattle.core_lines.specs.Lines.{HasLines, IsPlace}
 use Rattle.core_lines.specs.Lies.{Maps, Shows, read}
-use Rattle.core_lines.specs.Selected.{offsets_from, end_from, datum_locals}
+use Rattle.core_lines.specs.Selected.{offsets_from, end_from, datum_locals, frame_bytes}
 
 -- ---- names
 
@@ -94,12 +93,12 @@ pub record Begins (n : Areas) (places : ℕ → ℕ) (lines : List Line) (ds : L
 abbrev pub IsNeverStuck : Meaning → Type 0
 IsNeverStuck m = (fuel : ℕ) → m.ending fuel ≢ SourceEnding.Stuck
 
--- what each function's frame may take is within a bound on frames by names
+-- each function's frame is within a bound on frames by names
 abbrev pub AreBounded : (ℕ → List ℕ) → (List ℕ → ℕ) → List Function → Type 0
-AreBounded names bound functions = (number : ℕ) (f : Function) → slice_get functions number ≡ Some f → core_bound f ≤ bound (names number)
+AreBounded names bound functions = (number : ℕ) (f : Function) → slice_get functions number ≡ Some f → frame_bytes f ≤ bound (names number)
 
 -- A machine that begins with the lines does what the program does, on each input of bytes on which it is never out of order, whatever its store answers, where
--- its functions have any names, and what their frames may take has a bound by these.
+-- its functions have any names, and their frames are within a bound by these.
 abbrev pub DoesAsCore : Program → List Line → Type 0
 DoesAsCore p lines =
     (names : ℕ → List ℕ) (bound : List ℕ → ℕ) (n : Areas) (places : ℕ → ℕ) (s : State) (input : List ℕ) → AreBytes input

@@ -16,9 +16,29 @@ use std::alloc::Global;
 /// left. `WriteFault` comes in place of any other ending, where a write failed or took no byte; `ReadFault` where a read
 /// failed; `HostMemory` where the host has no memory for what is still to be done. After a failed call neither device is
 /// called again. Output is written when 4,096 bytes are gathered, before each read and at each ending. Each byte that is
-/// taken from the reader was asked for. It is never `Stuck`. `stop` gets where the run stopped, unless the host has no
-/// memory for it.
+/// taken from the reader was asked for. It is never `Stuck`.
 pub fn eval<R: Input, W: Output>(
+    alloc: Global,
+    checked: &Checked,
+    reader: &mut R,
+    writer: &mut W,
+    fuel: u64,
+) -> EvalEnding
+    // what is written is the output of the source's run on the bytes that the reader gave, and the ending is that run's
+    ensures evaluated { IsEvaluated result checked.now fuel
+        (R.remaining reader.old) (R.remaining reader.new) (W.contents writer.old) (W.contents writer.new) }
+    // no checked program does what no rule gives a meaning
+    ensures never_stuck { result ≢ EvalEnding.Stuck }
+    // each device's fault comes where just one call of that device failed, and any other ending where none did
+    ensures reads { R.fault_count reader.new ≡ reads_failed result (R.fault_count reader.old) }
+    ensures writes { W.fault_count writer.new ≡ writes_failed result (W.fault_count writer.old) }
+{
+    let mut stop = None;
+    eval_watched(alloc, checked, reader, writer, fuel, &mut stop)
+}
+
+/// Runs a checked program as `eval` does, and says in `stop` where the run stopped, unless the host has no memory for it.
+pub fn eval_watched<R: Input, W: Output>(
     alloc: Global,
     checked: &Checked,
     reader: &mut R,

@@ -17,7 +17,9 @@ use Rattle.cycc_driver.specs.Texts.{IsAcceptedAs}
 use Rattle.cycc_driver.specs.Refusals.{IsRefusedFor, HasNoImageFor}
 use Rattle.cycc_driver.specs.Outcome.{IsTextImage, IsTextRun}
 use Rattle.cycc_driver.specs.Evaluated.{IsTextEvaluated}
-use Rattle.cycc_answer.specs.Statuses.{status_of, evaluated_status, refused_status, unloaded_status}
+use Rattle.cycc_driver.specs.Stack.{IsTextStack}
+use Rattle.cycc_driver.specs.declared.stack.Stack.{Stack}
+use Rattle.cycc_answer.specs.Statuses.{status_of, evaluated_status, refused_status, stack_status, unloaded_status}
 
 -- ---- sources
 
@@ -65,6 +67,16 @@ pub record HasEvaluated (text : List ℕ) (fuel : ℕ) (reader_old reader_new wr
 abbrev pub IsEval : (text : List ℕ) (fuel : ℕ) (reader_old reader_new writer_old writer_new : Option (List ℕ)) → ℕ → Type 0
 IsEval text fuel reader_old reader_new writer_old writer_new status =
     HasEvaluated text fuel reader_old reader_new writer_old writer_new status ⊎ IsRefused (λ fault. IsRefusedFor fault text) status
+
+-- what is known of an accepted source's stack, and the status says whether it has a bound, or that the writer failed
+pub record HasStack (text : List ℕ) (status : ℕ) : Type 0 where
+  pub stack : Stack
+  pub is : IsTextStack text stack
+  pub shown : (status ≡ stack_status stack.recursion) ⊎ (status ≡ 6)
+
+-- what `stack` says
+abbrev pub IsStack : (text : List ℕ) → ℕ → Type 0
+IsStack text status = HasStack text status ⊎ IsRefused (λ fault. IsRefusedFor fault text) status
 
 -- ---- images
 

@@ -2,6 +2,7 @@
 use Rattle.std.specs.Prelude.{ℕ, ℤ, pos, negsuc, zero, suc, Option, Some, None}
 use Rattle.cycc_driver.specs.declared.fault.CompileFault.{CompileFault}
 use Rattle.cycc_driver.specs.declared.fault.Place.{Place}
+use Rattle.stack_needs.specs.declared.recursion.Recursion.{Recursion}
 use Rattle.cycc_driver.specs.Printed.{fault_place}
 use Rattle.cyc_image.specs.declared.fault.ImageFault.{ImageFault}
 use Rattle.cyc_image.specs.declared.fault.ImageFault.TheVariants as image
@@ -36,6 +37,11 @@ evaluated_status eval.Stuck = 5
 evaluated_status eval.ReadFault = 6
 evaluated_status eval.WriteFault = 6
 evaluated_status eval.HostMemory = 7
+
+-- of a stack: 0 where it has a bound, and 1 where a recursion is reached
+abbrev pub stack_status : Option Recursion → ℕ
+stack_status None = 0
+stack_status (Some recursion) = 1
 
 -- of a source that is refused: 8 where the fault has a place in the source, and 7 where no host memory is left
 abbrev pub place_status : Option Place → ℕ

@@ -12,6 +12,7 @@ use crate::images::{dump, exec};
 use crate::lines::Told;
 use crate::result::Answer;
 use crate::sources::{checked, compiled, interpreted, ran};
+use crate::stacks::told_of_stack;
 use crate::watching::ran_watched;
 use command_line::Command;
 use cyc_words::{Input, Output};
@@ -34,14 +35,15 @@ pub fn longest_file(command: &Command<'_>) -> u64
         Command::Check { .. }
         | Command::Compile { .. }
         | Command::Run { .. }
-        | Command::Eval { .. } => SOURCE_BYTES,
+        | Command::Eval { .. }
+        | Command::Stack { .. } => SOURCE_BYTES,
         Command::Exec { .. } | Command::Dump { .. } => IMAGE_BYTES,
         Command::Explain { .. } => 1,
     }
 }
 
 /// Answers a command on the bytes of its file: what is written, what is said on standard error, the exit status, and the
-/// bytes for OUT with the map. An Err is an allocation that failed, and nothing was printed: status 7.
+/// bytes for OUT with the map. An Err is an allocation that failed: status 7. What a run had written by then stays written.
 pub fn answer<R: Input, W: Output, E: Write>(
     alloc: Global,
     command: &Command<'_>,
@@ -92,6 +94,9 @@ pub fn answer<R: Input, W: Output, E: Write>(
         }
         Command::Eval { fuel, .. } => {
             Ok(Answer::plain(interpreted(alloc, told, fuel, file, reader, writer, faults)?))
+        }
+        Command::Stack { .. } => {
+            Ok(Answer::plain(told_of_stack(alloc, told, file, writer, faults)?))
         }
         Command::Exec { steps, .. } => {
             Ok(Answer::plain(exec(alloc, told, steps, file, reader, writer, faults)?))

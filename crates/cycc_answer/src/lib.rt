@@ -10,6 +10,7 @@ mod images;
 mod lines;
 mod result;
 mod sources;
+mod stacks;
 mod watching;
 mod why;
 

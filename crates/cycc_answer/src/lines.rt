@@ -47,6 +47,11 @@ impl<'a> Told<'a> {
                 shows_why,
                 shows_all,
                 ..
+            }
+            | Command::Stack {
+                shows_why,
+                shows_all,
+                ..
             } => Told {
                 shows_why,
                 shows_all,

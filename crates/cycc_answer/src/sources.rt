@@ -13,7 +13,7 @@ use command_line::Pages;
 use command_line::status::SUCCESS;
 use cyc_image::load;
 use cyc_words::{Input, Output};
-use cycc_driver::{Limits, check, compile, evaluate, execute};
+use cycc_driver::{Limits, check, compile, evaluate_watched, execute};
 use std::alloc::{AllocError, Global};
 use std::io::Write;
 use traces::map;
@@ -124,7 +124,7 @@ pub fn interpreted<R: Input, W: Output, E: Write>(
         (R.fault_count reader.old) (R.fault_count reader.new) (W.fault_count writer.old) (W.fault_count writer.new)) }
 {
     let mut stop = None;
-    match evaluate(alloc, file, reader, writer, fuel, &mut stop) {
+    match evaluate_watched(alloc, file, reader, writer, fuel, &mut stop) {
         Ok(ending) => told_of_evaluation(alloc, told, file, ending, stop.as_ref(), faults),
         Err(fault) => refused_in(alloc, told, file, fault, faults),
     }

@@ -1,5 +1,5 @@
 -- A run between a reader and a writer of a machine that does what a program does.
-use Rattle.std.proofs.Common.{◌≡◌, ℕ, ◌<◌, List, [], ◌∷◌, ◌++◌, Option, Some, None, inl, inr, take, drop, sym, ap, subst, ◌∙◌, append_assoc, append-nil, arith, ⊎_elim}
+use Rattle.std.proofs.Common.{◌≡◌, ℕ, ◌<◌, List, [], ◌∷◌, ◌++◌, Option, Some, None, inl, inr, take, drop, refl, sym, ap, subst, ◌∙◌, append_assoc, append-nil, arith, ⊎_elim}
 use Rattle.std.proofs.lemmas.List.{take-append-drop}
 use Rattle.std.proofs.lemmas.Bool.{cases_lt}
 use Rattle.std.specs.Io.KnownBytes.{Appends}
@@ -13,12 +13,15 @@ use Rattle.arena_laws.specs.Holdings.{Holdings, fresh}
 use Rattle.rv32_machine.specs.Arrays.{Arrays, IsStart, areas_of, state_of, stack_length}
 use Rattle.rv32_machine.specs.State.{State, Areas, Stop, Mode, Runs, Over}
 use Rattle.rv32_machine.specs.Run.{Run, run_steps, from, exhausted_by, ending_in, ending_of}
-use Rattle.rv32_machine.specs.Implements.{IsBeginning, IsRefused, HasNoFrame, active_after, IsCut, AgreesIn}
+use Rattle.rv32_machine.specs.Implements.{Implements, IsBeginning, IsRefused, HasNoFrame, active_after, IsCut, AgreesIn}
+use Rattle.arena_laws.specs.Lawful.{Answer}
 use Rattle.cyc_host.specs.declared.ending.Ending.{Ending}
 use Rattle.cyc_host.specs.declared.ending.Ending.TheVariants as ending
 use Rattle.cyc_host.specs.Hosted.{Written, EndsAs, IsHosted}
-use Rattle.compile_proof.specs.Promise.{meaning_of, frame_bound_of}
-use Rattle.cycc_driver.specs.Outcome.{WantsRoom, WritesBeginning, WritesAll, EndsAsProgram, IsTextImage, IsTextRun}
+use Rattle.compile_proof.specs.Promise.{meaning_of, frame_bound_of, frame_size_of}
+use Rattle.stack_proof.specs.Laws.{FitsStack, HasPages}
+use Rattle.stack_proof.proofs.Suffices.{never_out_of_stack, room_is_pages}
+use Rattle.cycc_driver.specs.Outcome.{WantsRoom, WritesBeginning, WritesAll, WritesToRequest, EndsAsProgram, IsTextImage, IsTextRun}
 use Rattle.exhaustion_proof.specs.Room.{is_refused_after}
 use Rattle.exhaustion_proof.specs.Laws.{NeverExhausted, ExhaustedAt}
 use Rattle.exhaustion_proof.proofs.Exhausted.{exhaustion_is_exact}
@@ -98,6 +101,38 @@ module _ (n : Areas) (program : Program) (input : List ℕ) (r : Run) (fuel : �
   ends ending.WriteFault limit count now agrees at written =
       some (take written.0 (output r.events)) (drop written.0 (output r.events)) agrees (sym (take-append-drop written.0 (output r.events))) written.1
 
+-- ---- with the stack that the calls need
+
+module _ (n : Areas) (program : Program) (s : State) (input : List ℕ) (answers : ℕ → Answer) (count : ℕ) (fits : FitsStack (frame_size_of (world_of program)) program n.stack)
+    (does : Implements (frame_size_of (world_of program)) n s input (meaning_of program input)) where
+  abbrev ran : Run
+  ran = run_steps n count (from s input answers)
+
+  requested_by : (refused : Option Request) → ran.refused ≡ refused → ran.state.mode ≡ Over Stop.Exhausted → (old new : Option (List ℕ))
+      → Appends old new (output ran.events) → WritesToRequest program input old new
+  requested_by (Some q) is over old new written =
+      let at = does.each_run answers count in
+      let meant = source program input at.0 in
+      let agrees : AgreesIn (frame_size_of (world_of program)) n (exhausted_by (Some q)) ran.events meant.events meant.ending =
+      subst (λ (o : Option Request). AgreesIn (frame_size_of (world_of program)) n (exhausted_by o) ran.events meant.events meant.ending) is
+      (subst (λ (m : Mode). AgreesIn (frame_size_of (world_of program)) n (ending_in m ran.refused) ran.events meant.events meant.ending) over at.1) in
+      record {
+        fuel = at.0;
+        shown = ran.events;
+        cut = record { before = agrees.before; next = agrees.next; rest = agrees.rest; split = agrees.split; same = agrees.same; because = (q, agrees.because) };
+        written = written;
+      }
+  requested_by None is over old new written =
+      let none : ending_of ran ≡ MachineEnding.NoStack = ap (λ (m : Mode). ending_in m ran.refused) over ∙ ap exhausted_by is in
+      absurd (never_out_of_stack (frame_size_of (world_of program)) program n s input fits does answers count none)
+
+  pub requested : ran.state.mode ≡ Over Stop.Exhausted → (old new : Option (List ℕ)) → Appends old new (output ran.events) → WritesToRequest program input old new
+  requested = requested_by ran.refused refl
+
+-- pages are as many
+has_pages : (pages n : ℕ) (events : List SourceEvent) → n ≡ pages → HasPages pages events → HasPages n events
+has_pages pages n events same all = subst (λ k. HasPages k events) (sym same) all
+
 -- ---- the whole
 
 -- a run that was stopped at the step limit runs on: it did so many steps, or it is at its start
@@ -162,6 +197,25 @@ text_run text bytes pages stack_pages steps why made arena start blank starts en
           law.0
           (λ fuel. room_as bound pages (stack_length stack_pages) n.pages n.stack (source made.program (h.input ++ more) fuel).events page_count stack_count
           (room fuel))
+          h.answers h.count (same_exact n h.count s h.input h.answers more none h.exact)
+          (ap (λ (x : State). x.mode) (same_state n h.count s h.input h.answers more none) ∙ at.1);
+      requested = λ fits is_exhausted.
+          let near = made.closely arena start small with_its h.input h.bytes in
+          let has : FitsStack (frame_size_of (world_of made.program)) made.program n.stack = subst (λ k. FitsStack (frame_size_of (world_of made.program)) made.program k) (sym stack_count) fits in
+          let at : EndsAs ending.Exhausted n steps h.count (run_steps n h.count r) end =
+          subst (λ (w : Ending). EndsAs w n steps h.count (run_steps n h.count r) end) is_exhausted h.ends in
+          requested n made.program s h.input h.answers h.count has near at.1 writer_old writer_new
+          (subst (λ (w : Ending). Written w writer_old writer_new (output (run_steps n h.count r).events)) is_exhausted h.written);
+      paged = λ fits more bytes none pages_are is_exhausted.
+          let size = frame_size_of (world_of made.program) in
+          let has : FitsStack size made.program n.stack = subst (λ k. FitsStack size made.program k) (sym stack_count) fits in
+          let law = exhaustion_is_exact size n s (h.input ++ more) (meaning_of made.program (h.input ++ more)) is_fresh limit_is
+          (meaning_grows made.program (h.input ++ more)) (made.closely arena start small with_its (h.input ++ more) (bytes_and h.input more h.bytes bytes)) in
+          let at : EndsAs ending.Exhausted n steps h.count (run_steps n h.count r) end =
+          subst (λ (w : Ending). EndsAs w n steps h.count (run_steps n h.count r) end) is_exhausted h.ends in
+          law.0
+          (λ fuel. room_is_pages size made.program n.pages n.stack (h.input ++ more) fuel has
+          (has_pages pages n.pages (source made.program (h.input ++ more) fuel).events page_count (pages_are fuel)))
           h.answers h.count (same_exact n h.count s h.input h.answers more none h.exact)
           (ap (λ (x : State). x.mode) (same_state n h.count s h.input h.answers more none) ∙ at.1);
       short = λ more bytes none fuel before e rest split room refused enough reached within.

@@ -22,7 +22,10 @@ use Rattle.source_lowering.specs.Programs.{program_code}
 use Rattle.source_lowering.specs.Lowerable.{HaveFewMembers}
 use Rattle.accepted_programs.specs.Accepted.{IsAccepted}
 use Rattle.cycc_driver.proofs.Small.{code_small, code_whole, data_small, each_small, memory_small}
-use Rattle.cycc_driver.specs.Outcome.{IsCode, IsImplementedBy, IsTextImage}
+use Rattle.compile_proof.specs.Promise.{DoesWithin, frame_bound_of, frame_size_of}
+use Rattle.source_meaning.specs.Programs.{world_of}
+use Rattle.rv32_layout.specs.Placed.{ArePlaced}
+use Rattle.cycc_driver.specs.Outcome.{IsCode, IsCloselyImplementedBy, IsImplementedBy, IsImplementedWithin, IsTextImage, data_of, placed_lines}
 use Rattle.cycc_driver.specs.Texts.{IsAcceptedAs}
 
 -- What the layers promise of a program: there are lines of its Core, the bytes are instructions, a machine with them has the lines, and the data are its
@@ -93,17 +96,25 @@ module _ (program : Program) (code statics : List ℕ) (parts : Contents) (layer
         unheld = λ number. ap (λ (h : Holdings). h.standing number) starts.held;
       }
 
-  pub implemented : IsAccepted program → HaveFewMembers (unions_of program) → IsImplementedBy program parts
-  implemented accepted few arena start small starts input are_bytes =
+  -- with each bound by which its lines do what it does
+  implemented_within : (bound : List ℕ → ℕ) → DoesWithin bound program → IsAccepted program → HaveFewMembers (unions_of program)
+      → IsImplementedWithin bound program parts
+  implemented_within bound does accepted few arena start small starts input are_bytes =
       let all = accepted_do program accepted few in
-      let does = all.promised in
       let places = layers.has.places in
       let placed = shortened layers.has.wide layers.lines in
       let begun : Begins (areas_of start) places placed (program_code program).data_objects (state_of start) =
       begins_as start places placed (program_code program).data_objects (first_machine arena start small starts) all.plain
       (starts.statics ∙ is_statics ∙ layers.statics_are) layers.has.labels (layers.has.has start (starts.code ∙ is_code)) in
-      does.does layers.lines layers.are layers.has.wide layers.has.each (areas_of start) places (state_of start) input are_bytes begun
+      does layers.lines layers.are layers.has.wide layers.has.each (areas_of start) places (state_of start) input are_bytes begun
       (λ fuel. accepted_are_never_stuck program accepted input fuel)
+
+  pub implemented : IsAccepted program → HaveFewMembers (unions_of program) → IsImplementedBy program parts × IsCloselyImplementedBy program parts
+  implemented accepted few =
+      let promised = (accepted_do program accepted few).promised in (
+        implemented_within (frame_bound_of (world_of program)) promised.does accepted few,
+        implemented_within (frame_size_of (world_of program)) promised.close accepted few,
+      )
 
 -- ---- sizes
 
@@ -129,16 +140,23 @@ image_fits bytes parts (Second laid limit fits) = fits
 -- the image of an accepted text
 pub text_image : (text bytes code statics : List ℕ) (program : Program) (parts : Contents) (pages stack_pages : ℕ) → IsAcceptedAs text program
     → IsImage bytes parts → parts.code ≡ code → parts.statics ≡ statics → parts.entry ≡ 0 → parts.pages ≡ pages → parts.stack_pages ≡ stack_pages
-    → parts.block_limit ≡ second_block_limit
-    → ((p : Contents) → p.code ≡ code → p.statics ≡ statics → p.entry ≡ 0 → p.block_limit ≡ second_block_limit → Fits p → IsImplementedBy program p)
+    → parts.block_limit ≡ second_block_limit → ArePlaced (placed_lines program) code → statics ≡ data_of program
+    → ((p : Contents) → p.code ≡ code → p.statics ≡ statics → p.entry ≡ 0 → p.block_limit ≡ second_block_limit → Fits p
+    → IsImplementedBy program p × IsCloselyImplementedBy program p)
     → IsTextImage text pages stack_pages bytes
-text_image text bytes code statics program parts pages stack_pages accepted image is_code is_statics from_first as_asked stack_as_asked blocks does = record {
-  program = program;
-  accepted = accepted;
-  parts = parts;
-  image = image;
-  as_asked = as_asked;
-  stack_as_asked = stack_as_asked;
-  blocks = blocks;
-  implemented = does parts is_code is_statics from_first blocks (image_fits bytes parts image);
-}
+text_image text bytes code statics program parts pages stack_pages accepted image is_code is_statics from_first as_asked stack_as_asked blocks placed data does =
+    let both = does parts is_code is_statics from_first blocks (image_fits bytes parts image) in
+    record {
+      program = program;
+      accepted = accepted;
+      parts = parts;
+      image = image;
+      as_asked = as_asked;
+      stack_as_asked = stack_as_asked;
+      blocks = blocks;
+      code = subst (λ (bs : List ℕ). ArePlaced (placed_lines program) bs) (sym is_code) placed;
+      statics = is_statics ∙ data;
+      from_first = from_first;
+      implemented = both.0;
+      closely = both.1;
+    }

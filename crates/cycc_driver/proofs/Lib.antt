@@ -9,3 +9,4 @@ pub mod Exhaustions
 pub mod Executions
 pub mod Exactness
 pub mod OneFault
+pub mod OneImage

@@ -4,3 +4,4 @@ pub mod Refused
 pub mod Outcome
 pub mod Evaluated
 pub mod Printed
+pub mod Stack

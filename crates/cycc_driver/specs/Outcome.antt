@@ -6,6 +6,14 @@ use Rattle.cyc_words.specs.Events.{AreBytes, Event, SourceEvent, Visible, ByteRe
 use Rattle.step_trees.specs.Trees.{Outcome}
 use Rattle.cyc_tree.specs.Tree.{Program}
 use Rattle.source_meaning.specs.Programs.{source, world_of}
+use Rattle.source_lowering.specs.Programs.{program_code as core_of}
+use Rattle.core_lines.specs.declared.line.Line.{Line}
+use Rattle.core_lines.specs.Choosing.{far}
+use Rattle.core_lines.specs.Relaxed.{shortened, wide_in}
+use Rattle.core_lines.specs.Running.{data_offsets}
+use Rattle.core_lines.specs.Selected.{program_code as lines_of}
+use Rattle.core_lines.specs.Statics.{data_bytes}
+use Rattle.rv32_layout.specs.Placed.{ArePlaced}
 use Rattle.cyc_image.specs.Format.{Contents, IsImage, code_limit, second_block_limit}
 use Rattle.rv32_machine.specs.Arrays.{Arrays, IsStart, areas_of, state_of, stack_length}
 use Rattle.arena_laws.specs.Holdings.{fresh}
@@ -17,19 +25,37 @@ use Rattle.cyc_host.specs.declared.ending.Ending.{Ending}
 use Rattle.cyc_host.specs.declared.ending.Ending.TheVariants as ending
 use Rattle.cyc_host.specs.Hosted.{IsHosted}
 use Rattle.exhaustion_proof.specs.Room.{HasRoom, is_refused_after}
-use Rattle.compile_proof.specs.Promise.{meaning_of, frame_bound_of}
+use Rattle.stack_proof.specs.Laws.{FitsStack, HasPages}
+use Rattle.compile_proof.specs.Promise.{meaning_of, frame_bound_of, frame_size_of}
 use Rattle.cycc_driver.specs.Texts.{IsAcceptedAs}
 
 -- ---- images
 
 -- A machine that starts with these parts of an image does what the program does, on each input of bytes, over any store that was just made and whatever that
 -- answers. A run that is refused a frame stops before a call with which the bounds on the frames of all active functions are over the stack.
-abbrev pub IsImplementedBy : Program → Contents → Type 0
-IsImplementedBy program parts =
+abbrev pub IsImplementedWithin : (List ℕ → ℕ) → Program → Contents → Type 0
+IsImplementedWithin bound program parts =
     (arena : ℕ → ℕ) (start : Arrays) → ((at : ℕ) → arena at < 256) → IsStart parts (fresh parts.pages) arena start → (input : List ℕ) → AreBytes input
-    → Implements (frame_bound_of (world_of program)) (areas_of start) (state_of start) input (meaning_of program input)
+    → Implements bound (areas_of start) (state_of start) input (meaning_of program input)
 
--- The image of an accepted text, with these pages of the arena and of the stack: it is of version 2, and implements the program that the text spells.
+-- with the bounds that the source gives
+abbrev pub IsImplementedBy : Program → Contents → Type 0
+IsImplementedBy program parts = IsImplementedWithin (frame_bound_of (world_of program)) program parts
+
+-- and with the frames that the code has
+abbrev pub IsCloselyImplementedBy : Program → Contents → Type 0
+IsCloselyImplementedBy program parts = IsImplementedWithin (frame_size_of (world_of program)) program parts
+
+-- the lines of a program's Core, with each conditional jump as short as it can be
+abbrev pub placed_lines : Program → List Line
+placed_lines program = let lines = lines_of far (core_of program) in shortened (wide_in lines) lines
+
+-- the data: the bytes of its globals and strings
+abbrev pub data_of : Program → List ℕ
+data_of program = let objects = (core_of program).data_objects in data_bytes (data_offsets objects) 0 objects
+
+-- The image of an accepted text, with these pages of the arena and of the stack: it is of version 2, its code is the words of the program's lines, its data are
+-- the program's, and it begins with the first line; so it is the only one (`one_image`). It implements the program that the text spells.
 pub record IsTextImage (text : List ℕ) (pages stack_pages : ℕ) (bytes : List ℕ) : Type 0 where
   pub program : Program
   pub accepted : IsAcceptedAs text program
@@ -38,7 +64,11 @@ pub record IsTextImage (text : List ℕ) (pages stack_pages : ℕ) (bytes : List
   pub as_asked : parts.pages ≡ pages
   pub stack_as_asked : parts.stack_pages ≡ stack_pages
   pub blocks : parts.block_limit ≡ second_block_limit
+  pub code : ArePlaced (placed_lines program) parts.code
+  pub statics : parts.statics ≡ data_of program
+  pub from_first : parts.entry ≡ 0
   pub implemented : IsImplementedBy program parts
+  pub closely : IsCloselyImplementedBy program parts
 
 -- what `compile` puts into an image as its code: whole words, some, and no more than the limit
 pub record IsCode (bytes : List ℕ) : Type 0 where
@@ -74,6 +104,17 @@ pub record WritesToCut (n : Areas) (program : Program) (input : List ℕ) (old n
   pub shown : List Event
   pub cut : IsCut shown (source program input fuel).events (WantsRoom program n)
   pub written : Appends old new (output shown)
+
+-- what the program writes up to a request that the store refused was written
+pub record WritesToRequest (program : Program) (input : List ℕ) (old new : Option (List ℕ)) : Type 0 where
+  pub fuel : ℕ
+  pub shown : List Event
+  pub cut : IsCut shown (source program input fuel).events (λ before next. (q : Request) × IsRefused q next)
+  pub written : Appends old new (output shown)
+
+-- the frames of the program's calls fit the stack, as `main` needs it
+abbrev pub HasStack : Program → (stack_pages : ℕ) → Type 0
+HasStack program stack_pages = FitsStack (frame_size_of (world_of program)) program (stack_length stack_pages)
 
 -- The run ends as the program does on the input, with its output; or it was stopped before, after a beginning of it: where it is exhausted, up to the
 -- event that had no room. No run ends at a fault.
@@ -149,6 +190,12 @@ pub record IsTextRun (text : List ℕ) (pages stack_pages steps : ℕ) (why : En
   pub roomy : (more : List ℕ) → AreBytes more
       → (Contains (run_steps (areas_of start) hosted.count (from (state_of start) hosted.input hosted.answers)).events (ByteRead None) → more ≡ [])
       → ((fuel : ℕ) → HasRoom (frames_of image.program) pages (stack_length stack_pages) (source image.program (hosted.input ++ more) fuel).events) → why ≢ ending.Exhausted
+  -- Where the stack has what the program's calls need, an exhausted run was refused a request of the store,
+  pub requested : HasStack image.program stack_pages → why ≡ ending.Exhausted → WritesToRequest image.program hosted.input writer_old writer_new
+  -- and none is exhausted where there are pages for each of the program's events.
+  pub paged : HasStack image.program stack_pages → (more : List ℕ) → AreBytes more
+      → (Contains (run_steps (areas_of start) hosted.count (from (state_of start) hosted.input hosted.answers)).events (ByteRead None) → more ≡ [])
+      → ((fuel : ℕ) → HasPages pages (source image.program (hosted.input ++ more) fuel).events) → why ≢ ending.Exhausted
   -- Where the first event that wants more is a request that the counts of pages refuse, and enough steps were given for it whatever the store answers, the run
   -- is exhausted, when just the output up to that request was written, if no device failed it.
   pub short : (more : List ℕ) → AreBytes more

@@ -13,7 +13,8 @@ ghost use Rattle.source_typing.specs.Answers.{effect_fault};
 ghost use Rattle.cycc_driver.specs.Texts.{IsTextOf, IsAcceptedAs};
 ghost use Rattle.cycc_driver.specs.Refusals.{IsRefusedFor, HasNoImageFor, AreSame, code_bound};
 ghost use Rattle.cycc_driver.specs.Refused.{HasNoCodeFor};
-ghost use Rattle.cycc_driver.specs.Outcome.{IsCode, IsImplementedBy, IsTextImage};
+ghost use Rattle.rv32_layout.specs.Placed.{ArePlaced};
+ghost use Rattle.cycc_driver.specs.Outcome.{IsCode, IsCloselyImplementedBy, IsImplementedBy, IsTextImage, data_of, placed_lines};
 
 use crate::fault::{CompileFault, Place, of_checking, of_flow, of_lexing, of_parsing};
 use accepted_programs::Checked;
@@ -125,6 +126,12 @@ pub fn one_fault()
     ensures compiled { (text : List ℕ) (fault other : CompileFault) → HasNoImageFor fault text → HasNoImageFor other text → AreSame fault other }
 {}
 
+/// A text has one image for these pages.
+pub fn one_image()
+    ensures { (text : List ℕ) (pages stack_pages : ℕ) (bytes others : List ℕ) → IsTextImage text pages stack_pages bytes
+        → IsTextImage text pages stack_pages others → bytes ≡ others }
+{}
+
 /// What an image is made of but for its pages: the code and the bytes of the data.
 #[derive(Drop)]
 struct Placed {
@@ -152,9 +159,12 @@ fn core_of(alloc: Global, checked: Checked) -> Result<Core, CompileFault>
 fn lay_out(alloc: Global, checked: Checked) -> Result<Placed, CompileFault>
     ensures code { IfOk result (λ placed. IsCode placed.code.items) }
     ensures data { IfOk result (λ placed. length placed.data.items ≤ data_limit) }
+    // they are the words of the program's lines, and the bytes of its globals and strings
+    ensures lines { IfOk result (λ placed. ArePlaced (placed_lines checked) placed.code.items) }
+    ensures statics { IfOk result (λ placed. placed.data.items ≡ data_of checked) }
     // an image with this code and these data implements the program
     ensures implemented { IfOk result (λ placed. (parts : Contents) → parts.code ≡ placed.code.items → parts.statics ≡ placed.data.items
-        → parts.entry ≡ 0 → parts.block_limit ≡ second_block_limit → Fits parts → IsImplementedBy checked parts) }
+        → parts.entry ≡ 0 → parts.block_limit ≡ second_block_limit → Fits parts → IsImplementedBy checked parts × IsCloselyImplementedBy checked parts) }
     ensures refused { IfErr result (λ fault. HasNoCodeFor fault checked) }
 {
     let core = core_of(alloc, checked)?;
@@ -193,7 +203,7 @@ pub fn compile(
     requires within { pages ≤ 4096 }
     requires some_stack { 1 ≤ stack_pages }
     requires stack_within { stack_pages ≤ 4096 }
-    // the image implements the program that the text spells
+    // it is the text's one image with these pages, and implements the program that the text spells
     ensures implemented { IfOk result (λ bytes. IsTextImage text.now pages stack_pages bytes.items) }
     // the fault is that of `check`, or the code of an accepted text is too large
     ensures refused { IfErr result (λ fault. HasNoImageFor fault text.now) }

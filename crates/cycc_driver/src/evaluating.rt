@@ -8,16 +8,39 @@ ghost use Rattle.cycc_driver.specs.Evaluated.{IsTextEvaluated};
 
 use crate::compiling::front;
 use crate::fault::CompileFault;
-use core_eval::{EvalEnding, Stop};
-use cyc_meaning::eval;
+use core_eval::Stop;
+use cyc_meaning::{EvalEnding, eval_watched};
 use cyc_words::{Input, Output};
 use std::alloc::Global;
 
 /// Runs a text by the meaning of its source, with `fuel` units: an iteration of a loop takes one, and a call.
 ///
-/// Refuses what `check` refuses, before anything is read or written. Otherwise answers how the run ended, and `stop` gets where, unless the
-/// host has no memory for it.
+/// Refuses what `check` refuses, before anything is read or written. Otherwise answers how the run ended.
 pub fn evaluate<R: Input, W: Output>(
+    alloc: Global,
+    text: &[u8],
+    reader: &mut R,
+    writer: &mut W,
+    fuel: u64,
+) -> Result<EvalEnding, CompileFault>
+    // what is written is the output of a program's run on the bytes that the reader gave, and the ending is that run's
+    ensures run { IfOk result (λ ending. IsTextEvaluated text.now fuel ending
+        (R.remaining reader.old) (R.remaining reader.new) (W.contents writer.old) (W.contents writer.new)) }
+    // no accepted program is ever out of order
+    ensures never_stuck { result ≢ Ok Stuck }
+    // a device's fault comes where just one call of that device failed, and any other ending where none did
+    ensures reads { IfOk result (λ ending. R.fault_count reader.new ≡ reads_failed ending (R.fault_count reader.old)) }
+    ensures writes { IfOk result (λ ending. W.fault_count writer.new ≡ writes_failed ending (W.fault_count writer.old)) }
+    // the fault is that of `check`, and nothing was read or written
+    ensures refused { IfErr result (λ fault. IsRefusedFor fault text.now) }
+    ensures untouched { IfErr result (λ _. (reader.new ≡ reader.old) × (writer.new ≡ writer.old)) }
+{
+    let mut stop = None;
+    evaluate_watched(alloc, text, reader, writer, fuel, &mut stop)
+}
+
+/// Runs a text as `evaluate` does, and says in `stop` where the run stopped, unless the host has no memory for it.
+pub fn evaluate_watched<R: Input, W: Output>(
     alloc: Global,
     text: &[u8],
     reader: &mut R,
@@ -41,5 +64,7 @@ pub fn evaluate<R: Input, W: Output>(
         Ok(checked) => checked,
         Err(fault) => return Err(fault),
     };
-    Ok(eval(alloc, &checked, reader, writer, fuel, stop))
+    Ok(eval_watched(
+        alloc, &checked, reader, writer, fuel, stop,
+    ))
 }

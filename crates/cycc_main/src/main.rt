@@ -7,6 +7,7 @@
 use command_line::status::{FILE_FAULT, MEMORY, SUCCESS, usage_status};
 use command_line::{
     Command, command_of, is_replaceable, is_same_entry, is_same_file, shown, shown_error, words_of,
+    write_whole,
 };
 use cyc_words::Counted;
 use cycc_answer::{longest_file, printed};
@@ -15,7 +16,7 @@ use std::alloc::AllocError;
 use std::fs::File;
 use std::io::Read;
 use std::process::ExitCode;
-use std::{fs, io};
+use std::io;
 
 /// The bytes of a file, at most `most` of them.
 fn bytes_of(rt: &HostRuntime, path: &str, most: u64) -> io::Result<Vec<u8>> {
@@ -71,7 +72,7 @@ impl Written<'_> {
 
     /// Writes it, and answers the status.
     fn put(self, rt: &HostRuntime) -> u8 {
-        match fs::write(rt, self.path, self.bytes) {
+        match write_whole(rt, self.path, self.bytes) {
             Ok(()) => SUCCESS,
             Err(error) => file_fault(rt, "write", self.path, &error),
         }

@@ -4,7 +4,7 @@ ghost use Rattle.std.specs.Prelude.{◌≡◌, ◌<◌, ◌≤◌, Err, IfOk, ve
 ghost use Rattle.cyc_image.specs.Format.{code_limit};
 ghost use Rattle.core_lines.specs.Lines.{code_length, labels_placed, AreOnce};
 ghost use Rattle.core_lines.specs.Relaxed.{shortened, wide_in};
-ghost use Rattle.rv32_layout.specs.Placed.{AreInstructions};
+ghost use Rattle.rv32_layout.specs.Placed.{AreInstructions, ArePlaced};
 ghost use Rattle.rv32_layout.specs.Holding.{IsCodeOf};
 
 use crate::fault::LayoutFault;
@@ -25,6 +25,8 @@ pub struct Code {
 /// become two, round for round, until all reach. An `Err` is `TooLarge` only where the code so placed would be over 1,048,576 bytes, and
 /// else `Memory`.
 pub fn place(alloc: Global, labelled: &Labelled) -> Result<Code, LayoutFault>
+    // the bytes are the words of the lines with short branches, and no others are
+    ensures placed { IfOk result (λ code. ArePlaced (shortened (wide_in labelled.now.lines) labelled.now.lines) code.bytes.items) }
     ensures words { IfOk result (λ code. AreInstructions code.bytes.items) }
     // no more bytes than those of the lines with short branches, and so than their words, where a conditional jump counts as two; none only where these are none
     ensures short { IfOk result (λ code. vec_len code.bytes ≤ code_length (shortened (wide_in labelled.now.lines) labelled.now.lines)) }

@@ -55,7 +55,7 @@ fn framed(most: u64) -> u64
 }
 
 /// The bytes of the frame of a function with this body, at whose start the place is.
-fn frame_bytes(place: &Place, body: &[Statement]) -> Result<u64, AllocError>
+pub(crate) fn frame_bytes(place: &Place, body: &[Statement]) -> Result<u64, AllocError>
     ensures { IfOk result (λ n. n ≡ framed (highest_of place.now.low (shrunk_of (surroundings place.now).names (body_tree body.now)))) }
 {
     let mut named = place.named;
@@ -355,6 +355,8 @@ fn program_lines(alloc: Global, program: &Program) -> Result<Vec<Line>, AllocErr
 
 /// The instructions of a lowered program. Fails only where no host memory is left.
 pub fn select(alloc: Global, program: &Program) -> Result<Labelled, AllocError>
+    // the lines are those of the definition, with no branch alone
+    ensures selected { IfOk result (λ labelled. labelled.lines ≡ program_code far (program_tree program.now)) }
     // no label stands twice in the lines; their words, where a conditional jump counts as two, are some, and are within the bound by the program's operations; and
     // a machine that begins with the lines does what the program does, with frames within the bounds of its functions
     ensures lines { IfOk result (λ labelled. AreLinesOf (program_tree program.now) labelled.lines) }

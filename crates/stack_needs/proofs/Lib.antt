@@ -1,9 +1,10 @@
 mod Listing
 mod Looking
+mod Loops
 mod Main
 mod Needs
 mod Paths
+mod Sizes
 mod Standing
 mod Suffices
 mod Table
-mod Words

@@ -1,8 +1,8 @@
 -- What is known of needs while functions are looked at, one after another.
-use Rattle.std.proofs.Common.{◌≡◌, ◌≢◌, ◌<◌, ◌≤◌, ◌+◌, ◌∙◌, ℕ, zero, suc, Bool, true, false, Option, Some, None, List, [], ◌∷◌, ◌++◌, ◌⊎◌, inl, inr, length, get_or, refl, sym, ap, subst, arith, append_assoc}
+use Rattle.std.proofs.Common.{◌≡◌, ◌≢◌, ◌<◌, ◌≤◌, ◌+◌, ◌∙◌, ℕ, zero, suc, Bool, true, false, Option, Some, None, List, [], ◌∷◌, ◌++◌, ◌⊎◌, inl, inr, length, get_or, reverse, refl, sym, ap, subst, arith, append_assoc}
 use Rattle.std.specs.Prelude.{slice_set, nat_eq, if◌then◌else◌, replicate}
 use Rattle.std.specs.List.{All, Contains}
-use Rattle.std.proofs.lemmas.List.{get_or-set_same, get_or-set_other, length-set, length-append, length-replicate, append-nil}
+use Rattle.std.proofs.lemmas.List.{get_or-set_same, get_or-set_other, length-set, length-append, length-replicate, append-nil, reverse-append, reverse-reverse}
 use Rattle.std.proofs.lemmas.List.Elements.{Contains-append_cases, Contains-append_left, Contains-append_right, Contains-get_or}
 use Rattle.std.proofs.lemmas.Bool.Decides.{Decides-eqb}
 use Rattle.stack_needs.specs.Graph.{FitsAt, LeavesAt, IsNeed, IsAnswer, Found, AreFound, AreLooked, AreStuck, AreNumbers, WaitsFor, WaitsFor, numbers_below, found, known, need_by, with_need, looked_at}
@@ -194,6 +194,38 @@ one_more_round frames calls needs waiting a r is is_last last = record {
       listed = λ k low unknown. subst (λ (xs : List ℕ). Contains xs k) (append-nil waiting) (a.listed k low unknown);
       within = λ k has. a.within k (subst (λ (xs : List ℕ). Contains xs k) (sym (append-nil waiting)) has);
     }
+
+contains_reverse : (xs : List ℕ) (k : ℕ) → Contains xs k → Contains (reverse xs) k
+contains_reverse [] k has = has
+contains_reverse (x ∷ xs) k has = subst (λ (ys : List ℕ). Contains ys k) (sym (reverse-append (x ∷ []) xs)) (elim (cases_of x xs k has) [
+  | inl same ↦ Contains-append_right (reverse xs) (x ∷ []) k (subst (λ (i : ℕ). Contains (x ∷ []) i) same (first_of x []))
+  | inr there ↦ Contains-append_left (reverse xs) (x ∷ []) k (contains_reverse xs k there)
+])
+
+contains_reversed : (xs : List ℕ) (k : ℕ) → Contains (reverse xs) k → Contains xs k
+contains_reversed xs k has = subst (λ (ys : List ℕ). Contains ys k) (reverse-reverse xs) (contains_reverse (reverse xs) k has)
+
+-- the next round goes over them from the end
+pub looked_turned : (frames : List ℕ) (calls : List (List ℕ)) (is_last : Bool) (needs : List (Option ℕ)) (waiting turned : List ℕ)
+    → turned ≡ reverse waiting → AreLooked frames calls is_last needs waiting → AreLooked frames calls is_last needs turned
+looked_turned frames calls is_last needs waiting turned is a =
+    subst (λ (ks : List ℕ). AreLooked frames calls is_last needs ks) (sym is)
+    (record {
+      found_so = record {
+        long = a.found_so.long;
+        right = a.found_so.right;
+        listed = λ k low unknown. back k (contains_reverse waiting k (there k (a.found_so.listed k low unknown)));
+        within = λ k has. a.found_so.within k (subst (λ (ks : List ℕ). Contains ks k) (sym (append-nil waiting))
+            (contains_reversed waiting k (subst (λ (ks : List ℕ). Contains ks k) (append-nil (reverse waiting)) has)));
+      };
+      stuck = λ last k has. a.stuck last k (contains_reversed waiting k has);
+    })
+  where
+    there : (k : ℕ) → Contains (waiting ++ []) k → Contains waiting k
+    there k = λ has. subst (λ (ks : List ℕ). Contains ks k) (append-nil waiting) has
+
+    back : (k : ℕ) → Contains (reverse waiting) k → Contains (reverse waiting ++ []) k
+    back k = λ has. subst (λ (ks : List ℕ). Contains ks k) (sym (append-nil (reverse waiting))) has
 
 -- a round leaves fewer, or is the last
 pub round_is_smaller : (frames : List ℕ) (calls : List (List ℕ)) (needs : List (Option ℕ)) (waiting : List ℕ) (r : Found)

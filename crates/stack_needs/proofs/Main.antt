@@ -12,6 +12,10 @@ pub main_found : (p q : Program) → q ≡ p → (found o : Option ℕ) → foun
     → number_from (functions_of p) 0 (codes "main") ≡ o
 main_found p q same found o number is = sym (ap (λ r. number_from (functions_of r) 0 (codes "main")) same) ∙ sym number ∙ is
 
+pub main_is : (p q : Program) → q ≡ p → (found : Option ℕ) → found ≡ number_from (functions_of q) 0 (codes "main")
+    → found ≡ number_from (functions_of p) 0 (codes "main")
+main_is p q same found number = number ∙ ap (λ r. number_from (functions_of r) 0 (codes "main")) same
+
 pub are_rows : {Z : Type 0} (p q : Program) → q ≡ p → (rows slice : List (Vec ℕ Z)) → slice ≡ rows
     → rows_of rows ≡ calls_among (functions_of q) (functions_of p) → rows_of slice ≡ calls_among (functions_of p) (functions_of p)
 are_rows p q same rows slice is listed = ap (λ rs. rows_of rs) is ∙ listed ∙ ap (λ r. calls_among (functions_of r) (functions_of p)) same

@@ -1,5 +1,5 @@
 -- Needs that are found from those of the functions that are called.
-use Rattle.std.proofs.Common.{◌≡◌, ◌≤◌, ◌+◌, ◌∙◌, ℕ, zero, suc, Option, Some, None, List, [], ◌∷◌, ◌⊎◌, inl, inr, refl, sym, ap, arith}
+use Rattle.std.proofs.Common.{◌≡◌, ◌≤◌, ◌+◌, ◌∙◌, ℕ, zero, suc, Option, Some, None, List, [], ◌∷◌, ◌⊎◌, inl, inr, refl, sym, ap, subst, arith}
 use Rattle.std.specs.Prelude.{max, min, slice_index, option_and_then, option_map}
 use Rattle.std.specs.List.{Contains}
 use Rattle.std.proofs.lemmas.List.Elements.{Contains-append_cases, Contains-append_right}
@@ -87,6 +87,20 @@ module _ (frames : List ℕ) (calls : List (List ℕ)) where
   pub record AreRight (needs : List (Option ℕ)) : Type 0 where
     pub each : (k n : ℕ) → known needs k ≡ Some n → IsNeed frames calls k n
 
+  -- a number that each of these functions fits
+  common : (gs : List ℕ) → ((g : ℕ) → Contains gs g → (m : ℕ) × FitsAt frames calls g m)
+      → (m : ℕ) × ((g : ℕ) → Contains gs g → FitsAt frames calls g m)
+  common [] each = (0, λ g has. absurd (omega (arith, has.1)))
+  common (g ∷ gs) each =
+      let first = each g (first_of g gs) in
+      let rest = common gs (λ h has. each h (later_of g gs h has)) in (
+        max first.0 rest.0,
+        λ h has. elim (cases_of g gs h has) [
+          | inl same ↦ subst (λ (i : ℕ). FitsAt frames calls i (max first.0 rest.0)) same (fits_more first.1 (omega arith))
+          | inr there ↦ fits_more (rest.1 h there) (omega arith)
+        ],
+      )
+
   least_by : (needs : List (Option ℕ)) → AreRight needs → {k m : ℕ} (n : ℕ) → IsGreatest needs (called_by calls k) 0 n → FitsAt frames calls k m
       → slice_index frames k + n ≤ m
   least_by needs right {k = k} n is (LeavesAt others le callees) =
@@ -109,6 +123,9 @@ module _ (frames : List ℕ) (calls : List (List ℕ)) where
             fits = λ few. LeavesAt m (omega arith) (λ g has.
                 let its = top.within.all g has in fits_more ((right.each g its.0 its.1).fits (omega (arith, its.2))) its.2);
             least = λ o fits. let le = least_by needs right m top fits in omega arith;
+            some =
+                let all = common (called_by calls k) (λ g has. let its = top.within.all g has in (right.each g its.0 its.1).some) in
+                (slice_index frames k + all.0, LeavesAt all.0 (omega arith) all.1);
           }
 
   pub none_known : (needs : List (Option ℕ)) (k : ℕ) → need_by frames calls needs k ≡ None

@@ -9,8 +9,8 @@ use Rattle.source_meaning.specs.Programs.{functions_of, world_of}
 use Rattle.source_meaning.specs.Steps.{Routine, World}
 use Rattle.stack_proof.specs.Callees.{items_callees}
 use Rattle.stack_proof.specs.Fits.{Fits, Leaves}
-use Rattle.stack_needs.specs.Graph.{AreNumbers, FitsAt, IsAnswer, IsNeed, LeavesAt, called_by, most_bytes}
-use Rattle.stack_needs.specs.Numbers.{calls_among, frame_at, frame_by, number_from, numbers_among, with_number, IsStackNeed}
+use Rattle.stack_needs.specs.Graph.{AreNumbers, FitsAt, IsAnswer, IsNeed, LeavesAt, called_by, known, most_bytes}
+use Rattle.stack_needs.specs.Numbers.{calls_among, frame_at, frame_by, number_from, numbers_among, with_number, AreNeedsOf, IsNeedOf, IsStackNeed, need_at}
 use Rattle.stack_needs.proofs.Needs.{cases_of, first_of, later_of}
 
 -- ---- names and numbers
@@ -175,8 +175,18 @@ module _ (w : World) (frames : List ℕ) where
         → (n : ℕ) → Fits (frame_by w.functions frames) w g n → ⊥
     none_by_name none g of n fits = none n (fits_at fits found k (record { of = of; number = number }))
 
+-- what is answered of the functions' numbers is that of their names
+pub each_needs : (p : Program) (frames : List ℕ) (needs : List (Option ℕ))
+    → ((k : ℕ) → k < length (functions_of p) → IsAnswer frames (calls_among (functions_of p) (functions_of p)) k (known needs k))
+    → AreNeedsOf (frame_by (functions_of p) frames) p needs
+each_needs p frames needs answers name k number = by (known needs k) (answers k (number_is_below (functions_of p) name k number))
+  where
+    by : (need : Option ℕ) → IsAnswer frames (calls_among (functions_of p) (functions_of p)) k need → IsNeedOf (frame_by (functions_of p) frames) (world_of p) name need
+    by (Some n) need = need_by_name (world_of p) frames name k number n need
+    by None none = none_by_name (world_of p) frames name k number none
+
 -- what is answered of the function of `main`'s number is that of the program
-pub main_needs : (p : Program) (frames : List ℕ) (k : ℕ) → number_from (functions_of p) 0 (codes "main") ≡ Some k → (need : Option ℕ)
+main_needs : (p : Program) (frames : List ℕ) (k : ℕ) → number_from (functions_of p) 0 (codes "main") ≡ Some k → (need : Option ℕ)
     → IsAnswer frames (calls_among (functions_of p) (functions_of p)) k need → IsStackNeed (frame_by (functions_of p) frames) p need
 main_needs p frames k number (Some n) need =
     let main = has_function (functions_of p) 0 (codes "main") k number in
@@ -191,11 +201,19 @@ main_needs p frames k number (Some n) need =
 main_needs p frames k number None none = λ n fits. none_by_name (world_of p) frames (codes "main") k number none fits.main fits.found n fits.fits
 
 -- a program without `main` fits nothing
-pub no_main : (p : Program) (frames : List ℕ) → number_from (functions_of p) 0 (codes "main") ≡ None → IsStackNeed (frame_by (functions_of p) frames) p None
+no_main : (p : Program) (frames : List ℕ) → number_from (functions_of p) 0 (codes "main") ≡ None → IsStackNeed (frame_by (functions_of p) frames) p None
 no_main p frames none n fits =
     let number = has_number (functions_of p) 0 (codes "main") fits.main fits.found in
     let it : number_from (functions_of p) 0 (codes "main") ≡ Some number.0 = number.1 in
     absurd (cc)
+
+-- what is answered of `main`, if there is one
+pub stack_is : (p : Program) (frames : List ℕ) (needs : List (Option ℕ)) (main : Option ℕ) → main ≡ number_from (functions_of p) 0 (codes "main")
+    → ((k : ℕ) → k < length (functions_of p) → IsAnswer frames (calls_among (functions_of p) (functions_of p)) k (known needs k))
+    → IsStackNeed (frame_by (functions_of p) frames) p (need_at main needs)
+stack_is p frames needs None number answers = no_main p frames (sym number)
+stack_is p frames needs (Some k) number answers =
+    main_needs p frames k (sym number) (known needs k) (answers k (number_is_below (functions_of p) (codes "main") k (sym number)))
 
 -- ---- the frames by numbers are those by names
 

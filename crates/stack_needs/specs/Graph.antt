@@ -1,8 +1,6 @@
 -- Functions by their numbers: how many bytes the frame of each may take, and which functions each calls.
 use Rattle.std.specs.Prelude.{◌≡◌, ℕ, zero, suc, Bool, true, false, ◌+◌, ◌-◌, ◌^◌, ◌<◌, ◌≤◌, max, min, Option, Some, None, List, [], ◌∷◌, ◌++◌, Vec, map, length, slice_index, slice_index_or, slice_set, option_and_then, option_map}
 use Rattle.std.specs.List.{Contains}
-use Rattle.core_meaning.specs.Core.{Function}
-use Rattle.core_meaning.specs.Bounds.{core_bound}
 
 -- the numbers of functions, as they stand in code
 abbrev pub rows_of : {Z : Type 0} → List (Vec ℕ Z) → List (List ℕ)
@@ -19,12 +17,13 @@ pub data FitsAt (frames : List ℕ) (calls : List (List ℕ)) : ℕ → ℕ → 
 
 -- the greatest word, which stands for itself and for all that is more
 abbrev pub most_bytes : ℕ
-most_bytes = 2 ^ 32 - 1
+most_bytes = 2 ^ 64 - 1
 
--- so many bytes are enough and no fewer are, or the greatest word are too few
+-- so many bytes are enough and no fewer are, or the greatest word are too few; some number is enough
 pub record IsNeed (frames : List ℕ) (calls : List (List ℕ)) (k n : ℕ) : Type 0 where
   pub fits : n < most_bytes → FitsAt frames calls k n
   pub least : (m : ℕ) → FitsAt frames calls k m → n ≤ m
+  pub some : (m : ℕ) × FitsAt frames calls k m
 
 -- what a function needs, or that it fits nothing
 abbrev pub IsAnswer : (frames : List ℕ) (calls : List (List ℕ)) (k : ℕ) → Option ℕ → Type 0
@@ -89,10 +88,6 @@ pub record AreLooked (frames : List ℕ) (calls : List (List ℕ)) (is_last : Bo
   pub found_so : AreFound frames calls (length calls) (found needs waiting) []
   pub stuck : is_last ≡ true → AreStuck frames calls needs waiting
 
--- the bytes that a function's frame may take by its Core, or the greatest word where they are more
-abbrev pub frame_word : Function → ℕ
-frame_word f = min (core_bound f) most_bytes
-
 -- ---- recursions
 
 -- a function's need isn't known because that of one that it calls isn't
@@ -116,6 +111,11 @@ pub record IsRecursion (calls : List (List ℕ)) (from : ℕ) (path : List ℕ) 
   pub first : Contains path from
   pub calls_next : ArePath calls (path ++ again ∷ [])
   pub closes : Contains path again
+
+-- from one function a path of one call or more leads to another
+pub data Leads (calls : List (List ℕ)) : ℕ → ℕ → Type 0 where
+  Calls : {k g : ℕ} → Contains (called_by calls k) g → Leads calls k g
+  Goes : {k g h : ℕ} → Contains (called_by calls k) g → Leads calls g h → Leads calls k h
 
 -- the functions that were seen are on the path, and its last one calls the one at hand, whose need isn't known
 pub record IsOnPath (calls : List (List ℕ)) (needs : List (Option ℕ)) (from at : ℕ) (path : List ℕ) (seen : List Bool) : Type 0 where

@@ -11,7 +11,7 @@ use Rattle.core_lines.specs.declared.line.Line.{Line}
 use Rattle.core_lines.specs.Promise.{AreLinesOf}
 use Rattle.core_lines.specs.Relaxed.{shortened}
 use Rattle.core_lines.specs.Running.{Begins, IsNeverStuck}
-use Rattle.compile_proof.specs.Promise.{LowerableDoes, core_bound_of, meaning_of}
+use Rattle.compile_proof.specs.Promise.{LowerableDoes, frame_size_of, meaning_of}
 use Rattle.stack_needs.specs.Graph.{most_bytes}
 use Rattle.stack_needs.specs.Numbers.{IsStackNeed}
 
@@ -19,7 +19,7 @@ use Rattle.stack_needs.specs.Numbers.{IsStackNeed}
 -- input of bytes on which the program is never stuck, whatever its store answers.
 abbrev pub AnsweredStackSuffices : Type 0
 AnsweredStackSuffices =
-    (p : Program) → LowerableDoes p → (need : ℕ) → IsStackNeed (core_bound_of (world_of p)) p (Some need) → need < most_bytes
+    (p : Program) → LowerableDoes p → (need : ℕ) → IsStackNeed (frame_size_of (world_of p)) p (Some need) → need < most_bytes
     → (lines : List Line) → AreLinesOf (program_code p) lines → (wide : List Bool) → length wide ≡ length lines
     → (n : Areas) (places : ℕ → ℕ) (s : State) (input : List ℕ) → AreBytes input → Begins n places (shortened wide lines) (program_code p).data_objects s
     → IsNeverStuck (meaning_of p input) → need ≤ n.stack

@@ -2,11 +2,12 @@
 use Rattle.std.specs.Prelude.{◌≡◌, ◌<◌, ◌≤◌, ℕ, suc, List, [], ◌∷◌, Option, Some, None, bytes_eq, codes, slice_index, if◌then◌else◌}
 use Rattle.indexmap.specs.IndexMap.{get_by}
 use Rattle.cyc_tree.specs.Tree.{Program}
-use Rattle.source_meaning.specs.Programs.{functions_of}
-use Rattle.source_meaning.specs.Steps.{Routine}
+use Rattle.source_meaning.specs.Calls.{function_of}
+use Rattle.source_meaning.specs.Programs.{functions_of, world_of}
+use Rattle.source_meaning.specs.Steps.{Routine, World}
 use Rattle.stack_proof.specs.Callees.{items_callees}
-use Rattle.stack_proof.specs.Fits.{ProgramFits}
-use Rattle.stack_needs.specs.Graph.{IsRecursion, most_bytes}
+use Rattle.stack_proof.specs.Fits.{Fits, ProgramFits}
+use Rattle.stack_needs.specs.Graph.{IsRecursion, known, most_bytes}
 use Rattle.stack_needs.specs.declared.numbers.Numbers as code
 
 -- the number of the first function of a name, where they have numbers from k on
@@ -45,6 +46,24 @@ frame_at frames (Some k) = slice_index frames k
 -- how many bytes the frame of the function of a name may take, where these are those of all functions
 abbrev pub frame_by : List Routine → List ℕ → List ℕ → ℕ
 frame_by fs frames name = frame_at frames (number_from fs 0 name)
+
+-- What is answered of the need of the function of a name: that it fits no number of bytes, as where a recursion is reached from it; or so many bytes and no
+-- fewer, or that the greatest word is too few.
+abbrev pub IsNeedOf : (List ℕ → ℕ) → World → List ℕ → Option ℕ → Type 0
+IsNeedOf bound w name None = (g : Routine) → function_of w.functions name ≡ Some g → (n : ℕ) → Fits bound w g n → ⊥
+IsNeedOf bound w name (Some n) =
+    (g : Routine) → function_of w.functions name ≡ Some g
+    → (n < most_bytes → Fits bound w g n) × ((m : ℕ) → Fits bound w g m → n ≤ m)
+
+-- that of each function, in the order of the text
+abbrev pub AreNeedsOf : (List ℕ → ℕ) → Program → List (Option ℕ) → Type 0
+AreNeedsOf bound p needs =
+    (name : List ℕ) (k : ℕ) → number_from (functions_of p) 0 name ≡ Some k → IsNeedOf bound (world_of p) name (known needs k)
+
+-- the need of the function of a number, if there is one
+abbrev pub need_at : Option ℕ → List (Option ℕ) → Option ℕ
+need_at None needs = None
+need_at (Some k) needs = known needs k
 
 -- What is answered of a program's need, where `bound` says how many bytes a function's frame may take: that it fits nothing, as where a recursion is reached
 -- from `main`; or so many bytes and no fewer, or that the greatest word is too few.

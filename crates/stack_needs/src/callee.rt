@@ -5,10 +5,11 @@ ghost use Rattle.stack_needs.specs.Listing.{Lists};
 
 use std::alloc::{AllocError, Global};
 
-/// The name that a call names.
+/// The name that a call names, and the offset in the text at which it does.
 #[derive(Clone, Copy)]
 pub(crate) struct Callee<'p> {
     pub name: &'p [u8],
+    pub at: u32,
 }
 
 /// Callees that are listed one after the other. Whether memory was wanting on the way is known at the end.
@@ -42,10 +43,10 @@ impl<'p> Callees<'p> {
 }
 
 /// Appends a callee.
-pub(crate) fn add<'p>(callees: &mut Callees<'p>, name: &'p [u8])
+pub(crate) fn add<'p>(callees: &mut Callees<'p>, name: &'p [u8], at: u32)
     ensures { Lists callees.old callees.new (name.entry.now ∷ []) }
 {
-    if let Err(_) = callees.all.push(Callee { name }) {
+    if let Err(_) = callees.all.push(Callee { name, at }) {
         callees.failed = true;
     }
 }

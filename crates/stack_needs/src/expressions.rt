@@ -22,7 +22,7 @@ pub(crate) fn list_expression<'p>(callees: &mut Callees<'p>, expression: &'p Exp
         | Expression::UniqueRegion(_)
         | Expression::Variable(_) => {}
         Expression::Call(name, arguments) => {
-            add(callees, &name.text);
+            add(callees, &name.text, name.at);
             list_expressions(callees, arguments);
         }
         Expression::MakeUnion(_, _, inner)

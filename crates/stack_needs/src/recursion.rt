@@ -7,13 +7,14 @@ ghost use Rattle.stack_needs.specs.Graph.{AreNumbers, AreWaiting, IsRecursion, k
 use std::alloc::{AllocError, Global};
 
 /// A recursion: each function of the path calls the next, and the last one calls again one that is on it.
+#[derive(Drop)]
 pub struct Recursion {
     pub path: Vec<usize>,
     pub again: usize,
 }
 
 /// One of these functions whose need isn't known, if there is one.
-fn unknown_among(needs: &[Option<u32>], calls: &[usize]) -> Option<usize>
+fn unknown_among(needs: &[Option<u64>], calls: &[usize]) -> Option<usize>
     ensures found { IfSome result (λ g. Contains calls.now g × (known needs.now g ≡ None)) }
     ensures none { result ≡ None → (g : ℕ) → Contains calls.now g → known needs.now g ≡ None → ⊥ }
 {
@@ -31,7 +32,7 @@ fn unknown_among(needs: &[Option<u32>], calls: &[usize]) -> Option<usize>
 pub(crate) fn recursion_from(
     alloc: Global,
     calls: &[Vec<usize>],
-    needs: &[Option<u32>],
+    needs: &[Option<u64>],
     from: usize,
 ) -> Result<Recursion, AllocError>
     requires numbered { AreNumbers (length calls.now) (rows_of calls.now) }

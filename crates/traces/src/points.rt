@@ -10,9 +10,6 @@ const BEFORE_SMALL_TEST: u32 = 4;
 
 const BEFORE_LARGE_TEST: u32 = 8;
 
-/// The bytes of what raises an exception.
-const RAISE_BYTES: u32 = 12;
-
 /// The bytes from which on a frame is large.
 const LARGE_FRAME: u32 = 2048;
 
@@ -122,25 +119,11 @@ impl Point {
     }
 }
 
-/// An ECALL that raises an exception.
-#[derive(Clone, Copy)]
-pub struct Raising {
-    pub address: u32,
-    pub kind: Kind,
-}
-
-impl Raising {
-    /// Whether it raises this exception.
-    pub fn is(self, kind: Kind) -> bool {
-        match self.kind {
-            Kind::NullException => matches!(kind, Kind::NullException),
-            Kind::ArrayBounds => matches!(kind, Kind::ArrayBounds),
-        }
-    }
-
-    /// Whether what raises it is next behind what raises another one.
-    pub fn is_behind(self, other: Raising) -> bool {
-        self.address == other.address.wrapping_add(RAISE_BYTES)
+/// Whether two exceptions are one.
+pub fn is_same(one: Kind, other: Kind) -> bool {
+    match one {
+        Kind::NullException => matches!(other, Kind::NullException),
+        Kind::ArrayBounds => matches!(other, Kind::ArrayBounds),
     }
 }
 
@@ -219,16 +202,15 @@ impl Points {
         Ok(())
     }
 
-    /// Those of its points that raise.
-    pub fn raising(&self, alloc: Global) -> Result<Vec<Raising>, AllocError> {
-        let mut raising = Vec::new(alloc);
+    /// The exceptions that are raised, in the order of the code.
+    pub fn raised(&self, alloc: Global) -> Result<Vec<Kind>, AllocError> {
+        let mut raised = Vec::new(alloc);
         for point in &self.all {
             if let Sight::Raise(kind) = point.sight {
-                let address = point.address;
-                raising.push(Raising { address, kind })?;
+                raised.push(kind)?;
             }
         }
-        Ok(raising)
+        Ok(raised)
     }
 
     /// The point at an address.

@@ -1,10 +1,11 @@
 // A text with where its raises and calls are in it and in its code.
 
 use crate::points::{Counts, Point, Points, Sight};
-use crate::sites::{Call, Raise, Sites};
+use crate::sites::{Call, Sites};
 use crate::text::Text;
 use cycc_driver::Place;
 use lower_checks::lower;
+use rv32_select::Raise;
 use std::alloc::{AllocError, Global};
 
 /// A function that is active, and where in the text its call stands; `main` is called from nowhere.
@@ -32,9 +33,9 @@ impl Traced {
         };
         let core = lower(alloc, text.checked())?;
         let points = Points::of(alloc, code)?;
-        let raising = points.raising(alloc)?;
-        let sites = Sites::of(alloc, &core, &raising)?;
-        let same = sites.are(&raising);
+        let raised = points.raised(alloc)?;
+        let sites = Sites::of(alloc, &core)?;
+        let same = sites.are(&raised);
         let traced = Traced {
             main: core.main,
             functions: core.functions.len(),

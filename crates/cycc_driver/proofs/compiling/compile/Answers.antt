@@ -17,7 +17,8 @@ returns-clause-implemented c =
       block_limit = second_block_limit;
     } in
     text_image c.args.text.now c.in_ok-write.field-0.items code statics c.in-Ok.checked parts c.args.pages c.args.stack_pages c.in-Ok.ensures.accepted
-    c.in_ok-write.ensures.image c.deref.ensures.value c.deref-2.ensures.value refl refl refl refl c.in-Ok-lay_out.ensures.implemented
+    c.in_ok-write.ensures.image c.deref.ensures.value c.deref-2.ensures.value refl refl refl refl c.in-Ok-lay_out.ensures.lines
+    c.in-Ok-lay_out.ensures.statics c.in-Ok-lay_out.ensures.implemented
 
 pub returns-in-Err-lay_out-clause-refused : goal.returns-in-Err-lay_out-clause-refused
 returns-in-Err-lay_out-clause-refused c = codeless_image c.in-Err-lay_out.fault c.args.text.now c.in-Ok.checked c.in-Ok.ensures.accepted c.in-Err-lay_out.ensures.refused

@@ -1,7 +1,11 @@
-use Rattle.std.proofs.Common.{◌<◌, length, refl, ap, ◌∙◌, subst, arith}
+use Rattle.std.proofs.Common.{◌<◌, List, length, refl, ap, ◌∙◌, subst, arith}
 use Rattle.std.specs.Prelude.{Err}
 use Rattle.core_lines.specs.Promise.{AreLinesOf}
-use Rattle.core_lines.specs.Relaxed.{wide_in}
+use Rattle.core_lines.specs.declared.line.Line.{Line}
+use Rattle.core_lines.specs.Choosing.{far}
+use Rattle.core_lines.specs.Relaxed.{shortened, wide_in}
+use Rattle.core_lines.specs.Selected.{program_code}
+use Rattle.rv32_layout.specs.Placed.{ArePlaced}
 use Rattle.core_lines.specs.Running.{data_offsets}
 use Rattle.core_lines.specs.Statics.{data_bytes}
 use Rattle.core_meaning.specs.Core as core
@@ -33,6 +37,15 @@ returns-in-Ok-data-clause-code c =
     let placed = c.in-Ok.ensures in
     let some = placed.some c.in_ok-labelled.ensures.lines.some in
     is_code c.in-Ok.code.bytes.items placed.words (omega (arith, some)) (omega (arith, placed.within))
+
+pub returns-in-Ok-data-clause-lines : goal.returns-in-Ok-data-clause-lines
+returns-in-Ok-data-clause-lines c =
+    let lines = c.in_ok-labelled.ensures.selected ∙ ap (λ (p : core.Program). program_code far p) c.in_ok-core.ensures.code in
+    subst (λ (ls : List Line). ArePlaced (shortened (wide_in ls) ls) c.in-Ok.code.bytes.items) lines c.in-Ok.ensures.placed
+
+pub returns-in-Ok-data-clause-statics : goal.returns-in-Ok-data-clause-statics
+returns-in-Ok-data-clause-statics c =
+    c.in-Ok-data.ensures.bytes ∙ ap (λ (p : core.Program). data_bytes (data_offsets p.data_objects) 0 p.data_objects) c.in_ok-core.ensures.code
 
 pub returns-in-Ok-data-clause-implemented : goal.returns-in-Ok-data-clause-implemented
 returns-in-Ok-data-clause-implemented c = λ parts is_code is_statics from_first blocks fits.

@@ -14,6 +14,11 @@ returns-clause-words c =
     let placed = c.as_slice.result.now in
     (instructions_from (place_of placed) 0 placed, c.in_ok-bytes.ensures.placed)
 
+pub returns-clause-placed : goal.returns-clause-placed
+returns-clause-placed c =
+    let lines = c.args.labelled.now.lines in
+    subst (λ ls. ArePlaced ls c.in_ok-bytes.bytes.items) (c.as_slice.ensures.value ∙ c.in_ok-relaxed.ensures.lines) c.in_ok-bytes.ensures.placed
+
 pub returns-clause-short : goal.returns-clause-short
 returns-clause-short c =
     let lines = c.args.labelled.now.lines in

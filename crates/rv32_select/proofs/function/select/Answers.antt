@@ -17,6 +17,7 @@ invariant_of-result c =
 
 pub returns : goal.returns
 returns c = record {
+  selected = c.in_ok-lines.ensures;
   lines = lines_are (program_tree c.args.program.now) c.in_ok-lines.lines.items c.in_ok-lines.ensures;
   homes = c.in_ok-homes.ensures ∙ ap (λ fs. homes_listed (map function_tree fs)) c.deref.ensures.value;
 }

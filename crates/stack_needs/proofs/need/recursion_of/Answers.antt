@@ -23,3 +23,14 @@ recursion_from-requires-clause-below c =
     main_below p slice.result.now
     (are_rows p _ c.in_ok-functions.ensures c.in_ok-calls.calls.items slice.result.now slice.ensures.value c.in_ok-calls.ensures) c.in-Some.main
     (main_found p _ c.in_ok-functions.ensures c.number.result (Some c.in-Some.main) c.number.ensures c.in-Some.is)
+
+pub returns-in-None : goal.returns-in-None
+returns-in-None c = record {
+  found = tt;
+  none = λ path again is.
+      let no = main_found (program_tree c.args.items.now) _ c.in_ok-functions.ensures c.number.result None c.number.ensures c.in-None.is in
+      let found = is.found in absurd (cc);
+}
+
+pub returns-in-Some-known : goal.returns-in-Some-known
+returns-in-Some-known c = ?

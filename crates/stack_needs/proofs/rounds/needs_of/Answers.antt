@@ -1,8 +1,8 @@
 use Rattle.std.proofs.Common.{◌≡◌, ◌<◌, ℕ, [], length, ◌+◌, Bool, false, nat_eq, List, arith, rules, Option, sym, ap, subst, ◌∙◌}
-use Rattle.std.proofs.lemmas.List.{length-map}
+use Rattle.std.proofs.lemmas.List.{length-map, length-reverse}
 use Rattle.std.specs.Prelude.{if◌then◌else◌}
 use Rattle.stack_needs.specs.Graph.{Found, AreNumbers, found, looked_at, rows_of}
-use Rattle.stack_needs.proofs.Looking.{all_within, answered, begun, one_more_round, round_is_smaller, waits}
+use Rattle.stack_needs.proofs.Looking.{all_within, answered, begun, looked_turned, one_more_round, round_is_smaller, waits}
 use Rattle.stack_needs.proofs.rounds.needs_of.Goals as goal
 
 pub loop-is_last-init : goal.loop-is_last-init
@@ -40,26 +40,30 @@ pub loop-is_last-smaller : goal.loop-is_last-smaller
 loop-is_last-smaller c =
     let left = c.in_ok-left.left in
     let waiting = c.loop-is_last.waiting in
-    is_smaller (length left.items) (length waiting.items) _ (nat_eq (length left.items) (length waiting.items)) c.loop-is_last.is_last
+    let long : length c.turned.result.items ≡ length left.items = ap (λ (ks : List ℕ). length ks) c.turned.ensures ∙ length-reverse left.items in
+    subst (λ (n : ℕ). n + (if nat_eq c.len.result c.len-in-loop-is_last.result then 0 else 1) < length waiting.items + (if c.loop-is_last.is_last then 0 else 1))
+    (sym long)
+    (is_smaller (length left.items) (length waiting.items) _ (nat_eq (length left.items) (length waiting.items)) c.loop-is_last.is_last
     (same_test c.len.result c.len-in-loop-is_last.result (length left.items) (length waiting.items)
     (omega (arith, c.len.ensures, left.ok.0)) (omega (arith, c.len-in-loop-is_last.ensures, waiting.ok.0)))
     c.loop-is_last-test.true
     (round_is_smaller c.args.frames.now (rows_of c.args.calls.now) c.loop-is_last.needs.items waiting.items
     (found c.look_at.new.needs.items left.items)
     (after_round c.args.frames.now (rows_of c.args.calls.now) c.loop-is_last.needs.items waiting.items c.as_slice.result.now
-    (found c.look_at.new.needs.items left.items) c.as_slice.ensures.value c.in_ok-left.ensures))
+    (found c.look_at.new.needs.items left.items) c.as_slice.ensures.value c.in_ok-left.ensures)))
 
 pub loop-is_last-preserved : goal.loop-is_last-preserved
 loop-is_last-preserved c =
     let left = c.in_ok-left.left in
     let waiting = c.loop-is_last.waiting in
-    one_more_round c.args.frames.now (rows_of c.args.calls.now) c.loop-is_last.needs.items waiting.items c.loop-is_last.invariant.found_so
+    looked_turned c.args.frames.now (rows_of c.args.calls.now) _ c.look_at.new.needs.items left.items c.turned.result.items c.turned.ensures
+    (one_more_round c.args.frames.now (rows_of c.args.calls.now) c.loop-is_last.needs.items waiting.items c.loop-is_last.invariant.found_so
     (found c.look_at.new.needs.items left.items)
     (after_round c.args.frames.now (rows_of c.args.calls.now) c.loop-is_last.needs.items waiting.items c.as_slice.result.now
     (found c.look_at.new.needs.items left.items) c.as_slice.ensures.value c.in_ok-left.ensures)
     _
     (same_test c.len.result c.len-in-loop-is_last.result (length left.items) (length waiting.items)
-    (omega (arith, c.len.ensures, left.ok.0)) (omega (arith, c.len-in-loop-is_last.ensures, waiting.ok.0)))
+    (omega (arith, c.len.ensures, left.ok.0)) (omega (arith, c.len-in-loop-is_last.ensures, waiting.ok.0))))
 
 pub returns : goal.returns
 returns c =

@@ -4,7 +4,7 @@ use Rattle.accepted_proof.proofs.Joined.{accepted_are_never_stuck}
 use Rattle.cyc_meaning.proofs.Agreeing.{does_the_same}
 use Rattle.cyc_meaning.proofs.Beginning.{nothing_done}
 use Rattle.cyc_meaning.proofs.Carried.{carried, not_stuck, of_code}
-use Rattle.cyc_meaning.proofs.running.eval.Goals as goal
+use Rattle.cyc_meaning.proofs.running.eval_watched.Goals as goal
 
 pub returns-in-Ok-clause-evaluated : goal.returns-in-Ok-clause-evaluated
 returns-in-Ok-clause-evaluated g c =

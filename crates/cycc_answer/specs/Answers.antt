@@ -18,7 +18,7 @@ use Rattle.cycc_driver.specs.Refusals.{IsRefusedFor, HasNoImageFor}
 use Rattle.cycc_driver.specs.Outcome.{IsTextImage, IsTextRun}
 use Rattle.cycc_driver.specs.Evaluated.{IsTextEvaluated}
 use Rattle.cycc_driver.specs.Stack.{IsTextStack}
-use Rattle.cycc_driver.specs.declared.stack.Stack.{Stack}
+use Rattle.cycc_driver.specs.declared.stacks.Stack.{Stack}
 use Rattle.cycc_answer.specs.Statuses.{status_of, evaluated_status, refused_status, stack_status, unloaded_status}
 
 -- ---- sources

@@ -7,7 +7,7 @@ use Rattle.source_lowering.specs.Programs.{program_code}
 use Rattle.compile_proof.specs.Promise.{frame_size_of}
 use Rattle.stack_needs.specs.Graph.{rows_of}
 use Rattle.stack_needs.specs.Numbers.{AreNeedsOf, IsRecursionOf, IsStackNeed, calls_among, need_at, number_from}
-use Rattle.cycc_driver.specs.declared.stack.Stack.{Stack}
+use Rattle.cycc_driver.specs.declared.stacks.Stack.{Stack}
 use Rattle.cycc_driver.specs.Texts.{IsAcceptedAs}
 
 -- what is answered of a program: its functions with their frames, the calls among them, how many bytes each needs and no fewer, and a recursion where one is

@@ -11,11 +11,11 @@ mod compiling;
 mod evaluating;
 mod executing;
 mod fault;
-mod stack;
+mod stacks;
 
 pub use compiling::{accepted_or_refused, check, compile, front, one_fault, one_image};
 pub use evaluating::{evaluate, evaluate_watched};
 pub use executing::{Limits, Watched, execute, execute_watched};
 pub use fault::{CompileFault, Place};
-pub use stack::{Stack, stack};
-pub use stack_needs::{Needs, Recursion};
+pub use stacks::{Stack, stack};
+pub use stack_needs::{StackNeeds, Recursion};

@@ -1,8 +1,13 @@
 -- What fits some number of bytes leads to no recursion.
-use Rattle.std.proofs.Common.{◌≡◌, ◌<◌, ◌∙◌, ℕ, zero, suc, List, [], ◌∷◌, ◌++◌, inl, inr, length, refl, sym, subst, arith}
+use Rattle.std.proofs.Common.{◌≡◌, ◌<◌, ◌∙◌, ℕ, zero, suc, List, [], ◌∷◌, ◌++◌, Some, inl, inr, length, refl, sym, subst, arith}
+use Rattle.std.specs.Prelude.{codes}
+use Rattle.std.proofs.lemmas.Option.{same_Some}
+use Rattle.cyc_tree.specs.Tree.{Program}
+use Rattle.source_meaning.specs.Programs.{functions_of}
 use Rattle.std.specs.List.{Contains}
 use Rattle.std.proofs.lemmas.List.Elements.{Contains-append_cases, Contains-append_left, Contains-append_right}
-use Rattle.stack_needs.specs.Graph.{ArePath, FitsAt, LeavesAt, IsRecursion, Leads, Calls, Goes, called_by}
+use Rattle.stack_needs.specs.Graph.{ArePath, FitsAt, LeavesAt, IsNeed, IsRecursion, Leads, Calls, Goes, called_by}
+use Rattle.stack_needs.specs.Numbers.{IsRecursionOf, calls_among, number_from}
 use Rattle.stack_needs.proofs.Needs.{cases_of, first_of, later_of}
 
 module _ (calls : List (List ℕ)) where
@@ -37,3 +42,11 @@ module _ (calls : List (List ℕ)) where
     pub no_recursion : {k n : ℕ} → FitsAt frames calls k n → (path : List ℕ) (again : ℕ) → IsRecursion calls k path again → ⊥
     no_recursion {k = k} fits path again is =
         leads_nowhere fits (on_path path again k is.calls_next is.first) (on_path path again again is.calls_next is.closes)
+
+-- so no recursion is reached from a `main` whose need is known
+pub none_reached : (p : Program) (frames : List ℕ) (main need : ℕ) → number_from (functions_of p) 0 (codes "main") ≡ Some main
+    → IsNeed frames (calls_among (functions_of p) (functions_of p)) main need → (path : List ℕ) (again : ℕ) → IsRecursionOf p path again → ⊥
+none_reached p frames main need number is path again found =
+    let calls = calls_among (functions_of p) (functions_of p) in
+    let same : found.main ≡ main = same_Some found.main main (sym found.found ∙ number) in
+    no_recursion calls frames is.some.1 path again (subst (λ (k : ℕ). IsRecursion calls k path again) same found.recursion)

@@ -26,9 +26,10 @@ module _ {one other : List ℕ → ℕ} (is : IsSame one other) {w : World} wher
   fits_one {g = g} (Leaves others le callees) =
       let its = is.each g.name in Leaves others (omega arith) (λ name h has of. fits_one (callees name h has of))
 
-  need_of_other : (name : List ℕ) (need : Option ℕ) → IsNeedOf one w name need → IsNeedOf other w name need
-  need_of_other name None none = λ g of n fits. none g of n (fits_one fits)
-  need_of_other name (Some n) need = λ g of. (λ few. fits_other ((need g of).0 few), λ m fits. (need g of).1 m (fits_one fits))
+need_of_other : {one other : List ℕ → ℕ} → IsSame one other → (w : World) (name : List ℕ) (need : Option ℕ) → IsNeedOf one w name need
+    → IsNeedOf other w name need
+need_of_other is w name None none = λ g of n fits. none g of n (fits_one is fits)
+need_of_other is w name (Some n) need = λ g of. (λ few. fits_other is ((need g of).0 few), λ m fits. (need g of).1 m (fits_one is fits))
 
 -- the frames of a program's code, by the names of its functions
 code_frames : (p : Program) (frames : List ℕ) → frames ≡ map frame_bytes (map (function_code (world_of p)) (functions_of p))
@@ -53,7 +54,7 @@ code_frames p frames are = record {
 
 module _ (p : Program) (frames : List ℕ) (are : frames ≡ map frame_bytes (map (function_code (world_of p)) (functions_of p))) where
   pub sized_needs : (needs : List (Option ℕ)) → AreNeedsOf (frame_by (functions_of p) frames) p needs → AreNeedsOf (frame_size_of (world_of p)) p needs
-  sized_needs needs each = λ name k number. need_of_other (code_frames p frames are) name (known needs k) (each name k number)
+  sized_needs needs each = λ name k number. need_of_other (code_frames p frames are) (world_of p) name (known needs k) (each name k number)
 
   pub sized_need : (need : Option ℕ) → IsStackNeed (frame_by (functions_of p) frames) p need → IsStackNeed (frame_size_of (world_of p)) p need
   sized_need (Some n) need =

@@ -18,6 +18,6 @@ mod rounds;
 mod sites;
 
 pub use laws::answered_stack_suffices;
-pub use need::{Needs, recursion_of, stack_needs};
+pub use need::{StackNeeds, recursion_of, stack_needs};
 pub use recursion::Recursion;
 pub use sites::{call_site, function_names};

@@ -18,7 +18,7 @@ use std::alloc::{AllocError, Global};
 
 /// What the calls of a program's functions need. Functions have numbers in the order of the text, from 0 on.
 #[derive(Drop)]
-pub struct Needs {
+pub struct StackNeeds {
     /// The number of `main`, if there is one.
     pub main: Option<usize>,
     /// Of each function, the numbers of those that its body calls, in the order of the text.
@@ -38,7 +38,7 @@ fn known(needs: &[Option<u64>], k: usize) -> Option<u64>
     }
 }
 
-impl Needs {
+impl StackNeeds {
     /// How many bytes of stack `main` needs; None where a recursion is reached from it, or where there is no `main`.
     pub fn stack(&self) -> Option<u64>
         ensures { result ≡ need_at self.now.main self.now.each.items }
@@ -51,7 +51,7 @@ impl Needs {
 }
 
 /// What the functions need, where `frames` says of each, in the order of the text, how many bytes its frame takes.
-fn needs_by(alloc: Global, items: &[Item], frames: &[u64]) -> Result<Needs, AllocError>
+fn needs_by(alloc: Global, items: &[Item], frames: &[u64]) -> Result<StackNeeds, AllocError>
     requires { length frames.now ≡ length (functions_of (program_tree items.now)) }
     ensures main { IfOk result (λ needs. needs.main ≡ number_from (functions_of (program_tree items.now)) 0 (codes "main")) }
     ensures calls { let fs = functions_of (program_tree items.now) in IfOk result (λ needs. rows_of needs.calls.items ≡ calls_among fs fs) }
@@ -64,14 +64,14 @@ fn needs_by(alloc: Global, items: &[Item], frames: &[u64]) -> Result<Needs, Allo
     let main = functions.number(b"main");
     let calls = calls_of(alloc, &functions, items)?;
     let each = needs_of(alloc, frames, &calls)?;
-    Ok(Needs { main, calls, each })
+    Ok(StackNeeds { main, calls, each })
 }
 
 /// What the functions of a program need of the stack, with the frames that their code has.
 ///
 /// `frames` has the bytes of each function's frame, as `frames` of `rv32_select` answers them of the program's Core. A call counts where the text has it, whether
 /// or not it is ever made. Takes memory for each call in the text. Fails only where no host memory is left.
-pub fn stack_needs(alloc: Global, items: &[Item], frames: &[u64]) -> Result<Needs, AllocError>
+pub fn stack_needs(alloc: Global, items: &[Item], frames: &[u64]) -> Result<StackNeeds, AllocError>
     requires { frames.now ≡ map frame_bytes (program_code (program_tree items.now)).functions }
     // which functions there are and call one another
     ensures main { IfOk result (λ needs. needs.main ≡ number_from (functions_of (program_tree items.now)) 0 (codes "main")) }

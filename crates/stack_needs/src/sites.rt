@@ -1,7 +1,7 @@
 // Where calls stand, and what functions are called.
 
 ghost use Rattle.std.specs.Prelude.{◌≡◌, IfOk, map};
-ghost use Rattle.cyc_tree.specs.View.{program_tree};
+ghost use Rattle.cyc_tree.specs.View.{function_tree, program_tree};
 ghost use Rattle.source_meaning.specs.Programs.{functions_of};
 
 use crate::bodies::list_items;
@@ -10,6 +10,13 @@ use crate::numbers::Functions;
 use cyc_tree::{Function, Item};
 use std::alloc::{AllocError, Global};
 
+/// A function's name.
+fn name_of(function: &Function) -> Result<Vec<u8>, AllocError>
+    ensures { IfOk result (λ name. name.items ≡ (function_tree function.now).name.text) }
+{
+    function.name.text.clone()
+}
+
 /// The names of a program's functions, in the order of the text. Fails only where no host memory is left.
 pub fn function_names(alloc: Global, items: &[Item]) -> Result<Vec<Vec<u8>>, AllocError>
     ensures { IfOk result (λ names. map (λ name. name.items) names.items ≡ map (λ f. f.name) (functions_of (program_tree items.now))) }
@@ -17,7 +24,7 @@ pub fn function_names(alloc: Global, items: &[Item]) -> Result<Vec<Vec<u8>>, All
     let mut names = Vec::new(alloc);
     'each: for item in items {
         if let Item::Function(function) = item {
-            names.push(function.name.text.clone()?)?;
+            names.push(name_of(function)?)?;
         }
     }
     Ok(names)
@@ -31,7 +38,7 @@ fn function_at(items: &[Item], number: usize) -> Option<&Function> {
             if before == number {
                 return Some(function);
             }
-            before += 1;
+            before = before.saturating_add(1);
         }
     }
     None

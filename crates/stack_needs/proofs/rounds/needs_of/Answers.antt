@@ -40,7 +40,7 @@ pub loop-is_last-smaller : goal.loop-is_last-smaller
 loop-is_last-smaller c =
     let left = c.in_ok-left.left in
     let waiting = c.loop-is_last.waiting in
-    let long : length c.turned.result.items ≡ length left.items = ap (λ (ks : List ℕ). length ks) c.turned.ensures ∙ length-reverse left.items in
+    let long : length c.turned-waiting.result.items ≡ length left.items = ap (λ (ks : List ℕ). length ks) c.turned-waiting.ensures ∙ length-reverse left.items in
     subst (λ (n : ℕ). n + (if nat_eq c.len.result c.len-in-loop-is_last.result then 0 else 1) < length waiting.items + (if c.loop-is_last.is_last then 0 else 1))
     (sym long)
     (is_smaller (length left.items) (length waiting.items) _ (nat_eq (length left.items) (length waiting.items)) c.loop-is_last.is_last
@@ -56,7 +56,7 @@ pub loop-is_last-preserved : goal.loop-is_last-preserved
 loop-is_last-preserved c =
     let left = c.in_ok-left.left in
     let waiting = c.loop-is_last.waiting in
-    looked_turned c.args.frames.now (rows_of c.args.calls.now) _ c.look_at.new.needs.items left.items c.turned.result.items c.turned.ensures
+    looked_turned c.args.frames.now (rows_of c.args.calls.now) _ c.look_at.new.needs.items left.items c.turned-waiting.result.items c.turned-waiting.ensures
     (one_more_round c.args.frames.now (rows_of c.args.calls.now) c.loop-is_last.needs.items waiting.items c.loop-is_last.invariant.found_so
     (found c.look_at.new.needs.items left.items)
     (after_round c.args.frames.now (rows_of c.args.calls.now) c.loop-is_last.needs.items waiting.items c.as_slice.result.now

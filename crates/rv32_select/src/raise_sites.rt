@@ -69,6 +69,24 @@ fn origin_in(body: &[Statement]) -> Option<Origin> {
     }
 }
 
+/// Appends those of a choice that is a check, and goes on behind it.
+fn add_checking(
+    raises: &mut Vec<Raise>,
+    place: &mut Place,
+    test: Temporary,
+    those: &[Statement],
+    failure: Failure,
+) -> Result<(), AllocError> {
+    let known = place.known()?;
+    if let Some(origin) = origin_in(those) {
+        add_check(raises, &known, test, failure, origin)?;
+    }
+    let first = place.exchange(known);
+    pass(place, those)?;
+    place.join(first, those);
+    Ok(())
+}
+
 /// Appends those of a statement, and goes on behind it.
 #[cycle(raised)]
 fn add(
@@ -85,8 +103,25 @@ fn add(
             place.held.forget();
             Ok(())
         }
-        Statement::If(test, both) => add_if(raises, place, *test, &both.0, &both.1),
-        Statement::While(_, both) => add_while(raises, place, &both.0, &both.1),
+        Statement::If(test, both) => {
+            if let Some(failure) = check_of(&both.0, &both.1) {
+                return add_checking(raises, place, *test, &both.1, failure);
+            }
+            let known = place.known()?;
+            add_all(raises, place, &both.0)?;
+            let first = place.exchange(known);
+            add_all(raises, place, &both.1)?;
+            place.join(first, &both.1);
+            Ok(())
+        }
+        Statement::While(_, both) => {
+            place.held.forget();
+            add_all(raises, place, &both.0)?;
+            place.held.forget();
+            add_all(raises, place, &both.1)?;
+            place.held.forget();
+            Ok(())
+        }
         Statement::Block(block) => add_block(raises, place, &block.0, &block.1),
         Statement::Leave(body) => {
             add_all(raises, place, body)?;
@@ -95,47 +130,6 @@ fn add(
         }
         _ => pass(place, std::slice::from_ref(statement)),
     }
-}
-
-/// Those of a choice: of a check by a choice as of a check, and else of both ways.
-#[cycle(raised)]
-fn add_if(
-    raises: &mut Vec<Raise>,
-    place: &mut Place,
-    test: Temporary,
-    these: &[Statement],
-    those: &[Statement],
-) -> Result<(), AllocError> {
-    let known = place.known()?;
-    if let (Some(failure), Some(origin)) = (check_of(these, those), origin_in(those)) {
-        add_check(raises, &known, test, failure, origin)?;
-        pass(place, these)?;
-        let first = place.exchange(known);
-        pass(place, those)?;
-        place.join(first, those);
-        return Ok(());
-    }
-    add_all(raises, place, these)?;
-    let first = place.exchange(known);
-    add_all(raises, place, those)?;
-    place.join(first, those);
-    Ok(())
-}
-
-/// Those of a loop.
-#[cycle(raised)]
-fn add_while(
-    raises: &mut Vec<Raise>,
-    place: &mut Place,
-    test: &[Statement],
-    body: &[Statement],
-) -> Result<(), AllocError> {
-    place.held.forget();
-    add_all(raises, place, test)?;
-    place.held.forget();
-    add_all(raises, place, body)?;
-    place.held.forget();
-    Ok(())
 }
 
 /// Those of a block with these locals.

@@ -12,7 +12,7 @@ use accepted_programs::Checked;
 use cyc_tree::Item;
 use lower_checks::lower;
 use rv32_select::frames;
-use stack_needs::{Needs, Recursion, call_site, function_names, recursion_of, stack_needs};
+use stack_needs::{StackNeeds, Recursion, call_site, function_names, recursion_of, stack_needs};
 use std::alloc::{AllocError, Global};
 
 /// How much stack a program's functions need, and which recursion is reached, if one is. Functions have numbers in the order of the text, from 0 on.
@@ -23,7 +23,7 @@ pub struct Stack {
     /// The bytes of the frame of each.
     pub frames: Vec<u64>,
     /// What each needs with all that it calls, and `main` among them.
-    pub needs: Needs,
+    pub needs: StackNeeds,
     /// The recursion that is reached from `main`.
     pub recursion: Option<Recursion>,
     /// Where the last function of that recursion calls one that is on its path.

@@ -17,14 +17,21 @@ fn frame_of(place: &mut Place, function: &Function) -> Result<u64, AllocError>
     frame_bytes(place, &function.body)
 }
 
+/// Those of several functions.
+fn frames_of(alloc: Global, functions: &[Function]) -> Result<Vec<u64>, AllocError>
+    ensures { IfOk result (λ frames. frames.items ≡ map frame_bytes (map function_tree functions.now)) }
+{
+    let mut place = Place::new(alloc, Vec::new(alloc));
+    let mut frames = Vec::new(alloc);
+    'each: for function in functions {
+        frames.push(frame_of(&mut place, function)?)?;
+    }
+    Ok(frames)
+}
+
 /// How many bytes the frame of each function takes in the lines of `select`, in the order of the functions. Fails only where no host memory is left.
 pub fn frames(alloc: Global, program: &Program) -> Result<Vec<u64>, AllocError>
     ensures { IfOk result (λ frames. frames.items ≡ map frame_bytes (program_tree program.now).functions) }
 {
-    let mut place = Place::new(alloc, Vec::new(alloc));
-    let mut frames = Vec::new(alloc);
-    'each: for function in &program.functions {
-        frames.push(frame_of(&mut place, function)?)?;
-    }
-    Ok(frames)
+    frames_of(alloc, &program.functions)
 }

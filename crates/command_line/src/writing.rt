@@ -1,11 +1,10 @@
 // Files that are written whole, or stay as they were.
 
 use std::alloc::{AllocGlobal, Global};
-use std::fs;
 use std::fs::{File, OpenFile, metadata, symlink_metadata};
-use std::io;
 use std::io::Write;
 use std::rt::Files;
+use std::{fs, io};
 
 /// How many names are tried for a new file.
 const NAMES: u32 = 64;

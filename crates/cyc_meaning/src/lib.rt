@@ -10,6 +10,6 @@
 mod laws;
 mod running;
 
-pub use laws::never_stuck;
 pub use core_eval::EvalEnding;
+pub use laws::never_stuck;
 pub use running::{eval, eval_watched};

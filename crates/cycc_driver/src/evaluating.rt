@@ -64,7 +64,5 @@ pub fn evaluate_watched<R: Input, W: Output>(
         Ok(checked) => checked,
         Err(fault) => return Err(fault),
     };
-    Ok(eval_watched(
-        alloc, &checked, reader, writer, fuel, stop,
-    ))
+    Ok(eval_watched(alloc, &checked, reader, writer, fuel, stop))
 }

@@ -17,5 +17,5 @@ pub use compiling::{accepted_or_refused, check, compile, front, one_fault, one_i
 pub use evaluating::{evaluate, evaluate_watched};
 pub use executing::{Limits, Watched, execute, execute_watched};
 pub use fault::{CompileFault, Place};
+pub use stack_needs::{Recursion, StackNeeds};
 pub use stacks::{Stack, stack};
-pub use stack_needs::{StackNeeds, Recursion};

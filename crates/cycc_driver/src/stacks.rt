@@ -12,7 +12,7 @@ use accepted_programs::Checked;
 use cyc_tree::Item;
 use lower_checks::lower;
 use rv32_select::frames;
-use stack_needs::{StackNeeds, Recursion, call_site, function_names, recursion_of, stack_needs};
+use stack_needs::{Recursion, StackNeeds, call_site, function_names, recursion_of, stack_needs};
 use std::alloc::{AllocError, Global};
 
 /// How much stack a program's functions need, and which recursion is reached, if one is. Functions have numbers in the order of the text, from 0 on.

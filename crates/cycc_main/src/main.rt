@@ -14,9 +14,9 @@ use cycc_answer::{longest_file, printed};
 pub use cycc_answer::{Answer, answer};
 use std::alloc::AllocError;
 use std::fs::File;
+use std::io;
 use std::io::Read;
 use std::process::ExitCode;
-use std::io;
 
 /// The bytes of a file, at most `most` of them.
 fn bytes_of(rt: &HostRuntime, path: &str, most: u64) -> io::Result<Vec<u8>> {

@@ -18,7 +18,7 @@ use Rattle.cycc_driver.specs.Refusals.{IsRefusedFor, HasNoImageFor}
 use Rattle.cycc_driver.specs.Outcome.{IsTextImage, IsTextRun}
 use Rattle.cycc_driver.specs.Evaluated.{IsTextEvaluated}
 use Rattle.cycc_driver.specs.Stack.{IsTextStack}
-use Rattle.cycc_driver.specs.declared.stacks.Stack.{Stack}
+use Rattle.cycc_driver.specs.declared.stacks.StackUse.{StackUse}
 use Rattle.cycc_answer.specs.Statuses.{status_of, evaluated_status, refused_status, stack_status, unloaded_status}
 
 -- ---- sources
@@ -70,7 +70,7 @@ IsEval text fuel reader_old reader_new writer_old writer_new status =
 
 -- what is known of an accepted source's stack, and the status says whether it has a bound, or that the writer failed
 pub record HasStack (text : List ℕ) (status : ℕ) : Type 0 where
-  pub stack : Stack
+  pub stack : StackUse
   pub is : IsTextStack text stack
   pub shown : (status ≡ stack_status stack.recursion) ⊎ (status ≡ 6)
 

@@ -8,7 +8,7 @@ use crate::lines::{Told, say};
 use crate::why::refused_in;
 use command_line::status::{ENDED, FILE_FAULT, SUCCESS};
 use cyc_words::Output;
-use cycc_driver::{Recursion, Stack, stack};
+use cycc_driver::{Recursion, StackUse, stack};
 use std::alloc::{AllocError, Global};
 use std::io::Write;
 
@@ -23,7 +23,7 @@ const SHOWN_FIRST: usize = 4;
 const SHOWN_LAST: usize = 3;
 
 /// Appends the name of a function.
-fn push_name(line: &mut Vec<u8>, stack: &Stack, number: usize) -> Result<(), AllocError> {
+fn push_name(line: &mut Vec<u8>, stack: &StackUse, number: usize) -> Result<(), AllocError> {
     match stack.names.get(number) {
         Some(name) => line.extend_from_slice(name),
         None => Ok(()),
@@ -33,7 +33,7 @@ fn push_name(line: &mut Vec<u8>, stack: &Stack, number: usize) -> Result<(), All
 /// Appends the names of functions, with some text between them.
 fn push_names(
     line: &mut Vec<u8>,
-    stack: &Stack,
+    stack: &StackUse,
     numbers: &[usize],
     between: &str,
 ) -> Result<(), AllocError> {
@@ -52,7 +52,7 @@ fn push_names(
 fn push_path(
     alloc: Global,
     line: &mut Vec<u8>,
-    stack: &Stack,
+    stack: &StackUse,
     numbers: &[usize],
     between: &str,
 ) -> Result<(), AllocError> {
@@ -72,7 +72,7 @@ fn push_path(
 }
 
 /// What a function needs, as far as it is known.
-fn need_of(stack: &Stack, number: usize) -> u64 {
+fn need_of(stack: &StackUse, number: usize) -> u64 {
     match stack.needs.each.get(number) {
         Some(Some(need)) => *need,
         _ => 0,
@@ -80,7 +80,7 @@ fn need_of(stack: &Stack, number: usize) -> u64 {
 }
 
 /// The first that needs most of the functions that one calls.
-fn deepest_called(stack: &Stack, number: usize) -> Option<usize> {
+fn deepest_called(stack: &StackUse, number: usize) -> Option<usize> {
     let mut found = None;
     for called in stack.needs.calls.get(number)? {
         match found {
@@ -92,7 +92,7 @@ fn deepest_called(stack: &Stack, number: usize) -> Option<usize> {
 }
 
 /// The active functions where the stack is deepest, from `main` on.
-fn deepest_path(alloc: Global, stack: &Stack) -> Result<Vec<usize>, AllocError> {
+fn deepest_path(alloc: Global, stack: &StackUse) -> Result<Vec<usize>, AllocError> {
     let mut path = Vec::new(alloc);
     let mut next = stack.needs.main;
     for _ in 0..stack.names.len() {
@@ -109,7 +109,7 @@ fn deepest_path(alloc: Global, stack: &Stack) -> Result<Vec<usize>, AllocError> 
 fn push_bound(
     alloc: Global,
     lines: &mut Vec<u8>,
-    stack: &Stack,
+    stack: &StackUse,
     bytes: u64,
 ) -> Result<(), AllocError> {
     let pages = bytes.div_ceil(PAGE_BYTES);
@@ -125,7 +125,7 @@ fn push_bound(
 fn push_calls(
     alloc: Global,
     lines: &mut Vec<u8>,
-    stack: &Stack,
+    stack: &StackUse,
     recursion: &Recursion,
 ) -> Result<(), AllocError> {
     let again = recursion.again;
@@ -148,7 +148,7 @@ fn push_recursion(
     alloc: Global,
     lines: &mut Vec<u8>,
     told: Told<'_>,
-    stack: &Stack,
+    stack: &StackUse,
     recursion: &Recursion,
 ) -> Result<(), AllocError> {
     lines.extend_from_slice(b"no bound: ")?;
@@ -165,7 +165,7 @@ fn push_recursion(
 fn push_function(
     alloc: Global,
     lines: &mut Vec<u8>,
-    stack: &Stack,
+    stack: &StackUse,
     number: usize,
 ) -> Result<(), AllocError> {
     push_name(lines, stack, number)?;
@@ -181,7 +181,7 @@ fn push_function(
 }
 
 /// The lines on a stack.
-fn lines_of(alloc: Global, told: Told<'_>, stack: &Stack) -> Result<Vec<u8>, AllocError> {
+fn lines_of(alloc: Global, told: Told<'_>, stack: &StackUse) -> Result<Vec<u8>, AllocError> {
     let mut lines = Vec::new(alloc);
     if let Some(recursion) = &stack.recursion {
         push_recursion(alloc, &mut lines, told, stack, recursion)?;
@@ -198,7 +198,7 @@ fn lines_of(alloc: Global, told: Told<'_>, stack: &Stack) -> Result<Vec<u8>, All
 }
 
 /// The status that says whether a stack has a bound.
-fn status_of_stack(stack: &Stack) -> u8
+fn status_of_stack(stack: &StackUse) -> u8
     ensures { result ≡ stack_status stack.now.recursion }
 {
     match &stack.recursion {

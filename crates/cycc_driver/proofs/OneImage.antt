@@ -1,7 +1,7 @@
 -- A text has one image for its pages.
-use Rattle.std.proofs.Common.{◌≡◌, ◌∙◌, ℕ, List, refl, sym, ap, subst}
+use Rattle.std.proofs.Common.{◌≡◌, ◌∙◌, ℕ, List, sym, ap, subst, arith}
 use Rattle.cyc_tree.specs.Tree.{Program}
-use Rattle.cyc_image.specs.Format.{Contents, First, IsImage, Second, first_block_limit, laid_out, second_block_limit, u32_bytes}
+use Rattle.cyc_image.specs.Format.{Contents, First, IsImage, Second, laid_out, second_block_limit, u32_bytes}
 use Rattle.rv32_layout.specs.Placed.{ArePlaced}
 use Rattle.rv32_layout.proofs.Alone.{code_alone}
 use Rattle.cycc_driver.proofs.Exactness.{same_program}
@@ -10,8 +10,7 @@ use Rattle.cycc_driver.specs.Outcome.{IsTextImage, data_of, placed_lines}
 -- images with large blocks are of version 2
 second : (bytes : List ℕ) (parts : Contents) → IsImage bytes parts → parts.block_limit ≡ second_block_limit
     → bytes ≡ laid_out 2 (u32_bytes parts.stack_pages) parts
-second bytes parts (First laid stack limit fits) blocks =
-    let same : first_block_limit ≡ second_block_limit = sym limit ∙ blocks in absurd (cc same)
+second bytes parts (First laid stack limit fits) blocks = absurd (omega (arith, limit, blocks))
 second bytes parts (Second laid limit fits) blocks = laid
 
 pub one_image : (text : List ℕ) (pages stack_pages : ℕ) (bytes others : List ℕ) → IsTextImage text pages stack_pages bytes

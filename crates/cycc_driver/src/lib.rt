@@ -18,4 +18,4 @@ pub use evaluating::{evaluate, evaluate_watched};
 pub use executing::{Limits, Watched, execute, execute_watched};
 pub use fault::{CompileFault, Place};
 pub use stack_needs::{Recursion, StackNeeds};
-pub use stacks::{Stack, stack};
+pub use stacks::{StackUse, stack};

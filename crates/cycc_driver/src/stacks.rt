@@ -17,7 +17,7 @@ use std::alloc::{AllocError, Global};
 
 /// How much stack a program's functions need, and which recursion is reached, if one is. Functions have numbers in the order of the text, from 0 on.
 #[derive(Drop)]
-pub struct Stack {
+pub struct StackUse {
     /// The names of the functions.
     pub names: Vec<Vec<u8>>,
     /// The bytes of the frame of each.
@@ -60,7 +60,7 @@ fn closing(
 }
 
 /// What a checked program's functions need.
-fn stack_of(alloc: Global, text: &[u8], checked: &Checked) -> Result<Stack, AllocError>
+fn stack_of(alloc: Global, text: &[u8], checked: &Checked) -> Result<StackUse, AllocError>
     ensures { IfOk result (λ stack. IsStackOf checked.now stack) }
 {
     let frames = frames_of(alloc, checked)?;
@@ -69,7 +69,7 @@ fn stack_of(alloc: Global, text: &[u8], checked: &Checked) -> Result<Stack, Allo
     let needs = stack_needs(alloc, items, &frames)?;
     let recursion = recursion_of(alloc, items)?;
     let closes = closing(alloc, text, items, recursion.as_ref())?;
-    Ok(Stack {
+    Ok(StackUse {
         names,
         frames,
         needs,
@@ -82,7 +82,7 @@ fn stack_of(alloc: Global, text: &[u8], checked: &Checked) -> Result<Stack, Allo
 ///
 /// A call counts where the text has it, whether or not it is ever made, with the frames that the code of `compile` has. Where a recursion is reached from
 /// `main`, there is no such number, and one is named. Refuses what `check` refuses, with the same fault, and with `Memory` where no host memory is left.
-pub fn stack(alloc: Global, text: &[u8]) -> Result<Stack, CompileFault>
+pub fn stack(alloc: Global, text: &[u8]) -> Result<StackUse, CompileFault>
     // `main` fits the bytes and no fewer, or none: then a recursion is reached
     ensures needs { IfOk result (IsTextStack text.now) }
     // the fault is that of `check`

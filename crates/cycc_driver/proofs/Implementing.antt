@@ -144,7 +144,7 @@ pub text_image : (text bytes code statics : List ℕ) (program : Program) (parts
     → ((p : Contents) → p.code ≡ code → p.statics ≡ statics → p.entry ≡ 0 → p.block_limit ≡ second_block_limit → Fits p
     → IsImplementedBy program p × IsCloselyImplementedBy program p)
     → IsTextImage text pages stack_pages bytes
-text_image text bytes code statics program parts pages stack_pages accepted image is_code is_statics from_first as_asked stack_as_asked blocks placed data does =
+text_image text bytes code statics program parts pages stack_pages accepted image is_code is_statics from_first as_asked stack_as_asked blocks placed bytes_are does =
     let both = does parts is_code is_statics from_first blocks (image_fits bytes parts image) in
     record {
       program = program;
@@ -155,7 +155,7 @@ text_image text bytes code statics program parts pages stack_pages accepted imag
       stack_as_asked = stack_as_asked;
       blocks = blocks;
       code = subst (λ (bs : List ℕ). ArePlaced (placed_lines program) bs) (sym is_code) placed;
-      statics = is_statics ∙ data;
+      statics = is_statics ∙ bytes_are;
       from_first = from_first;
       implemented = both.0;
       closely = both.1;

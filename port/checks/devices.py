@@ -1,0 +1,2 @@
+def run_devices(board, words):
+    return 0

@@ -5,7 +5,7 @@
 #define DATA_LIES(at) (at)
 #define STACK_LIES(at) (at)
 #define ARENA_LIES(at) (at)
-#define IMAGE_MEMORY { { 0x80001000u, 0x80004000u }, { 0x20500000u, 0x20800000u } }
+#define IMAGE_MEMORY { { 0x80001000u, 0x80004000u }, { 0x20500000u, 0x40000000u } }
 #define IN_BYTES 64
 #define OUT_BYTES 512
 

@@ -3,10 +3,10 @@ import dataclasses
 import os
 import pathlib
 import re
+import struct
 import subprocess
 import sys
 import tempfile
-import threading
 
 TOP = pathlib.Path(__file__).resolve().parent.parent.parent
 sys.path.insert(0, str(TOP / "tools"))
@@ -25,7 +25,7 @@ board = tool("board")
 place = board.place
 PROGRAM = os.environ.get("CYCC", str(TOP / "cycc"))
 UNPROVED = b"cycc: nothing of this run is proved\n"
-SECONDS = 300
+SECONDS = 600
 # what a board's numbers have a name for in `exec --stats`
 COUNTED = ("instructions", "pages", "putchar", "getchar", "region_new", "region_alloc", "region_free", "unique_alloc", "unique_free", "key_new", "key_open",
            "key_close", "key_free")
@@ -69,25 +69,67 @@ def by_program(content, given, room, steps=20_000_000):
 
 
 class Board:
-    """A board with its monitor, which counts."""
+    """A board with its monitor, which counts. It runs many images in one run of QEMU."""
 
     def __init__(self, name, **options):
         self.name = name
-        self.elf = board.monitor(name, **{"statistics": "yes", **options})
+        self.elf = board.monitor(name, console="batch", statistics="yes", **options)
         self.is_small = board.is_small(name)
         self.file_at, self.memory = board.facts(name)
+        makefile = (board.PORT / "Makefile").read_text()
+        self.batch_at = re.search(rf"BATCH_{name} = (0x[0-9A-Fa-f]+)u", makefile)[1]
 
     def file_of(self, content, chart):
         """The board's file of an image."""
         return board.placed_small(content, chart, self.name) if self.is_small else place.unmoved(content)
 
-    def run(self, file, given, room, more=("-icount", "shift=0")):
-        """Runs a board's file."""
-        path = os.path.join(room, f"b{threading.get_ident()}")
-        pathlib.Path(path).write_bytes(file)
-        words = board.qemu_words(self.name, self.elf, path, more=list(more))
-        ran = subprocess.run(words, input=given, capture_output=True, timeout=SECONDS)
-        return told(ran.returncode, ran.stdout, ran.stderr)
+    def once(self, jobs, seconds):
+        """What QEMU writes of images with their inputs, and whether it came to the end."""
+        content = b"".join(entry(file, given) for file, given in jobs) + bytes(8)
+        with tempfile.TemporaryDirectory() as room:
+            path = os.path.join(room, "batch")
+            pathlib.Path(path).write_bytes(content)
+            words = board.qemu_words(self.name, self.elf, path, more=["-icount", "shift=0", "-m", "512M"][: None if self.name == "virt" else 2])
+            words = [re.sub(r"(loader,file=.*/batch),addr=0x[0-9a-f]+", rf"\1,addr={self.batch_at}", word) for word in words]
+            try:
+                return subprocess.run(words, stdin=subprocess.DEVNULL, stdout=subprocess.PIPE, timeout=seconds).stdout, True
+            except subprocess.TimeoutExpired as late:
+                return late.stdout or b"", False
+
+    def run(self, jobs, seconds=SECONDS):
+        """The runs of images with their inputs. One that comes to no end in this time has that as its ending, and the rest are run again."""
+        runs = []
+        while len(runs) < len(jobs):
+            written, is_whole = self.once(jobs[len(runs) :], seconds)
+            runs += runs_of(written)
+            if not is_whole:
+                runs.append(told(124, b"", b"no end"))
+            elif len(runs) < len(jobs):
+                runs.append(told(125, b"", b"QEMU ended"))
+        return runs
+
+
+def entry(file, given):
+    return struct.pack("<II", len(given), -(-len(file) // 4) * 4) + given + bytes(-len(given) % 4) + file + bytes(-len(file) % 4)
+
+
+def runs_of(written):
+    """The runs that a board's monitor wrote in pieces, as far as each is whole."""
+    runs, at, output, said = [], 0, b"", b""
+    while at + 8 <= len(written):
+        letter, count = struct.unpack_from("<II", written, at)
+        piece = written[at + 8 : at + 8 + count]
+        at += 8 + count
+        if len(piece) < count:
+            break
+        if letter == ord("o"):
+            output += piece
+        elif letter == ord("s"):
+            said += piece
+        else:
+            runs.append(told(struct.unpack("<I", piece)[0], output, said))
+            output, said = b"", b""
+    return runs
 
 
 def differences(wanted, found, counts=COUNTED):

@@ -54,6 +54,8 @@ into_image:
     csrw mepc, a0
     li t0, 0x1800                # the mode before the trap: user
     csrc mstatus, t0
+    li t0, 1 << 21               # WFI of user mode traps
+    csrs mstatus, t0
     la sp, monitor_stack_end - FRAME
     sw a1, IMAGE_STACK(sp)
     .irp register, ra, gp, tp, t0, t1, t2, s0, s1, a0, a1, a2, a3, a4, a5, a6, a7, s2, s3, s4, s5, s6, s7, s8, s9, s10, s11, t3, t4, t5, t6

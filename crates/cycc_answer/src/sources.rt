@@ -52,7 +52,7 @@ fn map_of(
     let Ok(image) = load(alloc, image) else {
         return Err(AllocError);
     };
-    Ok(Some(map(alloc, file, image.code())?))
+    Ok(Some(map(alloc, file, &image)?))
 }
 
 /// Compiles a source, and answers with its image, and its map if it is asked for.

@@ -1,8 +1,10 @@
-// The map of a program: the addresses of its functions, checks and calls.
+// The map of a program: the addresses of its functions, checks and calls, and of its words that are addresses of the data or of the stack.
 
+use crate::moved::Moved;
 use crate::points::{Point, Sight};
 use crate::program::Traced;
 use crate::text::name_of;
+use cyc_image::Image;
 use std::alloc::{AllocError, Global};
 
 /// The last address of the function whose test is at this number of the points.
@@ -62,18 +64,43 @@ fn line_of(
     }
 }
 
-/// The map of an accepted text with this code, a line each in the order of the code: of a function its first and its last address, its
-/// frame's bytes and its name; and in it of each raise and call its address, its position, and its exception or the called function. An empty
-/// one where the code isn't the text's.
-pub fn map(alloc: Global, text: &[u8], code: &[u8]) -> Result<String, AllocError> {
+/// Appends a line for each of these addresses.
+fn push_addresses(
+    alloc: Global,
+    map: &mut String,
+    word: &str,
+    addresses: &[u32],
+) -> Result<(), AllocError> {
+    for address in addresses {
+        let address = *address;
+        let line = format!(in alloc; "{word} {address:08x}\n")?;
+        map.push_str(line.as_str())?;
+    }
+    Ok(())
+}
+
+/// Appends the lines of the words that are addresses of the stack or of the data.
+fn push_moved(alloc: Global, map: &mut String, moved: &Moved) -> Result<(), AllocError> {
+    push_addresses(alloc, map, "stack", &moved.stack)?;
+    push_addresses(alloc, map, "data", &moved.data)?;
+    push_addresses(alloc, map, "pointer", &moved.pointers)
+}
+
+/// The map of an accepted text with this image, a line each in the order of the code: of a function its first and its last address, its
+/// frame's bytes and its name; and in it of each raise and call its address, its position, and its exception or the called function. Behind
+/// them come the addresses of the words that `Moved` has, where they can be told. An empty one where the image isn't the text's.
+pub fn map(alloc: Global, text: &[u8], image: &Image) -> Result<String, AllocError> {
     let mut map = String::new(alloc);
-    let Some(traced) = Traced::of(alloc, text, code)? else {
+    let Some(traced) = Traced::of(alloc, text, image.code())? else {
         return Ok(map);
     };
     let names = traced.names(alloc)?;
     for (number, point) in traced.points().iter().enumerate() {
         let line = line_of(alloc, &traced, &names, number, *point)?;
         map.push_str(line.as_str())?;
+    }
+    if let Some(moved) = Moved::of(alloc, text, image, traced.points())? {
+        push_moved(alloc, &mut map, &moved)?;
     }
     Ok(map)
 }

@@ -113,6 +113,11 @@ impl Point {
         self.address.wrapping_sub(before)
     }
 
+    /// Whether it is the test of a large frame, whose function begins with an address of the stack.
+    pub fn is_large_test(self) -> bool {
+        matches!(self.sight, Sight::Test(frame) if frame >= LARGE_FRAME)
+    }
+
     /// Whether it is a function's test of the stack.
     pub fn is_test(self) -> bool {
         matches!(self.sight, Sight::Test(_))

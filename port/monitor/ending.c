@@ -1,34 +1,15 @@
 /* How a run ends: the line of `cycc exec --ending`, and its status. */
 #include "monitor.h"
-#include "store/store.h"
 
-static void say_number(uint32_t number) {
+void say_number(uint32_t number) {
     char text[11], *at = text + sizeof text - 1;
     *at = 0;
     do *--at = '0' + number % 10; while (number /= 10);
     console_say(at);
 }
 
-#ifdef STATISTICS
-uint32_t image_steps[2];                     /* the instructions of the image, and the counter when it went on last */
-static void say_statistics(void) {
-    static const char *const names[14] = { 0, "putchar", "getchar", 0, "region_new", "region_alloc", "region_free", "unique_alloc", "unique_free", "key_new",
-        "key_open", "key_close", "key_free" };
-    console_say("instructions ");
-    say_number(image_steps[0]);
-    console_say("\npages ");
-    say_number(store_most_pages());
-    console_say("\n");
-    for (int i = 0; i < 14; i++) {
-        if (!names[i] || !calls_made[i]) continue;
-        console_say(names[i]);
-        console_say(" ");
-        say_number(calls_made[i]);
-        console_say("\n");
-    }
-}
-#else
-static void say_statistics(void) { }
+#ifndef STATISTICS
+void say_statistics(void) { }
 #endif
 
 static void end(enum status status) __attribute__((noreturn));

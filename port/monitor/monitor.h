@@ -31,6 +31,8 @@ enum status { ENDED_0, ENDED, RAISED, EXHAUSTED, STEP_LIMIT, FAULT, FILE_FAULT, 
 void stop(const char *ending, enum status status) __attribute__((noreturn));
 void stop_ended(uint32_t status) __attribute__((noreturn));
 void stop_at_fault(const char *name, uint32_t pc) __attribute__((noreturn));
+void say_number(uint32_t number);
+void say_statistics(void);                   /* only where the monitor is built for tests */
 extern uint32_t calls_made[14];
 
 /* The console, by semihosting or by a serial line: bytes of the image, the line with the ending, and the end of all. */

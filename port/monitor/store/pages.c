@@ -2,18 +2,18 @@
 #include "pages.h"
 
 struct page pages[MOST_PAGES];
-static uint32_t page_count, longest, ever_used, freed, taken, most_taken;
+uint32_t longest_block;
+static uint32_t page_count, ever_used, freed, taken, most_taken;
 
-void store_new(uint32_t count, uint32_t longest_of_all) {
+void store_new(uint32_t count, uint32_t longest) {
     page_count = count;
-    longest = longest_of_all;
+    longest_block = longest;
     ever_used = freed = taken = most_taken = 0;
     regions_new();
     unique_new();
 }
 
 uint32_t store_most_pages(void) { return most_taken; }
-uint32_t longest_block(void) { return longest; }
 uint32_t address_of(uint32_t page) { return areas[ARENA].at + page * PAGE; }
 
 struct page *page_at(uint32_t address) {
@@ -45,13 +45,16 @@ int take_run(uint32_t count, uint32_t *first) {
     return 1;
 }
 
-void free_chain(uint32_t newest, struct page *last, uint32_t count) {
-    last->kind = OTHER;
-    last->next = freed;
-    freed = newest;
-    taken -= count;
-}
-
 struct page *first_of(uint32_t number, enum kind kind) {
     return number && number <= ever_used && pages[number - 1].kind == kind ? &pages[number - 1] : 0;
+}
+
+enum answer free_region(uint32_t number, enum kind kind) {
+    struct page *first = first_of(number, kind);
+    if (!first) return BAD;
+    first->kind = OTHER;
+    first->next = freed;
+    freed = first->as.region.newest;
+    taken -= first->as.region.count;
+    return GRANTED;
 }

@@ -17,15 +17,14 @@ struct page {
     } as;
 };
 extern struct page pages[MOST_PAGES];
+extern uint32_t longest_block;
 
 int take_page(uint32_t *page);               /* a freed one before one that was never used; 0 where there is none */
 int take_run(uint32_t count, uint32_t *first);                      /* adjacent pages that were never used */
-void free_chain(uint32_t newest, struct page *first, uint32_t count);
+enum answer free_region(uint32_t number, enum kind kind);            /* with all its pages */
 struct page *first_of(uint32_t number, enum kind kind);             /* the first page of a live region or key, or 0 */
 enum answer new_region(enum kind kind, uint32_t *number);
 uint32_t address_of(uint32_t page);
 struct page *page_at(uint32_t address);      /* of a page that was ever used, or 0 */
-uint32_t longest_block(void);
-void regions_new(void);
-void unique_new(void);
+void regions_new(void), unique_new(void);
 #endif

@@ -16,13 +16,7 @@ enum answer new_region(enum kind kind, uint32_t *number) {
 }
 
 enum answer region_new(uint32_t *handle) { return new_region(LEXICAL, handle); }
-
-enum answer region_free(uint32_t handle) {
-    struct page *first = first_of(handle, LEXICAL);
-    if (!first) return BAD;
-    free_chain(first->as.region.newest, first, first->as.region.count);
-    return GRANTED;
-}
+enum answer region_free(uint32_t handle) { return free_region(handle, LEXICAL); }
 
 /* Puts a page in front of a region's chain; of the heap there is none. */
 static void link_page(struct page *first, uint32_t page) {
@@ -65,7 +59,7 @@ enum answer region_alloc(uint32_t handle, uint32_t bytes, uint32_t *address) {
     struct page *first = first_of(handle, LEXICAL);
     if (!first) first = first_of(handle, OPEN_KEY);
     if (handle && !first) return BAD;
-    if (bytes > longest_block()) return FULL;
+    if (bytes > longest_block) return FULL;
     bytes = bytes ? (bytes + 7) & ~7u : 8;
     return bytes > PAGE ? large_block(first, bytes, address) : small_block(first, bytes, address);
 }

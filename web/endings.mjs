@@ -1,0 +1,53 @@
+// What cycc prints of a run on standard error, taken apart, and said in words.
+
+const COUNTS = {
+    instructions: "instructions executed",
+    calls: "calls of functions",
+    stack: "bytes of the stack at its deepest",
+    pages: "pages of the arena taken at once, at most",
+    putchar: "bytes written",
+    getchar: "bytes read, or ends of the input",
+    region_new: "regions made",
+    region_alloc: "blocks made in regions and the heap",
+    region_free: "regions freed",
+    unique_alloc: "unique blocks made",
+    unique_free: "unique blocks freed",
+    key_new: "dynamic regions made",
+    key_open: "times a key was opened",
+    key_close: "times a key was closed",
+    key_free: "dynamic regions freed",
+    raise: "checks that failed",
+    exit: "ends",
+};
+
+/** What a count of --stats means. */
+export function meaningOf(name) {
+    return COUNTS[name] ?? name;
+}
+
+/** The lines of a run with --ending, --where and --stats: the ending, the positions, the counts, and what else there is. */
+export function partsOf(said) {
+    const found = { ending: "", places: [], more: 0, counts: new Map(), notes: [] };
+    for (const line of said.split("\n").filter((it) => it)) {
+        const place = /^[^ :]+:(\d+):(\d+): (.*)$/.exec(line), count = /^([a-z_]+) (\d+)$/.exec(line), more = /^\.\. (\d+) calls$/.exec(line);
+        if (place) found.places.push({ line: Number(place[1]), column: Number(place[2]), words: place[3] });
+        else if (more) found.more = Number(more[1]);
+        else if (!found.ending) found.ending = line;
+        else if (count && count[1] in COUNTS) found.counts.set(count[1], Number(count[2]));
+        else found.notes.push(line);
+    }
+    return found;
+}
+
+/** The kind of an ending and what it means, in a sentence. */
+export function inWords(ending) {
+    const ended = /^ended (-?\d+)$/.exec(ending);
+    if (ended?.[1] === "0") return { kind: "good", words: "The program ended by itself. main gave 0." };
+    if (ended) return { kind: "plain", words: `The program ended by itself. main gave ${ended[1]}, so the exit status is 1.` };
+    if (ending === "raised Array_bounds") return { kind: "bad", words: "Stopped by a check: an index is outside of its array. Nothing was read or written there." };
+    if (ending === "raised Null_Exception") return { kind: "bad", words: "Stopped by a check: NULL was followed. Nothing was read or written there." };
+    if (/^(exhausted|arena|stack)/.test(ending)) return { kind: "warn", words: "Stopped: the memory is used up. More pages or stack pages may help." };
+    if (/^step limit/.test(ending)) return { kind: "warn", words: "Stopped: the steps are used up. It may run for ever, or need more steps." };
+    if (ending === "stuck" || ending.startsWith("fault")) return { kind: "bad", words: "The machine stopped at a fault." };
+    return { kind: "bad", words: ending || "The program said nothing of its end." };
+}

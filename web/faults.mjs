@@ -1,0 +1,94 @@
+// The faults of a source: they are found as one types, underlined, and listed below the editor.
+
+/** The faults that check --all --why prints: each with its position, its name and the words behind. */
+export function faultsOf(said) {
+    const found = [];
+    const lines = said.replace(/\n$/, "").split("\n");
+    for (let at = 0; at < lines.length; at++) {
+        const head = /^[^:]*:(\d+):(\d+): (\w+)$/.exec(lines[at]);
+        if (head) {
+            found.push({ line: Number(head[1]), column: Number(head[2]), name: head[3], words: [] });
+            at += 2;
+        } else {
+            found.at(-1)?.words.push(lines[at]);
+        }
+    }
+    return found;
+}
+
+/** A fault in one line: what was found and wanted where that is known, else what the fault means. */
+function inShort(fault) {
+    const own = fault.words.slice(1).filter((it) => it).join("; ");
+    return `${fault.name}: ${own || fault.words[0] || ""}`;
+}
+
+export class Faults {
+    constructor(root, editor, program) {
+        Object.assign(this, { root, editor, program, list: root.querySelector("ol"), state: root.querySelector(".state") });
+        Object.assign(this, { found: [], timer: 0, isChecking: false, isStale: false, told: () => {} });
+    }
+
+    /** Checks the text, `delay` milliseconds after the last call. One check runs at a time. */
+    soon(delay = 200) {
+        clearTimeout(this.timer);
+        this.timer = setTimeout(() => this.check(), delay);
+    }
+
+    async check() {
+        if (this.isChecking) {
+            this.isStale = true;
+            return;
+        }
+        this.isChecking = true;
+        const text = this.editor.text;
+        const files = { "program.cyc": new TextEncoder().encode(text) };
+        try {
+            const done = await this.program.ask({ words: ["check", "program.cyc", "--all", "--why"], files });
+            if (text === this.editor.text) this.show(done);
+        } catch (error) {
+            this.say("failed", error.message);
+        }
+        this.isChecking = false;
+        if (this.isStale || text !== this.editor.text) {
+            this.isStale = false;
+            this.check();
+        }
+    }
+
+    say(kind, words) {
+        this.state.className = `state ${kind}`;
+        this.state.textContent = words;
+    }
+
+    show({ status, err }) {
+        this.found = status === 8 ? faultsOf(err) : [];
+        const count = this.found.length;
+        if (status === 0) this.say("good", "Accepted");
+        else if (count) this.say("bad", count === 1 ? "1 fault" : `${count} faults`);
+        else this.say("bad", err.trim());
+        this.editor.setMarks(this.found.map((it) => ({ ...it, kind: "fault", words: inShort(it) })));
+        this.list.replaceChildren(...this.found.map((it) => this.row(it)));
+        this.told(this.found);
+    }
+
+    row(fault) {
+        const made = document.createElement("li");
+        const button = document.createElement("button");
+        button.type = "button";
+        button.innerHTML = "<b></b> <span></span>";
+        button.firstChild.textContent = fault.name;
+        button.lastChild.textContent = `line ${fault.line}, column ${fault.column}`;
+        button.addEventListener("click", () => this.editor.go(fault.line, fault.column));
+        const words = document.createElement("p");
+        words.textContent = fault.words.filter((it) => it).join("\n");
+        made.append(button, words);
+        return made;
+    }
+
+    /** Goes to the next fault behind the cursor, or to the first one. */
+    next() {
+        const sorted = [...this.found].sort((a, b) => a.line - b.line || a.column - b.column);
+        const fault = sorted.find((it) => it.line > this.editor.line) ?? sorted[0];
+        if (fault) this.editor.go(fault.line, fault.column);
+    }
+}

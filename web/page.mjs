@@ -1,0 +1,163 @@
+// The page: it loads the program and its texts, and puts the parts together.
+import { Editor } from "./editor.mjs";
+import { Faults } from "./faults.mjs";
+import { Guide } from "./guide.mjs";
+import { Instructions } from "./instructions.mjs";
+import { packed, unpacked } from "./link.mjs";
+import { made } from "./markdown.mjs";
+import { Meaning, showStatistics } from "./meaning.mjs";
+import { Picture } from "./picture.mjs";
+import { Program } from "./program.mjs";
+import { Running } from "./running.mjs";
+import { grammarOf } from "./tokens.mjs";
+
+const DEFAULTS = { input: "", pages: 1024, stackPages: 256, steps: 4294967295 };
+const part = (name) => document.getElementById(name);
+
+/** A number of a field, or what it is by default where it isn't one in range. */
+function numberIn(name, least, most) {
+    const field = part(name), value = Number(field.value);
+    const isGood = Number.isInteger(value) && value >= least && value <= most;
+    field.setAttribute("aria-invalid", String(!isGood));
+    return isGood ? value : DEFAULTS[name];
+}
+
+/** The files, the input and the limits of a run, as they stand in the page. */
+function options(editor) {
+    const encoder = new TextEncoder();
+    const pages = numberIn("pages", 1, 4096), stackPages = numberIn("stackPages", 1, 4096), steps = numberIn("steps", 0, 1e15);
+    const limits = ["--pages", String(pages), "--stack-pages", String(stackPages)];
+    const words = [...limits, "--steps", String(steps), "--ending", "--where", "--stats"];
+    return { files: { "program.cyc": encoder.encode(editor.text) }, input: encoder.encode(part("input").value), pages, limits, words, fuel: steps };
+}
+
+/** Tabs that the arrow keys go through. `chosen` is called with the panel that comes to be seen. */
+function tabs(list, chosen) {
+    const all = [...list.querySelectorAll("[role=tab]")];
+    const choose = (tab, isFocused) => {
+        for (const it of all) {
+            const is = it === tab;
+            it.setAttribute("aria-selected", String(is));
+            it.tabIndex = is ? 0 : -1;
+            part(it.getAttribute("aria-controls")).hidden = !is;
+        }
+        if (isFocused) tab.focus();
+        chosen(tab.getAttribute("aria-controls"));
+    };
+    list.addEventListener("click", (event) => event.target.closest("[role=tab]") && choose(event.target.closest("[role=tab]")));
+    list.addEventListener("keydown", (event) => {
+        const by = { ArrowRight: 1, ArrowLeft: -1 }[event.key];
+        if (!by) return;
+        event.preventDefault();
+        choose(all[(all.indexOf(document.activeElement) + by + all.length) % all.length], true);
+    });
+}
+
+/** Light or dark: as the system has it, or as the reader chose. */
+function themes() {
+    const button = part("theme"), system = matchMedia("(prefers-color-scheme: dark)");
+    const set = (theme) => {
+        document.documentElement.dataset.theme = theme;
+        button.textContent = theme === "dark" ? "Light" : "Dark";
+        dispatchEvent(new Event("themed"));
+    };
+    set(system.matches ? "dark" : "light");
+    system.addEventListener("change", () => set(system.matches ? "dark" : "light"));
+    button.addEventListener("click", () => set(document.documentElement.dataset.theme === "dark" ? "light" : "dark"));
+}
+
+/** What is fetched: once, when the page is opened. */
+async function fetched() {
+    const get = async (name) => {
+        const got = await fetch(new URL(name, import.meta.url));
+        if (!got.ok) throw new Error(`${name} isn't there: make it by tools/web`);
+        return got;
+    };
+    const [program, content] = await Promise.all([get("cycc.wasm"), get("content.json")]);
+    return { module: await WebAssembly.compile(await program.arrayBuffer()), content: await content.json() };
+}
+
+function examples(content, load) {
+    const choice = part("example");
+    choice.append(...Object.keys(content.examples).map((it) => made("option", { value: it }, it.replace("examples/", ""))));
+    choice.addEventListener("change", () => {
+        if (choice.value) load({ ...content.examples[choice.value], name: choice.value });
+        choice.value = "";
+    });
+}
+
+/** The button that copies a link to what stands in the page. The address has it too, where it can't be copied. */
+function linking(editor) {
+    part("link").addEventListener("click", async () => {
+        const said = part("linked"), values = { source: editor.text, input: part("input").value };
+        for (const it of ["pages", "stackPages", "steps"]) values[it] = Number(part(it).value);
+        history.replaceState(null, "", `#${await packed(values)}`);
+        said.textContent = "The address of this page has the source now.";
+        await navigator.clipboard?.writeText(location.href).then(() => { said.textContent = "Copied: the link has the source."; }, () => {});
+        setTimeout(() => { said.textContent = ""; }, 4000);
+    });
+}
+
+function keys(running, faults) {
+    addEventListener("keydown", (event) => {
+        if (event.key === "Enter" && (event.ctrlKey || event.metaKey)) running.run();
+        else if (event.key === "F8") faults.next();
+        else return;
+        event.preventDefault();
+    });
+}
+
+/** Loads a program into the page, with its input and limits. */
+function loader(editor, faults) {
+    return (it) => {
+        for (const name of Object.keys(DEFAULTS)) part(name).value = it[name] ?? DEFAULTS[name];
+        part("name").textContent = it.name ?? "program.cyc";
+        editor.text = it.source;
+        faults.soon(0);
+    };
+}
+
+async function start() {
+    themes();
+    const { module, content } = await fetched();
+    const editor = new Editor(part("editor"), grammarOf(content.grammar));
+    const now = () => options(editor), looking = new Program(module);
+    const faults = new Faults(part("faults"), editor, new Program(module));
+    const running = new Running(part("output"), editor, new Program(module), now);
+    const instructions = new Instructions(part("instructions"), editor, looking, now);
+    const meaning = new Meaning(part("meaning"), new Program(module), now);
+    const picture = new Picture(part("memory"), new Program(module), now);
+    tabs(part("tabs"), (panel) => ({ instructions, memory: picture })[panel]?.show());
+    running.told = (is) => Object.assign(part("run"), { disabled: is }) && Object.assign(part("stop"), { disabled: !is });
+    running.ended = (run) => {
+        meaning.last = run;
+        showStatistics(part("statistics"), run);
+        picture.take(run);
+    };
+    editor.changed = () => {
+        editor.lines = new Map();
+        instructions.stale();
+        faults.soon();
+    };
+    part("run").addEventListener("click", () => running.run());
+    part("stop").addEventListener("click", () => running.stop());
+    addEventListener("themed", () => picture.choose(picture.at));
+    keys(running, faults);
+    linking(editor);
+    const load = loader(editor, faults), guide = new Guide(part("guide"), content, load);
+    examples(content, load);
+    part("build").textContent = content.build;
+    guide.show("start");
+    const given = await unpacked(location.hash);
+    load(given ?? { ...content.examples["examples/hello.cyc"], name: "examples/hello.cyc" });
+    addEventListener("hashchange", async () => {
+        const other = await unpacked(location.hash);
+        if (other) load(other);
+    });
+    document.body.classList.add("ready");
+}
+
+start().catch((error) => {
+    part("build").textContent = `The page can't start: ${error.message}`;
+    part("build").classList.add("bad");
+});

@@ -1,0 +1,97 @@
+// Runs the program: its output as it comes, how it ended, and where.
+import { inWords, partsOf } from "./endings.mjs";
+import { made } from "./markdown.mjs";
+import { Stopped } from "./program.mjs";
+
+/** The most characters of output that are shown. */
+const SHOWN = 400000;
+
+export class Running {
+    constructor(root, editor, program, options) {
+        Object.assign(this, { root, editor, program, options, isRunning: false, told: () => {}, ended: () => {} });
+        const part = (name) => root.querySelector(name);
+        Object.assign(this, { banner: part(".ending"), calls: part(".calls"), output: part(".output") });
+    }
+
+    put(bytes) {
+        if (this.output.textContent.length > SHOWN) return;
+        const text = this.decoder.decode(bytes, { stream: true });
+        this.output.append(text);
+        this.output.scrollTop = this.output.scrollHeight;
+    }
+
+    say(kind, ...words) {
+        this.banner.className = `ending ${kind}`;
+        this.banner.replaceChildren(...words);
+    }
+
+    clear() {
+        this.decoder = new TextDecoder();
+        this.output.replaceChildren();
+        this.calls.replaceChildren();
+        this.editor.setLines(new Map());
+        this.say("plain", "Running. Stop ends it.");
+    }
+
+    async run() {
+        if (this.isRunning) return;
+        this.isRunning = true;
+        this.told(true);
+        this.clear();
+        const { files, input, words } = this.options();
+        const began = performance.now();
+        try {
+            const done = await this.program.ask({ words: ["run", "program.cyc", ...words], files, input }, (bytes) => this.put(bytes));
+            this.show(done, (performance.now() - began) / 1000);
+        } catch (error) {
+            this.stopped(error, (performance.now() - began) / 1000);
+        }
+        this.isRunning = false;
+        this.told(false);
+    }
+
+    stop() {
+        this.program.stop();
+    }
+
+    stopped(error, seconds) {
+        if (error instanceof Stopped) this.say("warn", `You stopped it, after ${seconds.toFixed(1)} seconds.`);
+        else this.say("bad", error.message);
+        this.ended(null);
+    }
+
+    show(done, seconds) {
+        const found = partsOf(done.err);
+        if (done.status === 8) {
+            this.say("bad", "The source is rejected, so there is nothing to run. Its faults are listed below the editor.");
+            this.ended(null);
+            return;
+        }
+        const { kind, words } = inWords(found.ending);
+        const time = made("span", { className: "quiet" }, ` ${found.ending}, status ${done.status}, ${seconds.toFixed(2)} s`);
+        this.say(kind, words, time);
+        if (done.left) this.output.append(`\n.. and ${done.left.toLocaleString("en")} bytes more, which are not shown\n`);
+        this.showPlaces(found, kind);
+        this.ended({ ...found, done });
+    }
+
+    /** The line at which the run stopped is marked, and the calls that led there. */
+    showPlaces(found, kind) {
+        const [first, ...calls] = found.places;
+        const isRaise = first && !first.words.startsWith("call of");
+        const lines = new Map();
+        for (const it of isRaise ? calls : found.places) lines.set(it.line, "called");
+        if (isRaise) lines.set(first.line, "stopped");
+        this.editor.setLines(lines);
+        const rows = found.places.map((it, index) => this.place(it, index === 0 && isRaise));
+        for (const it of found.notes) rows.unshift(made("li", {}, it));
+        if (found.more) rows.push(made("li", {}, `and ${found.more} calls more`));
+        if (rows.length) this.calls.replaceChildren(made("h3", {}, kind === "bad" ? "Where it stopped, and the calls that led there" : "Where it was"), made("ol", {}, ...rows));
+    }
+
+    place(it, isRaise) {
+        const button = made("button", { type: "button" }, isRaise ? "stopped at " : `${it.words}, at `, `line ${it.line}, column ${it.column}`);
+        button.addEventListener("click", () => this.editor.go(it.line, it.column));
+        return made("li", {}, button);
+    }
+}

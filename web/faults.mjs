@@ -30,6 +30,7 @@ export class Faults {
 
     /** Checks the text, `delay` milliseconds after the last call. One check runs at a time. */
     soon(delay = 200) {
+        this.say("", "Checking");
         clearTimeout(this.timer);
         this.timer = setTimeout(() => this.check(), delay);
     }

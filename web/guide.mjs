@@ -1,5 +1,6 @@
 // The side of the page that one reads: the ten steps of the tutorial, each with its program, refusals and cures, and the documents.
-import { cells, inline, made, shown } from "./markdown.mjs";
+import { laidOut } from "./layout.mjs";
+import { inline, made, shown } from "./markdown.mjs";
 
 /** The name of a program that is loaded from a row of a table. */
 function rowButton(words, choose) {
@@ -54,9 +55,9 @@ export class Guide {
         ];
     }
 
-    /** Loads a short source of a table, which stands in one line, laid out as it is. */
+    /** Loads a short source of a table, which stands there in one line. */
     try(source, name) {
-        this.load({ source: `${source}\n`, name });
+        this.load({ source: laidOut(source), name });
     }
 
     lesson(index) {
@@ -77,5 +78,3 @@ export class Guide {
         return [made("p", {}, ...inline(row.what, this.links)), made("p", { className: "pair" }, refused, cured)];
     }
 }
-
-export { cells };

@@ -7,7 +7,7 @@ import { packed, unpacked } from "./link.mjs";
 import { made } from "./markdown.mjs";
 import { Meaning, showStatistics } from "./meaning.mjs";
 import { Picture } from "./picture.mjs";
-import { Program } from "./program.mjs";
+import { Program, workerOf } from "./program.mjs";
 import { Running } from "./running.mjs";
 import { grammarOf } from "./tokens.mjs";
 
@@ -73,8 +73,9 @@ async function fetched() {
         if (!got.ok) throw new Error(`${name} isn't there: make it by tools/web`);
         return got;
     };
-    const [program, content] = await Promise.all([get("cycc.wasm"), get("content.json")]);
-    return { module: await WebAssembly.compile(await program.arrayBuffer()), content: await content.json() };
+    const [program, content, ...scripts] = await Promise.all(["cycc.wasm", "content.json", "cycc.mjs", "worker.mjs"].map(get));
+    const script = workerOf(await scripts[0].text(), await scripts[1].text());
+    return { cycc: { module: await WebAssembly.compile(await program.arrayBuffer()), script }, content: await content.json() };
 }
 
 function examples(content, load) {
@@ -119,14 +120,14 @@ function loader(editor, faults) {
 
 async function start() {
     themes();
-    const { module, content } = await fetched();
+    const { cycc, content } = await fetched();
     const editor = new Editor(part("editor"), grammarOf(content.grammar));
-    const now = () => options(editor), looking = new Program(module);
-    const faults = new Faults(part("faults"), editor, new Program(module));
-    const running = new Running(part("output"), editor, new Program(module), now);
+    const now = () => options(editor), looking = new Program(cycc);
+    const faults = new Faults(part("faults"), editor, new Program(cycc));
+    const running = new Running(part("output"), editor, new Program(cycc), now);
     const instructions = new Instructions(part("instructions"), editor, looking, now);
-    const meaning = new Meaning(part("meaning"), new Program(module), now);
-    const picture = new Picture(part("memory"), new Program(module), now);
+    const meaning = new Meaning(part("meaning"), new Program(cycc), now);
+    const picture = new Picture(part("memory"), new Program(cycc), now);
     tabs(part("tabs"), (panel) => ({ instructions, memory: picture })[panel]?.show());
     running.told = (is) => Object.assign(part("run"), { disabled: is }) && Object.assign(part("stop"), { disabled: !is });
     running.ended = (run) => {

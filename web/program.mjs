@@ -2,13 +2,19 @@
 
 export class Stopped extends Error {}
 
+/** The address of the worker's script with the loader in it, so that no later start of a worker asks the server for anything. */
+export function workerOf(loader, worker) {
+    const whole = `${loader}\n${worker.replace(/^import .*$/m, "")}`;
+    return URL.createObjectURL(new Blob([whole], { type: "text/javascript" }));
+}
+
 export class Program {
-    constructor(module) {
-        Object.assign(this, { module, worker: null, waiting: new Map(), next: 1 });
+    constructor({ module, script }) {
+        Object.assign(this, { module, script, worker: null, waiting: new Map(), next: 1 });
     }
 
     start() {
-        this.worker = new Worker(new URL("worker.mjs", import.meta.url), { type: "module" });
+        this.worker = new Worker(this.script, { type: "module" });
         this.worker.postMessage({ module: this.module });
         this.worker.onmessage = ({ data }) => this.got(data);
         this.worker.onerror = (event) => this.fail(new Error(event.message || "the worker doesn't start"));

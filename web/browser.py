@@ -24,6 +24,10 @@ class Broken(Exception):
     """The browser answers with an error, or no more."""
 
 
+class Late(Broken):
+    """Something isn't seen in its time, which may be for the machine's sake."""
+
+
 class Socket:
     """A WebSocket of texts, as a client."""
 
@@ -121,7 +125,7 @@ class Browser:
             if value:
                 return value
             time.sleep(0.1)
-        raise Broken(f"not seen in {seconds} seconds: {what}")
+        raise Late(f"not seen in {seconds} seconds: {what}")
 
     def close(self):
         self.process.terminate()
@@ -173,7 +177,7 @@ class Chromium(Browser):
 
     def press(self, key, control=False, shift=False):
         code, _, text = KEYS.get(key, (0, key, key))
-        how = {"key": key, "code": key if len(key) > 1 else "", "windowsVirtualKeyCode": code or ord(key.upper()), "modifiers": 2 * control + 8 * shift}
+        how = {"key": key, "code": key if len(key) > 1 else "", "windowsVirtualKeyCode": code or (ord(key.upper()) if key.isalnum() else 0), "modifiers": 2 * control + 8 * shift}
         if text and not control:
             how["text"] = text
         self.ask("Input.dispatchKeyEvent", self.session, type="keyDown", **how)

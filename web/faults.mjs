@@ -16,10 +16,10 @@ export function faultsOf(said) {
     return found;
 }
 
-/** A fault in one line: what was found and wanted where that is known, else what the fault means. */
+/** A fault in one line: which region has to outlive which, what was found and wanted, or else what the fault means. */
 function inShort(fault) {
-    const own = fault.words.slice(1).filter((it) => it).join("; ");
-    return `${fault.name}: ${own || fault.words[0] || ""}`;
+    const own = fault.words.slice(1).filter((it) => it), regions = own.find((it) => it.startsWith("The region "));
+    return `${fault.name}: ${regions ?? (own.join("; ").replace(/: +/g, ": ") || fault.words[0] || "")}`;
 }
 
 export class Faults {

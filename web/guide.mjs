@@ -55,9 +55,10 @@ export class Guide {
         ];
     }
 
-    /** Loads a short source of a table, which stands there in one line. */
+    /** Loads a short source of a table, which stands there in one line, and may leave an empty main out. */
     try(source, name) {
-        this.load({ source: laidOut(source), name });
+        const whole = /\bmain\s*\(/.test(source) ? source : `${source} int main() { }`;
+        this.load({ source: laidOut(whole), name });
     }
 
     lesson(index) {

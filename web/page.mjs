@@ -109,8 +109,9 @@ function keys(running, faults) {
 }
 
 /** Loads a program into the page, with its input and limits. */
-function loader(editor, faults) {
+function loader(editor, faults, running) {
     return (it) => {
+        running.reset();
         for (const name of Object.keys(DEFAULTS)) part(name).value = it[name] ?? DEFAULTS[name];
         part("name").textContent = it.name ?? "program.cyc";
         editor.text = it.source;
@@ -145,7 +146,7 @@ async function start() {
     addEventListener("themed", () => picture.choose(picture.at));
     keys(running, faults);
     linking(editor);
-    const load = loader(editor, faults), guide = new Guide(part("guide"), content, load);
+    const load = loader(editor, faults, running), guide = new Guide(part("guide"), content, load);
     examples(content, load);
     part("build").textContent = content.build;
     guide.show("start");

@@ -25,6 +25,14 @@ export class Running {
         this.banner.replaceChildren(...words);
     }
 
+    /** As if nothing was run yet. A run that goes on is stopped. */
+    reset() {
+        if (this.isRunning) this.stop();
+        this.clear();
+        this.say("quiet", "Run the program to see what it writes.");
+        this.ended(null);
+    }
+
     clear() {
         this.decoder = new TextDecoder();
         this.output.replaceChildren();

@@ -108,12 +108,15 @@ function keys(running, faults) {
     });
 }
 
+/** The program that was loaded last: its name, and its source as it was then. */
+let loaded = { name: "program.cyc", source: "" };
+
 /** Loads a program into the page, with its input and limits. */
 function loader(editor, faults, running) {
     return (it) => {
         running.reset();
+        loaded = { name: it.name ?? "program.cyc", source: it.source };
         for (const name of Object.keys(DEFAULTS)) part(name).value = it[name] ?? DEFAULTS[name];
-        part("name").textContent = it.name ?? "program.cyc";
         editor.text = it.source;
         faults.soon(0);
     };
@@ -137,6 +140,7 @@ async function start() {
         picture.take(run);
     };
     editor.changed = () => {
+        part("name").textContent = `${loaded.name}${editor.text === loaded.source ? "" : ", changed"}`;
         editor.lines = new Map();
         instructions.stale();
         faults.soon();

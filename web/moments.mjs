@@ -4,7 +4,8 @@ import { compiled } from "./instructions.mjs";
 import { partsOf } from "./endings.mjs";
 
 const HEAP = 4097, TAKEN = 4098;
-const SECONDS = 4;
+/** Moments are looked at for so long; then at least so many, but no longer than that. */
+const SECONDS = 4, LEAST = 12, LONGEST = 30;
 
 /** How the pages of the arena are used, by their headers (docs/STORES.md, The pool): for each page up to the last one that was ever used its owner. */
 export function pagesOf(headers) {
@@ -85,7 +86,8 @@ export class Moments {
             if (wanted !== this.wanted) return;
             this.known.push(moment);
             this.known.sort((a, b) => a.steps - b.steps);
-            const isOver = performance.now() - began > 1000 * SECONDS;
+            const seconds = (performance.now() - began) / 1000;
+            const isOver = seconds > LONGEST || (seconds > SECONDS && this.known.length >= LEAST);
             told(isOver);
             if (isOver) return;
         }

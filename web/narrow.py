@@ -4,13 +4,14 @@ The program keeps its 64 bits: a pointer is an i64 in its variables and in memor
 to 32 bits by i32.wrap_i64. The module never has more than 4 GiB, so each address that it uses is one of 32 bits already. What is changed:
 
 - The memory and the table are declared with indices of 32 bits, and the offsets of their segments are i32.
-- In front of a load, of call_indirect and of memory.grow an i32.wrap_i64 is put. The address of a store lies below the value, which is put aside
-  into a local meanwhile, but where the instruction before has just pushed it.
+- In front of a load, of call_indirect and of memory.grow an i32.wrap_i64 is put. The address of a store lies below other values, and so do those of
+  memory.copy and memory.fill: they are cut where they are made (`Operands`), or where that isn't known, the values above are put aside meanwhile.
 - The results of memory.size and memory.grow are made i64 again.
 - Sections of names and of the like are left out.
 
 `Unknown` is raised at anything else that depends on the width, so that nothing is passed on half changed.
 """
+from operands import Operands
 
 I32, I64, F32, F64 = 0x7F, 0x7E, 0x7D, 0x7C
 WRAP, EXTEND_SIGNED, EXTEND_UNSIGNED = 0xA7, 0xAC, 0xAD
@@ -21,6 +22,8 @@ LOADS = range(0x28, 0x36)
 BLOCKS = (0x02, 0x03, 0x04)
 # one index: br, br_if, call, the locals and the globals
 ONE_INDEX = (0x0C, 0x0D, 0x10, 0x20, 0x21, 0x22, 0x23, 0x24)
+# the beginnings and ends of blocks, and the branches
+CONTROL = (0x00, 0x02, 0x03, 0x04, 0x05, 0x0B, 0x0C, 0x0D, 0x0E, 0x0F)
 # nothing behind them: unreachable, nop, else, end, return, drop, select, and all comparisons, sums and conversions
 ALONE = (0x00, 0x01, 0x05, 0x0B, 0x0F, 0x1A, 0x1B, *range(0x45, 0xC5))
 
@@ -39,13 +42,6 @@ def number(data, at):
         if byte < 0x80:
             return value, at
         shift += 7
-
-
-def behind(data, at):
-    """Where the LEB128 that begins here ends."""
-    while data[at] >= 0x80:
-        at += 1
-    return at + 1
 
 
 def leb(value):
@@ -86,33 +82,42 @@ class Locals:
         return leb(self.count + self.added.index((kind, which)))
 
 
-def store(out, last, slots, kind):
-    """What stands in front of a store: the address below the value is cut. `last` is where the instruction that pushed the value alone begins."""
-    if last is not None:
-        out.insert(last, WRAP)
+def cut(out, places):
+    """Cuts values where they were made. The places of values that lie higher come first, so that the others stay."""
+    for place in sorted(places, reverse=True):
+        out.insert(place, WRAP)
+
+
+def store(out, stack, slots, kind):
+    """What stands in front of a store: the address below the value is cut."""
+    _, address = stack.take_many(2)
+    if address is not None:
+        cut(out, [address])
         return
     place = slots.of(kind)
     out += bytes([LOCAL_SET]) + place + bytes([WRAP, LOCAL_GET]) + place
 
 
-def bulk(out, data, at, slots):
+def bulk(out, data, at, stack, slots):
     """memory.copy and memory.fill: two addresses, or one and a byte, and a length of 64 bits on top."""
     kind, end = number(data, at)
-    length = slots.of(I64, 1)
-    if kind == 10 and data[end:end + 2] == b"\0\0":
-        second, end = slots.of(I64), end + 2
-        cut = bytes([WRAP])
-    elif kind == 11 and data[end] == 0:
-        second, end = slots.of(I32), end + 1
-        cut = b""
-    elif kind <= 7:
-        out.append(0xFC)
-        out += data[at:end]
+    if kind <= 7:
+        stack.plain(0x22, None)
+        out += bytes([0xFC]) + data[at:end]
+        stack.places[-1] = len(out)
         return end
-    else:
+    if kind not in (10, 11) or any(data[end:end + 12 - kind]):
         raise Unknown(f"the instruction fc {kind}")
-    out += bytes([LOCAL_SET]) + length + bytes([LOCAL_SET]) + second + bytes([WRAP, LOCAL_GET]) + second + cut
-    out += bytes([LOCAL_GET]) + length + bytes([WRAP, 0xFC]) + data[at:end]
+    end += 12 - kind
+    length, second, first = stack.take_many(3)
+    wide = [length, second, first] if kind == 10 else [length, first]
+    if None not in wide:
+        cut(out, wide)
+    else:
+        lower, upper = slots.of(I64 if kind == 10 else I32), slots.of(I64, 1)
+        out += bytes([LOCAL_SET]) + upper + bytes([LOCAL_SET]) + lower + bytes([WRAP, LOCAL_GET]) + lower
+        out += bytes([WRAP] * (kind == 10)) + bytes([LOCAL_GET]) + upper + bytes([WRAP])
+    out += bytes([0xFC]) + data[at:end]
     return end
 
 
@@ -127,10 +132,11 @@ def access(out, data, at):
 
 
 def plain(out, opcode, data, at):
-    """An instruction that doesn't depend on the width: it is copied, its indices as short as they can be."""
+    """An instruction that doesn't depend on the width: it is copied, its indices as short as they can be. Its first index is answered too."""
     out.append(opcode)
+    value = None
     if opcode in ALONE:
-        return at
+        return at, value
     if opcode in ONE_INDEX:
         value, at = number(data, at)
         out += leb(value)
@@ -145,52 +151,67 @@ def plain(out, opcode, data, at):
         count, at = number(data, at)
         out += leb(count)
         for _ in range(count + (opcode == 0x0E)):
-            value, at = number(data, at)
-            out += leb(value)
+            index, at = number(data, at)
+            out += leb(index)
     else:
         raise Unknown(f"the instruction {opcode:#04x}")
-    return at
+    return at, value
 
 
-def of_table(out, data, at):
+def of_table(out, data, at, stack):
     """call_indirect: its type, and the table 0."""
     kind, at = number(data, at)
     table, at = number(data, at)
     if table:
         raise Unknown("a second table")
     out += bytes([WRAP, 0x11]) + leb(kind) + leb(table)
+    stack.take()
+    stack.call(kind, len(out))
     return at
 
 
-def code(data, at, end, slots):
-    """The instructions of a function, changed."""
-    out, last = bytearray(), None
-    while at < end:
-        opcode, begun = data[at], None
+def of_memory(out, opcode, data, at, stack, slots):
+    """A load, a store, memory.size or memory.grow."""
+    if opcode in (0x3F, 0x40):
+        out += bytes([0x3F, 0, EXTEND_UNSIGNED] if opcode == 0x3F else [WRAP, 0x40, 0, EXTEND_SIGNED])
         at += 1
-        if opcode in LOADS:
-            out += bytes([WRAP, opcode])
-            at = access(out, data, at)
-        elif opcode in STORED:
-            store(out, last, slots, STORED[opcode])
-            out.append(opcode)
-            at = access(out, data, at)
+    elif opcode in LOADS:
+        out += bytes([WRAP, opcode])
+        at = access(out, data, at)
+    else:
+        store(out, stack, slots, STORED[opcode])
+        out.append(opcode)
+        return access(out, data, at)
+    stack.plain(opcode, len(out))
+    return at
+
+
+def code(data, at, end, slots, stack, calls):
+    """The instructions of a function, changed. `calls` has the type of each function."""
+    out = bytearray()
+    while at < end:
+        opcode = data[at]
+        at += 1
+        if 0x28 <= opcode <= 0x40:
+            at = of_memory(out, opcode, data, at, stack, slots)
         elif opcode == 0x11:
-            at = of_table(out, data, at)
-        elif opcode in (0x3F, 0x40):
-            out += bytes([0x3F, 0, EXTEND_UNSIGNED] if opcode == 0x3F else [WRAP, 0x40, 0, EXTEND_SIGNED])
-            at += 1
+            at = of_table(out, data, at, stack)
         elif opcode == 0xFC:
-            at = bulk(out, data, at, slots)
+            at = bulk(out, data, at, stack, slots)
         else:
-            begun = len(out) if opcode in (LOCAL_GET, 0x23, 0x41, 0x42, 0x43, 0x44) else None
-            at = plain(out, opcode, data, at)
-        last = begun
+            at, index = plain(out, opcode, data, at)
+            if opcode == 0x10:
+                stack.call(calls[index], len(out))
+            elif opcode in CONTROL:
+                stack.control(opcode, index, len(out))
+            else:
+                stack.plain(opcode, len(out))
     return bytes(out)
 
 
-def function(data, at, end, parameters):
+def function(data, at, end, kind, types, calls):
     """A function's locals and instructions, changed."""
+    parameters, results = types[kind]
     groups, at = number(data, at)
     count, kept = parameters, b""
     for _ in range(groups):
@@ -198,18 +219,18 @@ def function(data, at, end, parameters):
         kept += leb(many) + data[at:at + 1]
         count, at = count + many, at + 1
     slots = Locals(count)
-    body = code(data, at, end, slots)
+    body = code(data, at, end, slots, Operands(types, results), calls)
     added = b"".join(leb(1) + bytes([kind]) for kind, _ in slots.added)
     return leb(groups + len(slots.added)) + kept + added + body
 
 
-def codes(data, parameters):
-    """The section of code. `parameters` has how many each function takes."""
+def codes(data, types, calls, imported):
+    """The section of code. `calls` has the type of each function, of which the first ones are imported."""
     count, at = number(data, 0)
     out = [leb(count)]
     for which in range(count):
         size, at = number(data, at)
-        body = function(data, at, at + size, parameters[which])
+        body = function(data, at, at + size, calls[imported + which], types, calls)
         out += [leb(len(body)), body]
         at += size
     return b"".join(out)
@@ -272,57 +293,60 @@ def sections(module):
 
 
 def counts_of_types(data):
-    """How many parameters each type of a function has."""
+    """How many parameters and results each type of a function has."""
     count, at = number(data, 0)
     found = []
     for _ in range(count):
         if data[at] != 0x60:
             raise Unknown("a type that is no function's")
         many, at = number(data, at + 1)
-        found.append(many)
         results, at = number(data, at + many)
+        found.append((many, results))
         at += results
     return found
 
 
-def check_imports(data):
-    """No memory and no table is imported."""
+def imports(data):
+    """The types of the imported functions. No memory and no table is imported."""
     count, at = number(data, 0)
+    found = []
     for _ in range(count):
         for _ in range(2):
             size, at = number(data, at)
             at += size
         if data[at] != 0:
             raise Unknown("an import that is no function")
-        at = behind(data, at + 1)
+        kind, at = number(data, at + 1)
+        found.append(kind)
+    return found
 
 
-def parameters_of(data, types):
-    """How many parameters each function of the module has, from the section of functions."""
+def functions(data):
+    """The types of the module's own functions."""
     count, at = number(data, 0)
     found = []
     for _ in range(count):
         kind, at = number(data, at)
-        found.append(types[kind])
+        found.append(kind)
     return found
 
 
 def narrow(module):
     """The module with addresses of 32 bits."""
-    out, types, parameters = [module[:8]], [], []
+    out, types, imported, calls = [module[:8]], [], [], []
     for kind, data in sections(module):
         if kind == 1:
             types = counts_of_types(data)
         elif kind == 2:
-            check_imports(data)
+            imported = imports(data)
         elif kind == 3:
-            parameters = parameters_of(data, types)
+            calls = imported + functions(data)
         elif kind in (4, 5):
             data = limits(data)
         elif kind in (9, 11):
             data = segments(data, kind == 11)
         elif kind == 10:
-            data = codes(data, parameters)
+            data = codes(data, types, calls, len(imported))
         elif kind not in (6, 7, 12):
             raise Unknown(f"a section {kind}")
         out += [bytes([kind]), leb(len(data)), data]

@@ -79,9 +79,10 @@ export class Picture {
         }
     }
 
-    /** The moment with the most pages in use. */
+    /** The moment with the most pages in use, and of those the one with the most bytes. */
     fullest() {
-        const inUse = (it) => it.pages.filter((page) => page.kind !== "free").length;
+        const bytes = (page) => page.kind === "unique" ? page.live * page.size : page.used ?? 0;
+        const inUse = (it) => it.pages.reduce((sum, page) => sum + (page.kind === "free" ? 0 : 65536 + bytes(page)), 0);
         const known = this.moments.known;
         return known.reduce((best, it, index) => inUse(it) > inUse(known[best]) ? index : best, 0);
     }

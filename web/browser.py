@@ -35,8 +35,9 @@ class Socket:
         self.stream = socket.create_connection(("127.0.0.1", port), timeout=seconds)
         self.kept = b""
         key = base64.b64encode(secrets.token_bytes(16)).decode()
-        head = f"GET {path} HTTP/1.1\r\nHost: 127.0.0.1:{port}\r\nUpgrade: websocket\r\nConnection: Upgrade\r\nSec-WebSocket-Key: {key}\r\nSec-WebSocket-Version: 13\r\n\r\n"
-        self.stream.sendall(head.encode())
+        lines = [f"GET {path} HTTP/1.1", f"Host: 127.0.0.1:{port}", "Upgrade: websocket", "Connection: Upgrade", f"Sec-WebSocket-Key: {key}",
+                 "Sec-WebSocket-Version: 13"]
+        self.stream.sendall(("\r\n".join(lines) + "\r\n\r\n").encode())
         while b"\r\n\r\n" not in self.kept:
             self.more()
         head, _, self.kept = self.kept.partition(b"\r\n\r\n")
@@ -163,7 +164,8 @@ class Chromium(Browser):
         self.wait("document.readyState === 'complete'", "the page")
 
     def evaluate(self, expression):
-        got = self.ask("Runtime.evaluate", self.session, expression=f"(async () => JSON.stringify(await ({expression})))()", awaitPromise=True, returnByValue=True)
+        text = f"(async () => JSON.stringify(await ({expression})))()"
+        got = self.ask("Runtime.evaluate", self.session, expression=text, awaitPromise=True, returnByValue=True)
         if "exceptionDetails" in got:
             raise Broken(f"{expression}: {got['exceptionDetails'].get('exception', {}).get('description')}")
         value = got["result"].get("value")
@@ -177,7 +179,8 @@ class Chromium(Browser):
 
     def press(self, key, control=False, shift=False):
         code, _, text = KEYS.get(key, (0, key, key))
-        how = {"key": key, "code": key if len(key) > 1 else "", "windowsVirtualKeyCode": code or (ord(key.upper()) if key.isalnum() else 0), "modifiers": 2 * control + 8 * shift}
+        number = code or (ord(key.upper()) if key.isalnum() else 0)
+        how = {"key": key, "code": key if len(key) > 1 else "", "windowsVirtualKeyCode": number, "modifiers": 2 * control + 8 * shift}
         if text and not control:
             how["text"] = text
         self.ask("Input.dispatchKeyEvent", self.session, type="keyDown", **how)

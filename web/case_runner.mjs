@@ -34,7 +34,8 @@ class CaseHost extends MemoryHost {
     }
 }
 
-const asText = (bytes) => Array.from(bytes, (it) => (it === 10 || (it >= 32 && it < 127)) ? String.fromCharCode(it) : `\\x${it.toString(16).padStart(2, "0")}`).join("");
+const isPlain = (it) => it === 10 || (it >= 32 && it < 127);
+const asText = (bytes) => Array.from(bytes, (it) => isPlain(it) ? String.fromCharCode(it) : `\\x${it.toString(16).padStart(2, "0")}`).join("");
 const same = (bytes, text) => bytes.length === text.length && bytes.every((it, at) => it === text[at]);
 
 /** The pages that an image's header has, or -1 where there is no image. */

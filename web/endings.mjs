@@ -20,6 +20,8 @@ const COUNTS = {
     exit: "ends",
 };
 
+const RAISED = { "raised Array_bounds": "an index is outside of its array", "raised Null_Exception": "NULL was followed" };
+
 /** What a count of --stats means. */
 export function meaningOf(name) {
     return COUNTS[name] ?? name;
@@ -44,8 +46,7 @@ export function inWords(ending) {
     const ended = /^ended (-?\d+)$/.exec(ending);
     if (ended?.[1] === "0") return { kind: "good", words: "The program ended by itself. main gave 0." };
     if (ended) return { kind: "plain", words: `The program ended by itself. main gave ${ended[1]}, so the exit status is 1.` };
-    if (ending === "raised Array_bounds") return { kind: "bad", words: "Stopped by a check: an index is outside of its array. Nothing was read or written there." };
-    if (ending === "raised Null_Exception") return { kind: "bad", words: "Stopped by a check: NULL was followed. Nothing was read or written there." };
+    if (ending in RAISED) return { kind: "bad", words: `Stopped by a check: ${RAISED[ending]}. Nothing was read or written there.` };
     if (/^(exhausted|arena|stack)/.test(ending)) return { kind: "warn", words: "Stopped: the memory is used up. More pages or stack pages may help." };
     if (/^step limit/.test(ending)) return { kind: "warn", words: "Stopped: the steps are used up. It may run for ever, or need more steps." };
     if (ending === "stuck" || ending.startsWith("fault")) return { kind: "bad", words: "The machine stopped at a fault." };

@@ -42,13 +42,16 @@ export class Guide {
         return [
             made("h2", {}, "Begin here"),
             made("p", {}, "cycc compiles a safe C with regions to RISC-V, and runs it. All of it is in this page: nothing you write leaves your browser."),
-            made("p", {}, "The source in the editor is checked as you type. A fault is underlined, and its words stand beside the line and in the list below. Run runs it."),
+            made("p", {}, "The source in the editor is checked as you type. A fault is underlined, and its words stand beside the line and in the list below. "
+                + "Run runs it."),
             made("h3", {}, "What is different from C"),
             made("p", {}, "A pointer can't be followed into memory that was freed: such a source is rejected, before it runs."),
             first,
-            made("p", {}, "The words say which region has to outlive which. Here p lives longer than the region r, which ends with its block, so p can't point into it. Change it: take the number out of the region while it is there."),
+            made("p", {}, "The words say which region has to outlive which. Here p lives longer than the region r, which ends with its block, so p can't point "
+                + "into it. Change it: take the number out of the region while it is there."),
             second,
-            made("p", {}, "An index out of bounds and a NULL that is followed stop the run, and nothing is read or written there. The tab Memory shows regions come and go."),
+            made("p", {}, "An index out of bounds and a NULL that is followed stop the run, and nothing is read or written there. "
+                + "The tab Memory shows regions come and go."),
             made("h3", {}, "And then"),
             made("p", {}, rowButton("The first step of the tutorial", () => this.show("lesson 0"))),
             made("p", { className: "quiet" }, "Keys: Ctrl+Enter runs, F8 goes to the next fault, Tab goes on to the next part of the page."),

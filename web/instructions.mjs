@@ -65,7 +65,8 @@ export class Instructions {
             if (!table || own !== current) {
                 table = made("tbody", {});
                 current = own;
-                sections.push(made("h3", {}, own ? `${own.name}: ` : "the start and the ends", own ? made("span", { className: "quiet" }, `frame of ${own.frame} bytes`) : ""));
+                const frame = own ? made("span", { className: "quiet" }, `frame of ${own.frame} bytes`) : "";
+                sections.push(made("h3", {}, own ? `${own.name}: ` : "the start and the ends", frame));
                 sections.push(made("table", { className: "code" }, table));
             }
             table.append(this.row({ at, address, word, text, own, point: map.points.get(at) }));

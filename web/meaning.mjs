@@ -8,7 +8,10 @@ export function showStatistics(root, run) {
         root.replaceChildren(made("p", { className: "quiet" }, "Run the program: what it took is listed here."));
         return;
     }
-    const row = ([name, count]) => made("tr", {}, made("th", { scope: "row" }, meaningOf(name)), made("td", {}, count.toLocaleString("en")), made("td", {}, made("code", {}, name)));
+    const row = ([name, count]) => {
+        const cells = [made("td", {}, count.toLocaleString("en")), made("td", {}, made("code", {}, name))];
+        return made("tr", {}, made("th", { scope: "row" }, meaningOf(name)), ...cells);
+    };
     const head = made("tr", {}, ...["What", "How many", "Name"].map((it) => made("th", { scope: "col" }, it)));
     const table = made("table", { className: "counts" }, made("thead", {}, head), made("tbody", {}, ...[...run.counts].map(row)));
     const speed = run.counts.get("instructions") / run.done.seconds / 1e6;
@@ -39,10 +42,12 @@ export class Meaning {
     /** What the evaluation wrote and ended with, and whether the last run of the same source did the same. */
     show(done, run) {
         const found = partsOf(done.err), { kind, words } = inWords(found.ending);
-        const parts = [made("p", { className: `ending ${kind}` }, done.status === 8 ? "The source is rejected." : words, made("span", { className: "quiet" }, ` ${found.ending}`))];
+        const ending = made("span", { className: "quiet" }, ` ${found.ending}`);
+        const parts = [made("p", { className: `ending ${kind}` }, done.status === 8 ? "The source is rejected." : words, ending)];
         if (run && done.status !== 8) {
             const isSame = run.done.out === done.out && run.ending === found.ending;
-            const told = isSame ? "The image wrote the same, and ended alike." : "The last run wrote something else or ended otherwise: another text, input, or a limit.";
+            const other = "The last run wrote something else or ended otherwise: another text, input, or a limit.";
+            const told = isSame ? "The image wrote the same, and ended alike." : other;
             parts.push(made("p", { className: isSame ? "same" : "quiet" }, told));
         }
         parts.push(made("pre", { className: "output", tabIndex: 0 }, done.out));

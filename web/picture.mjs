@@ -47,7 +47,8 @@ export class Picture {
     constructor(root, program, options) {
         Object.assign(this, { root, options, moments: new Moments(program, options), last: 0, at: 0, shownFor: null });
         const part = (name) => root.querySelector(name);
-        Object.assign(this, { canvas: part("canvas"), slider: part("input"), words: part(".moment"), legend: part(".legend"), grid: part(".grid"), state: part(".made") });
+        Object.assign(this, { canvas: part("canvas"), slider: part("input"), words: part(".moment") });
+        Object.assign(this, { legend: part(".legend"), grid: part(".grid"), state: part(".made") });
         this.slider.addEventListener("input", () => this.choose(Number(this.slider.value)));
         this.canvas.addEventListener("pointerdown", (event) => this.point(event));
         this.canvas.addEventListener("pointermove", (event) => event.buttons && this.point(event));
@@ -68,7 +69,8 @@ export class Picture {
         this.shownFor = this.last;
         const told = (isOver) => {
             const count = this.moments.known.length;
-            this.state.textContent = `${count} moments${isOver ? "" : ", and more to come"}. Each is a run of its own up to that step; what lies between them isn't seen.`;
+            const more = isOver ? "" : ", and more to come";
+            this.state.textContent = `${count} moments${more}. Each is a run of its own up to that step; what lies between them isn't seen.`;
             this.slider.max = count - 1;
             this.choose(isOver && this.at === 0 ? this.fullest() : Math.min(this.at, count - 1));
         };

@@ -94,7 +94,8 @@ export class Running {
         const rows = found.places.map((it, index) => this.place(it, index === 0 && isRaise));
         for (const it of found.notes) rows.unshift(made("li", {}, it));
         if (found.more) rows.push(made("li", {}, `and ${found.more} calls more`));
-        if (rows.length) this.calls.replaceChildren(made("h3", {}, kind === "bad" ? "Where it stopped, and the calls that led there" : "Where it was"), made("ol", {}, ...rows));
+        const head = kind === "bad" ? "Where it stopped, and the calls that led there" : "Where it was";
+        if (rows.length) this.calls.replaceChildren(made("h3", {}, head), made("ol", {}, ...rows));
     }
 
     place(it, isRaise) {

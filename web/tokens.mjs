@@ -1,4 +1,5 @@
-// The tokens of a line, by the TextMate grammar of the editors' folder. It reads what that grammar uses of TextMate: match, begin with end, patterns and include.
+// The tokens of a line, by the TextMate grammar of the editors' folder. Of TextMate it reads what that grammar uses: match, begin with end, patterns and
+// include.
 
 /** The grammar with its expressions made, each of which matches at one place only. */
 export function grammarOf(json) {

@@ -1,7 +1,8 @@
 // Runs cycc.wasm, the program cycc as a WebAssembly module. It is the one loader of the page and of the command line: node cycc.mjs run x.cyc
 // A host gives the module its arguments, files and streams. MemoryHost keeps files in memory; NodeHost has the real ones.
 
-const ENOENT = 2, EIO = 5, EBADF = 9, EACCES = 13, EEXIST = 17;
+const ENOENT = 2, EIO = 5, EBADF = 9, EACCES = 13, EEXIST = 17, EINVAL = 22;
+const PATH_MAX = 4096;
 const WRITES = 0o3, CREATE = 0o100, EXCLUSIVE = 0o200, TRUNCATE = 0o1000;
 const EMPTY_PATH = 0x1000, REGULAR = 0o100000, FOLDER = 0o040000;
 const utf8 = new TextEncoder();
@@ -31,6 +32,24 @@ function environment(host, made) {
         close: (file) => answer(host.close(file)),
         read: (file, at, length) => BigInt(answer(host.read(file, bytes(at, length)))),
         write: (file, at, length) => BigInt(answer(host.write(file, bytes(at, length)))),
+        rename: (from, to) => answer(host.rename(path(from), path(to))),
+        unlink: (at) => answer(host.unlink(path(at))),
+        fchmod: (file, mode) => answer(host.chmod(file, mode)),
+        realpath(at, into) {
+            const found = host.real(path(at));
+            const text = typeof found === "number" ? found : utf8.encode(found);
+            if (typeof text === "number" || text.length >= PATH_MAX) {
+                answer(typeof text === "number" ? text : -EINVAL);
+                return 0n;
+            }
+            bytes(into, text.length + 1).set([...text, 0]);
+            return into;
+        },
+        // (cycc calls none of these: they come with the library's files)
+        fsync: () => 0,
+        fdatasync: () => 0,
+        flock: () => 0,
+        ftruncate: () => answer(-EINVAL),
         statx(folder, at, flags, mask, into) {
             const name = path(at);
             const found = name === "" && flags & EMPTY_PATH ? host.stat(folder) : host.stat(name);
@@ -106,6 +125,25 @@ export class MemoryHost {
         return bytes.length;
     }
 
+    rename(from, to) {
+        if (!this.files.has(from)) return -ENOENT;
+        this.files.set(to, this.files.get(from));
+        this.files.delete(from);
+        return 0;
+    }
+
+    unlink(path) {
+        return this.files.delete(path) ? 0 : -ENOENT;
+    }
+
+    chmod() {
+        return 0;
+    }
+
+    real(path) {
+        return this.files.has(path) ? path : -ENOENT;
+    }
+
     stat(which) {
         const path = typeof which === "number" ? this.opened.get(which)?.path : which;
         if (path === ".") return { isFile: false, isFolder: true, number: 0n, length: 0n, device: 0n };
@@ -154,6 +192,22 @@ export class NodeHost {
 
     write(file, bytes) {
         return this.tried(() => this.fs.writeSync(file, bytes, 0, bytes.length));
+    }
+
+    rename(from, to) {
+        return this.tried(() => this.fs.renameSync(from, to) ?? 0);
+    }
+
+    unlink(path) {
+        return this.tried(() => this.fs.unlinkSync(path) ?? 0);
+    }
+
+    chmod(file, mode) {
+        return this.tried(() => this.fs.fchmodSync(file, mode & 0o7777) ?? 0);
+    }
+
+    real(path) {
+        return this.tried(() => this.fs.realpathSync(path));
     }
 
     stat(which) {

@@ -1,0 +1,3 @@
+pub mod Stripping
+pub mod Listing
+pub mod Laid

@@ -1,0 +1,19 @@
+//! The text of a program in one layout.
+//!
+//! `format` lays a text out, and promises that it is the same text but for its white space: the tokens are the same, and so are the comments.
+#![tactic(auto)]
+
+mod class;
+mod comments;
+mod gaps;
+mod layout;
+mod lines;
+mod mark;
+mod measure;
+mod pieces;
+mod printer;
+mod same;
+mod scanner;
+mod spaces;
+
+pub use layout::format;

@@ -1,3 +1,4 @@
 pub mod Stripping
 pub mod Listing
 pub mod Laid
+pub mod Kinds

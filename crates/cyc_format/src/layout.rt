@@ -27,7 +27,12 @@ fn laid_out(alloc: Global, text: &[u8], found: &[Token<'_>]) -> Result<Vec<u8>, 
 }
 
 /// Whether a text is another one with these tokens in a new layout.
-fn is_layout(alloc: Global, text: &[u8], found: &[Token<'_>], out: &[u8]) -> Result<bool, AllocError>
+fn is_layout(
+    alloc: Global,
+    text: &[u8],
+    found: &[Token<'_>],
+    out: &[u8],
+) -> Result<bool, AllocError>
     requires { AreTokens text.now (map token_tree found.now) }
     ensures { IfOk result (λ same. same ≡ true → IsLaidOut text.now out.now) }
 {
@@ -54,7 +59,9 @@ fn checked(alloc: Global, text: &[u8], found: &[Token<'_>]) -> Result<Vec<u8>, A
 /// The text in the one layout: the same tokens, and between them the same comments, but for white space at the ends of `//` comments.
 ///
 /// The layout is made by code of which nothing is proved but that it ends and is safe. What comes of it is read again and compared with the text. Where
-/// it is another text, or too long to be read, the text is answered as it was: `tools/format_check` and the cases look whether that ever happens.
+/// it is another text, or too long to be read, the text is answered as it was: `tools/format_check` looks whether that ever happens.
+///
+/// A token of the same spelling is of the same kind (`kinds_are_spelled`).
 ///
 /// Fails as `tokens` does: with `Lex` at the first token or comment that is none, and with `Memory` where no host memory is left.
 pub fn format(alloc: Global, text: &[u8]) -> Result<Vec<u8>, LexFault>

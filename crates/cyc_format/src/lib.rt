@@ -6,6 +6,7 @@
 mod class;
 mod comments;
 mod gaps;
+mod laws;
 mod layout;
 mod lines;
 mod mark;
@@ -16,4 +17,5 @@ mod same;
 mod scanner;
 mod spaces;
 
+pub use laws::kinds_are_spelled;
 pub use layout::format;

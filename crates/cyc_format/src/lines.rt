@@ -118,7 +118,10 @@ impl<'a> Lines<'a> {
                 (group, column) = group_of(&self.tails, i, width);
             }
             append(&mut out, part(&self.bytes, from, tail.at))?;
-            indent(&mut out, column.saturating_sub(tail.column).max(BEFORE_COMMENT))?;
+            indent(
+                &mut out,
+                column.saturating_sub(tail.column).max(BEFORE_COMMENT),
+            )?;
             append(&mut out, tail.text)?;
             from = tail.at;
         }

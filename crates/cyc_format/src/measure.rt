@@ -1,8 +1,8 @@
 // How wide pieces are in one line.
 
+use crate::class::Class;
 use crate::mark::{Mark, Role};
 use crate::pieces::{Piece, is_comment};
-use crate::class::Class;
 use std::alloc::{AllocError, Global};
 
 /// What stands up to a piece, and how far the phrase goes that it belongs to.
@@ -32,7 +32,11 @@ fn is_apart(before: &Piece<'_>, piece: &Piece<'_>, mark: &Mark) -> bool {
 
 /// The index behind the phrase of a piece, where `end` is that of the next piece, which has index `next`.
 fn end_of(pieces: &[Piece<'_>], marks: &[Mark], next: usize, end: usize) -> usize {
-    let (Some(before), Some(piece), Some(mark)) = (pieces.get(next.saturating_sub(1)), pieces.get(next), marks.get(next)) else {
+    let (Some(before), Some(piece), Some(mark)) = (
+        pieces.get(next.saturating_sub(1)),
+        pieces.get(next),
+        marks.get(next),
+    ) else {
         return next;
     };
     match mark.role {
@@ -54,7 +58,11 @@ fn find_ends(pieces: &[Piece<'_>], marks: &[Mark], measures: &mut [Measure]) {
 }
 
 /// The measures of pieces with these marks.
-pub(crate) fn measures_of(alloc: Global, pieces: &[Piece<'_>], marks: &[Mark]) -> Result<Vec<Measure>, AllocError> {
+pub(crate) fn measures_of(
+    alloc: Global,
+    pieces: &[Piece<'_>],
+    marks: &[Mark],
+) -> Result<Vec<Measure>, AllocError> {
     let mut measures = Vec::new(alloc);
     let mut columns = 0usize;
     let mut lines = 0usize;
@@ -66,7 +74,9 @@ pub(crate) fn measures_of(alloc: Global, pieces: &[Piece<'_>], marks: &[Mark]) -
             end: 0,
         })?;
         let space = usize::from(mark.has_space);
-        columns = columns.saturating_add(space).saturating_add(piece.text.len());
+        columns = columns
+            .saturating_add(space)
+            .saturating_add(piece.text.len());
         lines = lines.saturating_add(line_ends(piece.text));
     }
     find_ends(pieces, marks, &mut measures);

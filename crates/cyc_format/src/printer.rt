@@ -50,16 +50,24 @@ pub(crate) struct Pieces<'a, 'b> {
 impl Pieces<'_, '_> {
     /// The columns of the pieces before an index, in one line.
     fn columns_before(&self, index: usize) -> usize {
-        match (self.measures.get(index), self.measures.last(), self.pieces.last()) {
+        match (
+            self.measures.get(index),
+            self.measures.last(),
+            self.pieces.last(),
+        ) {
             (Some(measure), _, _) => measure.columns,
-            (None, Some(last), Some(piece)) => last.columns.saturating_add(piece.text.len()).saturating_add(1),
+            (None, Some(last), Some(piece)) => last
+                .columns
+                .saturating_add(piece.text.len())
+                .saturating_add(1),
             _ => 0,
         }
     }
 
     /// The columns of the pieces from one index to another, with the space before the first.
     fn columns(&self, from: usize, end: usize) -> usize {
-        self.columns_before(end).saturating_sub(self.columns_before(from))
+        self.columns_before(end)
+            .saturating_sub(self.columns_before(from))
     }
 
     /// The columns of the space before a piece.
@@ -90,7 +98,8 @@ impl Pieces<'_, '_> {
     fn block_columns(&self, open: usize, close: usize) -> usize {
         let columns = self.columns(open.saturating_add(1), close.saturating_add(1));
         match self.marks.get(close.saturating_add(1)) {
-            Some(mark) if matches!(mark.role, Role::Inside) && !mark.has_space => columns.saturating_add(1),
+            Some(mark) if matches!(mark.role, Role::Inside) && !mark.has_space =>
+                columns.saturating_add(1),
             _ => columns,
         }
     }
@@ -189,7 +198,8 @@ impl<'a, 'b> Printer<'a, 'b> {
         }
         match (self.shape(), role) {
             (Shape::Flat, _) => return false,
-            (Shape::Exploded, Role::Begin | Role::Label | Role::Open) if !is_comment(piece.class) => return true,
+            (Shape::Exploded, Role::Begin | Role::Label | Role::Open) if !is_comment(piece.class) =>
+                return true,
             _ => {}
         }
         piece.lines > 0 || !self.fits(index)
@@ -206,7 +216,10 @@ impl<'a, 'b> Printer<'a, 'b> {
             }
             Role::Close => self.end_of_block(index, mark),
             Role::Open if !mark.starts => {
-                let wants = matches!(self.last, Last::Nothing | Last::LineComment | Last::Open(true));
+                let wants = matches!(
+                    self.last,
+                    Last::Nothing | Last::LineComment | Last::Open(true)
+                );
                 wants.then_some(self.level)
             }
             _ => {
@@ -280,7 +293,9 @@ impl<'a, 'b> Printer<'a, 'b> {
         match self.start_of(index, piece, mark) {
             Some(column) => {
                 let is_first = matches!(was, Last::Nothing | Last::Open(_));
-                let is_apart = piece.lines > 1 && !is_first && !matches!(mark.role, Role::Inside | Role::Close);
+                let is_apart = piece.lines > 1
+                    && !is_first
+                    && !matches!(mark.role, Role::Inside | Role::Close);
                 self.lines.begin(column, is_apart)?;
                 let further = self.level.saturating_add(FURTHER).min(DEEPEST);
                 self.break_at = self.given.break_after(index, self.lines.column, further);

@@ -49,7 +49,9 @@ pub(crate) fn is_same(text: &[u8], found: &[Token<'_>], out: &[u8], others: &[To
     'tokens: for i in 0..found.len() {
         let token = &found[i];
         let other = &others[i];
-        if !are_same(token.text, other.text) || !are_same_between(text, at, token.at as usize, out, to, other.at as usize) {
+        if !are_same(token.text, other.text)
+            || !are_same_between(text, at, token.at as usize, out, to, other.at as usize)
+        {
             return false;
         }
         at = token.at as usize + token.text.len();

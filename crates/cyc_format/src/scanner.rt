@@ -110,10 +110,12 @@ impl Scanner {
     fn role_of(&self, class: Class, used: Use) -> Role {
         match (class, used, self.expects) {
             (Class::LeftBrace, Use::Plain, _) => Role::Open,
-            (Class::RightBrace, _, _) if !matches!(self.top(), Some(Frame::Inline(_))) => Role::Close,
+            (Class::RightBrace, _, _) if !matches!(self.top(), Some(Frame::Inline(_))) =>
+                Role::Close,
             (Class::Case | Class::Default, _, Expects::Begin) => Role::Label,
             (Class::Else, _, Expects::Else) => Role::Else,
-            (Class::If, _, Expects::Body) if matches!(self.top(), Some(Frame::Body(Head::Else))) => Role::Inside,
+            (Class::If, _, Expects::Body) if matches!(self.top(), Some(Frame::Body(Head::Else))) =>
+                Role::Inside,
             (_, _, Expects::Begin | Expects::Else) => Role::Begin,
             (_, _, Expects::Body) => Role::Body,
             (_, _, Expects::Inside) => Role::Inside,
@@ -172,16 +174,27 @@ impl Scanner {
     }
 
     /// Takes a token in. Answers the index of its brace where a block ends.
-    fn enter(&mut self, index: usize, piece: &Piece<'_>, used: Use, begins: bool) -> Result<Option<usize>, AllocError> {
+    fn enter(
+        &mut self,
+        index: usize,
+        piece: &Piece<'_>,
+        used: Use,
+        begins: bool,
+    ) -> Result<Option<usize>, AllocError> {
         let is_label = !self.is_inside();
         self.is_tight = matches!(used, Use::Unary | Use::AngleOpen | Use::InlineOpen)
-            || matches!(piece.class, Class::LeftParenthesis | Class::LeftBracket | Class::Dot);
+            || matches!(
+                piece.class,
+                Class::LeftParenthesis | Class::LeftBracket | Class::Dot
+            );
         match (piece.class, used) {
             (Class::LeftBrace, Use::Plain) => self.open_block(index, begins)?,
             (_, Use::InlineOpen) => self.push(Frame::Inline(self.in_type))?,
             (_, Use::AngleOpen) => self.push(Frame::Angle)?,
             (_, Use::AngleClose) => self.pop(),
-            (Class::LeftParenthesis, _) => self.push(Frame::Parenthesis(before_parenthesis(self.before)))?,
+            (Class::LeftParenthesis, _) => self.push(Frame::Parenthesis(before_parenthesis(
+                self.before,
+            )))?,
             (Class::LeftBracket, _) => self.push(Frame::Bracket)?,
             (Class::RightParenthesis | Class::RightBracket, _) => return self.close_parenthesis(),
             (Class::RightBrace, _) => return Ok(self.close_brace(piece.next)),

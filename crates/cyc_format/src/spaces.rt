@@ -17,14 +17,22 @@ fn is_word_byte(byte: u8) -> bool {
 fn are_apart(last: u8, first: u8) -> bool {
     match (last, first) {
         (b'<' | b'>' | b'=' | b'!' | b':', b'=') => false,
-        (b'<', b'<') | (b'>' | b'-', b'>') | (b'-', b'-') | (b'&', b'&') | (b'|', b'|') | (b'/', b'/' | b'*') => false,
+        (b'<', b'<')
+        | (b'>' | b'-', b'>')
+        | (b'-', b'-')
+        | (b'&', b'&')
+        | (b'|', b'|')
+        | (b'/', b'/' | b'*') => false,
         _ => true,
     }
 }
 
 /// Whether a name is read as a part of the sign that ends with an `@` before it.
 fn joins_at(text: &[u8]) -> bool {
-    text.starts_with(b"tagged") || text.starts_with(b"notnull") || text.starts_with(b"fat") || text.starts_with(b"thin")
+    text.starts_with(b"tagged")
+        || text.starts_with(b"notnull")
+        || text.starts_with(b"fat")
+        || text.starts_with(b"thin")
 }
 
 /// Whether a token may stand directly after one that ends with this byte: both are read as they are.
@@ -78,14 +86,20 @@ pub(crate) fn has_space(scanner: &Scanner, piece: &Piece<'_>, used: Use, is_labe
     if matches!(used, Use::InlineOpen) && matches!(scanner.before, Class::NewDynamicRegion) {
         return false;
     }
-    !is_tight_in_type(scanner, piece.class, used) && !is_tight_by_kind(scanner, piece.class, is_label)
+    !is_tight_in_type(scanner, piece.class, used)
+        && !is_tight_by_kind(scanner, piece.class, is_label)
 }
 
 /// Whether the line may be broken before the next token, and how deep that is: the less, the better.
 pub(crate) fn wrap(scanner: &Scanner) -> Option<u32> {
     let is_after = matches!(scanner.used, Use::Binary) || matches!(scanner.before, Class::Comma);
     if is_after && matches!(scanner.expects, Expects::Inside) {
-        Some(scanner.nesting.saturating_mul(16).saturating_add(tightness(scanner.before)))
+        Some(
+            scanner
+                .nesting
+                .saturating_mul(16)
+                .saturating_add(tightness(scanner.before)),
+        )
     } else {
         None
     }

@@ -1,7 +1,7 @@
 // Files, whole or as they were.
 
-use command_line::status::{FILE_FAULT, MEMORY, SUCCESS};
 use command_line::shown;
+use command_line::status::{FILE_FAULT, MEMORY, SUCCESS};
 use std::fs::{File, Permissions};
 use std::io::{Read, Write};
 use std::{fs, io, process};

@@ -84,7 +84,9 @@ fn look_at_options(rt: &HostRuntime, words: &[String]) -> Option<u8> {
         }
         if is_option(word) && word != "--check" {
             let word = shown(word);
-            let _ = eprintln!(rt; "error: unexpected argument '{word}' found\n\nusage: cycc fmt [--check] [FILE]..");
+            let _ = eprintln!(rt;
+                "error: unexpected argument '{word}' found\n\nusage: cycc fmt [--check] [FILE].."
+            );
             return Some(USAGE);
         }
     }

@@ -1,4 +1,4 @@
 pub mod Stripping
 pub mod Listing
 pub mod Laid
-pub mod Kinds
+pub mod SpelledKinds

@@ -1,4 +1,4 @@
-use Rattle.cyc_format.proofs.Kinds.{same_kinds}
+use Rattle.cyc_format.proofs.SpelledKinds.{same_kinds}
 use Rattle.cyc_format.proofs.laws.kinds_are_spelled.Goals as goal
 
 pub returns : goal.returns

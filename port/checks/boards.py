@@ -77,7 +77,7 @@ class Board:
         self.is_small = board.is_small(name)
         self.file_at, self.memory = board.facts(name)
         makefile = (board.PORT / "Makefile").read_text()
-        self.batch_at = re.search(rf"BATCH_{name} = (0x[0-9A-Fa-f]+)u", makefile)[1]
+        self.batch_at = int(re.search(rf"BATCH_{name} = (0x[0-9A-Fa-f]+)u", makefile)[1], 16)
 
     def file_of(self, content, chart):
         """The board's file of an image."""
@@ -88,9 +88,8 @@ class Board:
         content = b"".join(entry(file, given) for file, given in jobs) + bytes(8)
         with tempfile.TemporaryDirectory() as room:
             path = os.path.join(room, "batch")
-            pathlib.Path(path).write_bytes(content)
+            pathlib.Path(path).write_bytes(board.in_elf(content, self.batch_at))
             words = board.qemu_words(self.name, self.elf, path, more=["-icount", "shift=0", "-m", "512M"][: None if self.name == "virt" else 2])
-            words = [re.sub(r"(loader,file=.*/batch),addr=0x[0-9a-f]+", rf"\1,addr={self.batch_at}", word) for word in words]
             try:
                 return subprocess.run(words, stdin=subprocess.DEVNULL, stdout=subprocess.PIPE, timeout=seconds).stdout, True
             except subprocess.TimeoutExpired as late:

@@ -19,7 +19,7 @@ def on_board(text, room, elf):
     """The run of a text with the part device.cyc on virt, by its own console."""
     image, _ = boards.compiled(text, room, 64, 16)
     path = pathlib.Path(room) / "file"
-    path.write_bytes(boards.place.unmoved(image))
+    path.write_bytes(boards.board.in_elf(boards.place.unmoved(image), boards.board.facts("virt")[0]))
     words = boards.board.qemu_words("virt", elf, path, more=["-icount", "shift=0"])
     ran = subprocess.run(words, stdin=subprocess.DEVNULL, capture_output=True, timeout=boards.SECONDS)
     return boards.told(ran.returncode, ran.stdout, ran.stderr)

@@ -77,7 +77,8 @@ def images(areas, room):
     for number, (name, ending, _) in enumerate(cases):
         first = labels[f"case_{number}"]
         code = raw[first : first + lengths[number]]
-        content = struct.pack("<7I", 0x31495943, 2, 0, len(code), len(DATA_BYTES), 1, 1) + code + DATA_BYTES
+        data = b"" if name.startswith("no data:") else DATA_BYTES
+        content = struct.pack("<7I", 0x31495943, 2, 0, len(code), len(data), 1, 1) + code + data
         yield name, content, ending_of(ending, labels.get(f"here_{number}", first) - first, {**areas, "CODE_END": areas["CODE"] + len(code)})
 
 

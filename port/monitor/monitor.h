@@ -3,11 +3,6 @@
 #define MONITOR_H
 #include <stdint.h>
 #include BOARD
-#ifdef BATCH                                 /* for tests: many images in one run */
-extern uint32_t batch_file;
-#undef FILE_AT
-#define FILE_AT batch_file
-#endif
 
 #define PAGE 4096u
 

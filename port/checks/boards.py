@@ -109,7 +109,9 @@ class Board:
 
 
 def entry(file, given):
-    return struct.pack("<II", len(given), -(-len(file) // 4) * 4) + given + bytes(-len(given) % 4) + file + bytes(-len(file) % 4)
+    """What console_batch.c reads of an image: its file begins a page, and so does the next entry."""
+    head = struct.pack("<II", len(given), -(-len(file) // place.PAGE) * place.PAGE) + given
+    return head + bytes(-len(head) % place.PAGE) + file + bytes(-len(file) % place.PAGE)
 
 
 def runs_of(written):

@@ -1,5 +1,5 @@
-/* The console of many images in one run, for tests: behind each other lie, for each, the bytes of its input, their number rounded up to 4, its file's, and the
-   input and the file themselves. What comes of it is written in pieces: a letter, a number and as many bytes. */
+/* The console of many images in one run, for tests: behind each other lie, for each, the number of bytes of its input, that of its file up to a page's end,
+   the input, and from the next page on the file. What comes of it is written in pieces: a letter, a number and as many bytes. */
 #include "../monitor/monitor.h"
 
 uint32_t batch_file;
@@ -33,7 +33,7 @@ void console_open(void) {
     if (!head[1]) leave();
     in_left = head[0];
     in = (const uint8_t *)(head + 2);
-    batch_file = (uint32_t)in + ((in_left + 3) & ~3u);
+    batch_file = ((uint32_t)in + in_left + PAGE - 1) & -PAGE;
     next = batch_file + head[1];
 }
 

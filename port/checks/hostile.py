@@ -46,11 +46,17 @@ def read_cases():
     return [tuple(part.strip() for part in line.split("|", 2)) for line in lines if line and not line.startswith("#")]
 
 
+def code_of(areas, number):
+    """Where the code of a case begins: where it is copied to, or where it lies among the others."""
+    return areas["CODE"] + areas.get("APART", 0) * number
+
+
 def source_of(cases, areas):
     """One text of assembly for all cases, each from its own label on; CODE_END of a case is behind its own instructions."""
     text = "    .option norelax\n    .option norvc\n" + "".join(f"    .equ {name}, {value:#x}\n" for name, value in areas.items()) + MACROS
     for number, (_, _, code) in enumerate(cases):
         code = code.replace("here:", f"here_{number}:").replace("; ", "\n").replace("CODE_END", f"(CODE + CODE_BYTES_{number})")
+        code = re.sub(r"\bCODE\b", f"{code_of(areas, number):#x}", code)
         text += f"case_{number}:\n{code}\nbehind_{number}:\n"
     return text
 
@@ -79,7 +85,8 @@ def images(areas, room):
         code = raw[first : first + lengths[number]]
         data = b"" if name.startswith("no data:") else DATA_BYTES
         content = struct.pack("<7I", 0x31495943, 2, 0, len(code), len(data), 1, 1) + code + data
-        yield name, content, ending_of(ending, labels.get(f"here_{number}", first) - first, {**areas, "CODE_END": areas["CODE"] + len(code)})
+        own = {**areas, "CODE": code_of(areas, number)}
+        yield name, content, ending_of(ending, labels.get(f"here_{number}", first) - first, {**own, "CODE_END": own["CODE"] + len(code)})
 
 
 def ending_of(ending, here, areas):

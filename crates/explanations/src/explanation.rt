@@ -3,7 +3,7 @@
 ghost use Rattle.std.specs.Prelude.{◌≡◌, IfSome};
 ghost use Rattle.std.specs.Str.{str_to_ascii_lowercase};
 
-use crate::texts::TABLES;
+use crate::texts::{C_WORDS, TABLES};
 
 /// What is said of a fault, an ending or an exit status.
 #[derive(Clone, Copy)]
@@ -33,6 +33,17 @@ pub fn explain(name: &str) -> Option<&'static Explanation>
             if entry.name.eq_ignore_ascii_case(name) {
                 return Some(entry);
             }
+        }
+    }
+    None
+}
+
+/// What to write in place of a word of C, in a sentence with its full stop left out; none of another word.
+pub fn c_word(name: &[u8]) -> Option<&'static str> {
+    let words: &[Explanation] = &C_WORDS;
+    for entry in words {
+        if entry.name.as_bytes() == name {
+            return Some(entry.meaning());
         }
     }
     None

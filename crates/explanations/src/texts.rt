@@ -1,5 +1,6 @@
-// What is said of each fault, ending and status. `tools/explain --write` writes this file, of docs/FAULTS.md.
+// What is said of each fault, ending and status, and of words of C. `tools/explain --write` writes this file, of docs/FAULTS.md.
 
+mod c_words;
 mod endings;
 mod flow_faults;
 mod image_faults;
@@ -9,6 +10,7 @@ mod source_faults;
 mod statuses;
 
 use crate::explanation::Explanation;
+pub use c_words::C_WORDS;
 use endings::ENDINGS;
 use flow_faults::FLOW_FAULTS;
 use image_faults::IMAGE_FAULTS;
@@ -17,8 +19,8 @@ use region_faults::REGION_FAULTS;
 use source_faults::SOURCE_FAULTS;
 use statuses::STATUSES;
 
-/// All explanations.
-pub const TABLES: [&[Explanation]; 7] = [
+/// All explanations, those of words of C last.
+pub const TABLES: [&[Explanation]; 8] = [
     &SOURCE_FAULTS,
     &REGION_FAULTS,
     &FLOW_FAULTS,
@@ -26,6 +28,7 @@ pub const TABLES: [&[Explanation]; 7] = [
     &MACHINE_FAULTS,
     &ENDINGS,
     &STATUSES,
+    &C_WORDS,
 ];
 
 /// The names, below a line that says so.

@@ -18,6 +18,12 @@ struct Braces {
     begun: Option<usize>,
 }
 
+/// No brace is open.
+const NO_BRACES: Braces = Braces {
+    open: 0,
+    begun: None,
+};
+
 impl Braces {
     /// The same with one more that is open.
     fn opened(self, tokens: &[Token<'_>], index: usize) -> Braces {
@@ -48,14 +54,12 @@ impl Braces {
     }
 }
 
-/// The body that ends at this brace, where it is one.
-fn ended(before: Braces, close: usize) -> Option<Body> {
-    if before.open != 1 {
-        return None;
-    }
-    match before.begun {
-        Some(open) => Some(Body { open, close }),
-        None => None,
+/// The braces behind a token, where these are before it.
+fn behind(tokens: &[Token<'_>], index: usize, kind: TokenKind, before: Braces) -> Braces {
+    match kind {
+        TokenKind::Sign(Sign::LeftBrace) => before.opened(tokens, index),
+        TokenKind::Sign(Sign::RightBrace) => before.closed(),
+        _ => before,
     }
 }
 
@@ -69,28 +73,21 @@ fn has(tokens: &[Token<'_>], body: Body, at: u32) -> bool {
 
 /// The function's body that has this offset.
 pub fn body_at(tokens: &[Token<'_>], at: u32) -> Option<Body> {
-    let mut braces = Braces {
-        open: 0,
-        begun: None,
-    };
+    let mut braces = NO_BRACES;
     for (index, token) in tokens.iter().enumerate() {
-        match token.kind {
-            TokenKind::Sign(Sign::LeftBrace) => braces = braces.opened(tokens, index),
-            TokenKind::Sign(Sign::RightBrace) => {
-                if let Some(body) = ended(braces, index) {
-                    if has(tokens, body, at) {
-                        return Some(body);
-                    }
-                }
-                braces = braces.closed();
+        let before = braces;
+        braces = behind(tokens, index, token.kind, before);
+        if let (Some(open), None) = (before.begun, braces.begun) {
+            let body = Body { open, close: index };
+            if has(tokens, body, at) {
+                return Some(body);
             }
-            _ => {}
         }
     }
     None
 }
 
-/// The tokens without those of a body, of which the braces stay. Fails only where no host memory is left.
+/// The tokens without those of a body, of which the braces stay. Fails only where no host memory is left, as all of these.
 pub fn emptied<'a>(
     alloc: Global,
     tokens: &[Token<'a>],
@@ -100,6 +97,73 @@ pub fn emptied<'a>(
     for (index, token) in tokens.iter().enumerate() {
         if index <= body.open || body.close <= index {
             kept.push(*token)?;
+        }
+    }
+    Ok(kept)
+}
+
+/// The tokens without those of a body and of all bodies before it.
+pub fn emptied_up_to<'a>(
+    alloc: Global,
+    tokens: &[Token<'a>],
+    body: Body,
+) -> Result<Vec<Token<'a>>, AllocError> {
+    let mut kept = Vec::new(alloc);
+    let mut braces = NO_BRACES;
+    for (index, token) in tokens.iter().enumerate() {
+        let before = braces;
+        braces = behind(tokens, index, token.kind, before);
+        let is_inside = before.begun.is_some() && braces.begun.is_some();
+        if !is_inside || body.close < index {
+            kept.push(*token)?;
+        }
+    }
+    Ok(kept)
+}
+
+/// Whether an offset is the one of a number among some.
+fn is_next(closes: &[u32], number: usize, at: u32) -> bool {
+    match closes.get(number) {
+        Some(close) => *close == at,
+        None => false,
+    }
+}
+
+/// The bodies whose closing braces are at these offsets, which ascend.
+fn bodies_of(alloc: Global, tokens: &[Token<'_>], closes: &[u32]) -> Result<Vec<Body>, AllocError> {
+    let mut found = Vec::new(alloc);
+    let mut braces = NO_BRACES;
+    for (index, token) in tokens.iter().enumerate() {
+        let before = braces;
+        braces = behind(tokens, index, token.kind, before);
+        if let (Some(open), None) = (before.begun, braces.begun) {
+            if is_next(closes, found.len(), token.at) {
+                found.push(Body { open, close: index })?;
+            }
+        }
+    }
+    Ok(found)
+}
+
+/// The tokens without those of some bodies, whose closing braces are at these offsets, which ascend.
+pub fn emptied_all<'a>(
+    alloc: Global,
+    tokens: &[Token<'a>],
+    closes: &[u32],
+) -> Result<Vec<Token<'a>>, AllocError> {
+    let bodies = bodies_of(alloc, tokens, closes)?;
+    let mut kept = Vec::new(alloc);
+    let mut passed = 0usize;
+    for (index, token) in tokens.iter().enumerate() {
+        match bodies.get(passed) {
+            Some(body) if body.open < index && index < body.close => {}
+            Some(body) => {
+                if index == body.close {
+                    passed = passed.saturating_add(1);
+                }
+                kept.push(*token)?;
+            }
+            None => kept.push(*token)?,
         }
     }
     Ok(kept)

@@ -1,6 +1,7 @@
 // Where locals are given away and lent.
 
 use crate::bodies::body_at;
+use crate::loops::end_of_loop;
 use crate::seen::{index_at, kind_at, kind_before};
 use cyc_lexer::{Keyword, Sign, Token, TokenKind};
 
@@ -55,7 +56,7 @@ fn is_given(tokens: &[Token<'_>], index: usize) -> bool {
 const ALIAS_TOKENS: usize = 64;
 
 /// Whether the declaration of an alias is around an index.
-fn is_in_alias(tokens: &[Token<'_>], index: usize) -> bool {
+pub(crate) fn is_in_alias(tokens: &[Token<'_>], index: usize) -> bool {
     for count in 1..ALIAS_TOKENS {
         match kind_before(tokens, index, count) {
             Some(TokenKind::Keyword(Keyword::Alias)) => return true,
@@ -133,25 +134,11 @@ pub fn lent(tokens: &[Token<'_>], at: u32) -> Option<u32> {
     done_before(tokens, at, Act::Lend)
 }
 
-/// Whether a loop begins between two indexes.
-fn has_loop(tokens: &[Token<'_>], begin: usize, end: usize) -> bool {
-    for (index, token) in tokens.iter().enumerate() {
-        if begin <= index && index < end {
-            if let TokenKind::Keyword(Keyword::While | Keyword::For) = token.kind {
-                return true;
-            }
-        }
-    }
-    false
-}
-
-/// Where the local at an offset is given away at that offset or behind it, where a loop begins before it in its function.
+/// Where the local at an offset is given away at that offset or behind it, within a loop of its function that is around it.
 pub fn given_later(tokens: &[Token<'_>], at: u32) -> Option<u32> {
     let index = index_at(tokens, at);
-    match (tokens.get(index), body_at(tokens, at)) {
-        (Some(token), Some(body)) if has_loop(tokens, body.open, index) => {
-            last_between(tokens, index, body.close, token.text, Act::Give)
-        }
-        _ => None,
-    }
+    let token = tokens.get(index)?;
+    let body = body_at(tokens, at)?;
+    let end = end_of_loop(tokens, body.open, index)?;
+    last_between(tokens, index, end, token.text, Act::Give)
 }

@@ -76,15 +76,38 @@ fn is_pointer(kind: TokenKind) -> bool {
     }
 }
 
+/// Whether the bound of a pointer ends before an index: a number between braces, behind the pointer's sign.
+fn is_behind_bound(tokens: &[Token<'_>], index: usize) -> bool {
+    matches!(
+        kind_before(tokens, index, 1),
+        Some(TokenKind::Sign(Sign::RightBrace))
+    ) && matches!(kind_before(tokens, index, 2), Some(TokenKind::Number(_, _)))
+        && matches!(
+            kind_before(tokens, index, 4),
+            Some(TokenKind::Sign(Sign::Star | Sign::At | Sign::NotNull))
+        )
+}
+
+/// Where the sign, the bound or the region of a pointer begins that ends before an index; the index, where there is none.
+fn before_pointer(tokens: &[Token<'_>], index: usize) -> usize {
+    match kind_before(tokens, index, 1) {
+        Some(kind) if is_pointer(kind) => index.saturating_sub(1),
+        Some(_) if is_behind_bound(tokens, index) => index.saturating_sub(3),
+        _ => index,
+    }
+}
+
 /// Where the signs of pointers begin that end before an index; the index, where there is none.
 fn before_pointers(tokens: &[Token<'_>], index: usize) -> usize {
-    for count in 1..index {
-        match kind_before(tokens, index, count) {
-            Some(kind) if is_pointer(kind) => {}
-            _ => return index.saturating_sub(count).saturating_add(1),
+    let mut left = index;
+    for _ in 0..index {
+        let before = before_pointer(tokens, left);
+        if before == left {
+            return left;
         }
+        left = before;
     }
-    index
+    left
 }
 
 /// Whether a token of this kind is a type's keyword.

@@ -1,17 +1,18 @@
 // The faults of a text behind the first one.
 
+use crate::item_faults::{ItemFault, program_faults};
+use crate::places::Positions;
+use crate::unknown::takes_unknown;
 use check_faults::{Fault, FaultKind};
-use check_functions::function_fault;
-use check_heads::Names;
-use check_structs::judged_tags;
-use check_tables::{Structs, judged_global, next_index, program_names};
 use cyc_lexer::{Token, tokens};
 use cyc_parser::{ParseFault, parse};
-use cyc_tree::{Item, Program};
+use cyc_tree::Program;
 use cycc_driver::{CompileFault, Place};
 use flow_check::flow_fault;
 use std::alloc::{AllocError, Global};
-use token_reasons::{body_at, emptied};
+use token_reasons::{
+    body_at, emptied, emptied_all, emptied_up_to, index_at, is_freed, without_statement,
+};
 
 /// How many faults of the grammar, and of flow, are looked for behind one another.
 const MOST_ROUNDS: u32 = 100;
@@ -24,7 +25,7 @@ struct Found<'t, 'a> {
     faults: Vec<CompileFault>,
     /// The position of the first fault, which `check` answers.
     first: Place,
-    /// The closing braces of the bodies that are left out, by their offsets.
+    /// The closing braces of the bodies that are left out for the grammar, by their offsets.
     ends: Vec<u32>,
 }
 
@@ -42,25 +43,9 @@ impl Drop for Found<'_, '_> {
     }
 }
 
-/// A fault of an item; of a function with its closing brace, by its offset.
-#[derive(Clone, Copy)]
-struct ItemFault {
-    fault: Fault,
-    end: u32,
-}
-
-/// The end of an item: a function's closing brace, and else where it begins.
-fn end_of(item: &Item) -> u32 {
-    match item {
-        Item::Function(function) => function.end,
-        _ => item.place(),
-    }
-}
-
-/// A fault of the rules, with its place in a text.
-fn placed(text: &[u8], fault: Fault) -> CompileFault {
-    let place = Place::at(text, fault.at);
-    match fault.kind {
+/// A fault of the rules, at a position.
+fn placed(place: Place, kind: FaultKind) -> CompileFault {
+    match kind {
         FaultKind::Name => CompileFault::Name(place),
         FaultKind::Typing => CompileFault::Typing(place),
         FaultKind::Region => CompileFault::Region(place),
@@ -71,63 +56,6 @@ fn placed(text: &[u8], fault: Fault) -> CompileFault {
         FaultKind::Copy => CompileFault::Copy(place),
         FaultKind::Size => CompileFault::Size(place),
     }
-}
-
-/// The fault of the item with this index, by the rules on names, types, regions and effects. Fails only where no host memory is left.
-fn item_fault<'p>(
-    alloc: Global,
-    names: Names<'_, 'p>,
-    index: u32,
-    item: &'p Item,
-) -> Result<Option<Fault>, AllocError> {
-    match item {
-        Item::Struct(_) | Item::Union(_) => Ok(None),
-        Item::Global(global) => {
-            let structs = Structs {
-                tags: names.tags,
-                tables: names.tables,
-            };
-            let judged = judged_global(alloc, structs, index, global)?;
-            Ok(judged.fault)
-        }
-        Item::Function(function) => function_fault(alloc, names, false, index, function),
-    }
-}
-
-/// The faults of items, one for each, by the program's names. Fails only where no host memory is left.
-fn items_faults<'p>(
-    alloc: Global,
-    names: Names<'_, 'p>,
-    items: &'p [Item],
-) -> Result<Vec<ItemFault>, AllocError> {
-    let mut faults = Vec::new(alloc);
-    let mut index = 0;
-    for item in items {
-        if let Some(fault) = item_fault(alloc, names, index, item)? {
-            let end = end_of(item);
-            faults.push(ItemFault { fault, end })?;
-        }
-        index = next_index(index)?;
-    }
-    Ok(faults)
-}
-
-/// The faults of a program's items, one for each, by the rules on names, types, regions and effects. Fails only where no host memory is
-/// left.
-fn program_faults(alloc: Global, program: &Program) -> Result<Vec<ItemFault>, AllocError> {
-    let items = program.items();
-    let tags = judged_tags(alloc, items)?;
-    let structs = Structs {
-        tags: &tags.names,
-        tables: &tags.tables,
-    };
-    let globals = program_names(alloc, structs, false, items)?;
-    let names = Names {
-        globals: &globals,
-        tags: structs.tags,
-        tables: structs.tables,
-    };
-    items_faults(alloc, names, items)
 }
 
 impl<'t, 'a> Found<'t, 'a> {
@@ -193,43 +121,70 @@ impl<'t, 'a> Found<'t, 'a> {
         Ok(None)
     }
 
-    /// Adds the fault of an item, where its body isn't left out, and leaves that out.
-    fn add_item(&mut self, found: ItemFault) -> Result<(), AllocError> {
-        if self.is_left_out(found.end) {
-            return Ok(());
+    /// Adds a fault of the rules.
+    fn add_ruled(&mut self, positions: &mut Positions<'_>, fault: Fault) -> Result<(), AllocError> {
+        self.add(placed(positions.place_of(fault.at), fault.kind))
+    }
+
+    /// Adds the faults of items whose bodies aren't left out, and leaves these out.
+    fn add_items(&mut self, faults: &[ItemFault]) -> Result<(), AllocError> {
+        let mut positions = Positions::of(self.text);
+        let mut closes = Vec::new(self.alloc);
+        for found in faults {
+            match found.close {
+                Some(close) if self.is_left_out(close) => {}
+                Some(close) => {
+                    self.add_ruled(&mut positions, found.fault)?;
+                    closes.push(close)?;
+                }
+                None => self.add_ruled(&mut positions, found.fault)?,
+            }
         }
-        self.add(placed(self.text, found.fault))?;
-        let _was_there = self.leave_out(found.end)?;
+        self.tokens = emptied_all(self.alloc, self.tokens.as_slice(), closes.as_slice())?;
         Ok(())
     }
 
-    /// Adds the faults of a program's items, and leaves their bodies out.
-    fn add_items(&mut self, program: &Program) -> Result<(), AllocError> {
-        let faults = program_faults(self.alloc, program)?;
-        for found in faults.iter() {
-            self.add_item(*found)?;
-        }
-        Ok(())
-    }
-
-    /// Adds the first fault of flow that is left, and answers whether there may be more.
-    fn add_flow(&mut self) -> Result<bool, AllocError> {
-        let Ok(program) = parse(self.alloc, self.tokens.as_slice()) else {
-            return Ok(false);
-        };
-        match flow_fault(self.alloc, &program)? {
-            Some(fault) => {
-                self.add(placed(self.text, fault))?;
-                self.leave_out(fault.at)
+    /// Leaves out the body that a fault of flow is in, and those before it. Answers whether there was one.
+    fn pass(&mut self, at: u32) -> Result<bool, AllocError> {
+        match body_at(self.tokens.as_slice(), at) {
+            Some(body) => {
+                self.tokens = emptied_up_to(self.alloc, self.tokens.as_slice(), body)?;
+                Ok(true)
             }
             None => Ok(false),
         }
     }
 
+    /// Leaves out what frees, opens or lends a local that isn't known. Answers whether there may be more faults.
+    fn pass_unknown(&mut self, at: u32) -> Result<bool, AllocError> {
+        let index = index_at(self.tokens.as_slice(), at);
+        if !is_freed(self.tokens.as_slice(), index) {
+            return self.pass(at);
+        }
+        self.tokens = without_statement(self.alloc, self.tokens.as_slice(), index)?;
+        Ok(true)
+    }
+
+    /// Adds the first fault of flow that is left, where it doesn't follow from another one, and answers whether there may be more.
+    fn add_flow(&mut self, positions: &mut Positions<'_>) -> Result<bool, AllocError> {
+        let Ok(program) = parse(self.alloc, self.tokens.as_slice()) else {
+            return Ok(false);
+        };
+        let Some(fault) = flow_fault(self.alloc, &program)? else {
+            return Ok(false);
+        };
+        if takes_unknown(self.alloc, self.tokens.as_slice(), &program, fault)? {
+            return self.pass_unknown(fault.at);
+        }
+        self.add_ruled(positions, fault)?;
+        self.pass(fault.at)
+    }
+
     /// Adds the faults of flow, one for each function.
     fn add_flows(&mut self) -> Result<(), AllocError> {
+        let mut positions = Positions::of(self.text);
         for _ in 0..MOST_ROUNDS {
-            if !self.add_flow()? {
+            if !self.add_flow(&mut positions)? {
                 break;
             }
         }
@@ -255,13 +210,15 @@ fn search(found: &mut Found<'_, '_>) -> Result<(), AllocError> {
     let Some(program) = found.parsed()? else {
         return Ok(());
     };
-    found.add_items(&program)?;
+    let faults = program_faults(found.alloc, &program)?;
+    found.add_items(faults.as_slice())?;
     found.add_flows()
 }
 
 /// The faults of a text beside its first one: of each function one at most, the earliest by the grammar, else by the rules on names,
-/// types, regions and effects, else by those on flow; and of each global. A body with a fault of the grammar is left out. Behind such a
-/// fault elsewhere there is none, and behind one of the tokens. Fails only where no host memory is left.
+/// types, regions and effects, else by those on flow; one of each global, and the first one of the structs and unions. A body with a fault
+/// of the grammar is left out. Behind such a fault elsewhere there is none, and behind one of the tokens. Of faults of the grammar, and of
+/// flow, there are at most 100. Fails only where no host memory is left.
 pub fn further_faults(
     alloc: Global,
     text: &[u8],

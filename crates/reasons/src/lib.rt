@@ -8,6 +8,7 @@
 
 mod called;
 mod further;
+mod item_faults;
 mod labels;
 mod near_names;
 mod nodes;
@@ -15,6 +16,7 @@ mod order;
 mod places;
 mod printed;
 mod told;
+mod unknown;
 mod used;
 mod walk;
 mod words;

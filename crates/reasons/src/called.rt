@@ -9,7 +9,7 @@ use cyc_types::RegionId;
 use std::alloc::AllocError;
 
 /// The members of a struct of a name, or the parameters of a function.
-fn declared<'p>(items: &'p [Item], name: &[u8]) -> Option<&'p [Member]> {
+pub(crate) fn declared<'p>(items: &'p [Item], name: &[u8]) -> Option<&'p [Member]> {
     for item in items {
         match item {
             Item::Struct(structure) | Item::Union(structure) => {
@@ -107,12 +107,94 @@ impl<'m, 'w, 'g, 'p> Told<'m, 'w, 'g, 'p> {
         Ok(())
     }
 
+    /// Says of a call of a function that every program has what is found and wanted.
+    fn say_builtin(
+        &mut self,
+        name: &Name,
+        arguments: &[Expression],
+        taken: u32,
+    ) -> Result<(), AllocError> {
+        match arguments {
+            [argument] if taken == 1 => {
+                if let Verdict::Of(found) = self.judged(argument)? {
+                    self.say_found(&found)?;
+                    self.words.say("Wanted: an integer\n")?;
+                }
+                Ok(())
+            }
+            _ => self.say_count(name, arguments.len(), taken as usize),
+        }
+    }
+
+    /// Why a name can't be called, where it is known.
+    fn uncalled(&self, name: &Name) -> Option<&'static str> {
+        match self.walk.scope.meaning(&name.text) {
+            Some(Named::Variable(_, _) | Named::Array(_, _) | Named::Counter) => {
+                Some(" is no function.\n")
+            }
+            Some(Named::Tag { is_union: true, .. }) => {
+                Some(" is a union: its values are made by a member's name, as U.x(1).\n")
+            }
+            _ => None,
+        }
+    }
+
+    /// Why a name is no value, where it is known.
+    fn unvalued(&self, name: &Name) -> Option<&'static str> {
+        match self.walk.scope.meaning(&name.text) {
+            Some(Named::Function(_) | Named::Builtin(_)) => {
+                Some(" is a function, and can only be called.\n")
+            }
+            Some(Named::Tag { .. } | Named::FaultyTag(_)) => {
+                Some(" is a struct or union, and no value.\n")
+            }
+            _ => None,
+        }
+    }
+
+    /// How many arguments a function takes that every program has, where a name is one.
+    fn taken(&self, name: &Name) -> Option<u32> {
+        match self.walk.scope.meaning(&name.text) {
+            Some(Named::Builtin(taken)) => Some(taken),
+            _ => None,
+        }
+    }
+
+    /// Says a name, and why it isn't used rightly, where that is known.
+    fn say_of(&mut self, name: &Name, said: Option<&str>) -> Result<(), AllocError> {
+        match said {
+            Some(said) => {
+                self.words.name(&name.text)?;
+                self.words.say(said)
+            }
+            None => Ok(()),
+        }
+    }
+
+    /// Says of a name that is used as a value that it is none.
+    pub(crate) fn say_variable(&mut self, name: &Name) -> Result<(), AllocError> {
+        let said = self.unvalued(name);
+        self.say_of(name, said)
+    }
+
     /// Says of a call with a fault what is found and wanted.
     pub(crate) fn say_call(
         &mut self,
         name: &Name,
         arguments: &[Expression],
     ) -> Result<(), AllocError> {
+        let said = self.uncalled(name);
+        if said.is_some() {
+            return self.say_of(name, said);
+        }
+        match self.taken(name) {
+            Some(taken) => self.say_builtin(name, arguments, taken),
+            None => self.say_called(name, arguments),
+        }
+    }
+
+    /// The same of a function of the program, or of a struct that is made.
+    fn say_called(&mut self, name: &Name, arguments: &[Expression]) -> Result<(), AllocError> {
         let Some(members) = declared(self.items, &name.text) else {
             return Ok(());
         };

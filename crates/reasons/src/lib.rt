@@ -1,25 +1,34 @@
 //! What was found at a fault and what was wanted, in words; and the faults behind the first one.
 //!
 //! `reason` says of a fault what the checker's own judgements tell of it: the nearest known name, the types of the parts that don't agree
-//! with their regions, where a local was given away. `further_faults` answers the faults of the other functions and globals. Nothing rests on the
-//! words: the fault and its place are `check`'s. No more is claimed than that each answers, or that no host memory is left. Stands on
-//! `token_reasons`, on the checker and on `cycc_driver`.
+//! with their regions, where a local was given away. `further_faults` answers the faults of the other functions and globals, and
+//! `push_marked` shows a line with a mark below a position. Nothing rests on the words: the fault and its place are `check`'s. No more is
+//! claimed than that each answers, or that no host memory is left. Stands on `token_reasons`, on the checker and on `cycc_driver`.
 #![tactic(auto)]
 
 mod called;
 mod further;
+mod grammar;
+mod heads;
 mod item_faults;
 mod labels;
+mod lexical;
+mod marked;
 mod near_names;
 mod nodes;
 mod order;
+mod paired;
+mod placed;
 mod places;
 mod printed;
+mod suffixed;
 mod told;
+mod unions;
 mod unknown;
 mod used;
 mod walk;
 mod words;
 
 pub use further::further_faults;
+pub use marked::push_marked;
 pub use told::reason;

@@ -2,8 +2,10 @@
 
 use crate::words::Words;
 use check_scopes::Scope;
+use check_tables::item_name;
 use cyc_lexer::{Keyword, Sign, Token, TokenKind};
-use cyc_tree::{Item, Member};
+use cyc_tree::{Item, Member, Name};
+use explanations::c_word;
 use std::alloc::{AllocError, Global};
 use token_reasons::{Nearest, declared_before, index_at, kind_before};
 
@@ -87,8 +89,26 @@ fn say_second(words: &mut Words<'_>, name: &[u8], at: u32) -> Result<(), AllocEr
     words.say(" already.\n")
 }
 
-/// Says which name is near, where one is.
+/// Says that a name isn't known, and what to write for it where C knows it.
+fn say_unknown(words: &mut Words<'_>, name: &[u8], of_member: bool) -> Result<(), AllocError> {
+    words.name(name)?;
+    words.say(if of_member {
+        " is no member of it.\n"
+    } else {
+        " is unknown.\n"
+    })?;
+    match c_word(name) {
+        Some(said) if !of_member => {
+            words.say(said)?;
+            words.say(".\n")
+        }
+        _ => Ok(()),
+    }
+}
+
+/// Says that a name isn't known, and which one is near, where one is.
 fn say_near(words: &mut Words<'_>, near: Nearest<'_>, of_member: bool) -> Result<(), AllocError> {
+    say_unknown(words, near.unknown, of_member)?;
     let Some(name) = near.name else {
         return Ok(());
     };
@@ -99,6 +119,28 @@ fn say_near(words: &mut Words<'_>, near: Nearest<'_>, of_member: bool) -> Result
     })?;
     words.name(name)?;
     words.say(".\n")
+}
+
+/// The name of the item that is declared at an offset.
+fn item_at_name(items: &[Item], at: u32) -> Option<&Name> {
+    for item in items {
+        let name = item_name(item);
+        if name.at == at {
+            return Some(name);
+        }
+    }
+    None
+}
+
+/// Where an item of a name is declared first.
+fn first_declared(items: &[Item], text: &[u8]) -> Option<u32> {
+    for item in items {
+        let name = item_name(item);
+        if name.text.as_slice() == text {
+            return Some(name.at);
+        }
+    }
+    None
 }
 
 /// Says which known name is nearest to the one at an offset, or where that is declared already. Fails only where no host memory is left.
@@ -118,7 +160,18 @@ pub(crate) fn say_name<'p>(
     match kind_at(tokens, index) {
         Kind::Member => say_near(words, near_item(alloc, near, items, true)?, true),
         Kind::Tag => say_tag(words, alloc, items, near, at),
-        Kind::Value => say_value(words, alloc, tokens, scope, near, index),
+        Kind::Value => say_value(words, alloc, tokens, items, scope, near, index),
+    }
+}
+
+/// Says of the name of an item that it is declared already.
+fn say_second_item(words: &mut Words<'_>, items: &[Item], name: &Name) -> Result<(), AllocError> {
+    match first_declared(items, &name.text) {
+        Some(first) if first < name.at => say_second(words, &name.text, first),
+        _ => {
+            words.name(&name.text)?;
+            words.say(" is a function that every program has.\n")
+        }
     }
 }
 
@@ -127,22 +180,42 @@ fn say_value<'p>(
     words: &mut Words<'_>,
     alloc: Global,
     tokens: &[Token<'p>],
+    items: &[Item],
     scope: Option<&Scope<'_, '_>>,
     near: Nearest<'p>,
     index: usize,
 ) -> Result<(), AllocError> {
-    if let Some(scope) = scope {
-        if scope.meaning(near.unknown).is_none() {
-            return say_near(words, near_value(alloc, near, tokens, scope)?, false);
+    match scope {
+        Some(scope) if scope.meaning(near.unknown).is_none() => {
+            say_near(words, near_value(alloc, near, tokens, scope)?, false)
         }
-    }
-    match declared_before(tokens, index, near.unknown) {
-        Some(at) => say_second(words, near.unknown, at),
-        None => Ok(()),
+        _ => say_declared(words, tokens, items, near.unknown, index),
     }
 }
 
-/// The same of a tag at an index, which may be another one's too.
+/// Says that a name at an index is declared already.
+fn say_declared(
+    words: &mut Words<'_>,
+    tokens: &[Token<'_>],
+    items: &[Item],
+    name: &[u8],
+    index: usize,
+) -> Result<(), AllocError> {
+    if let Some(token) = tokens.get(index) {
+        if let Some(name) = item_at_name(items, token.at) {
+            return say_second_item(words, items, name);
+        }
+    }
+    match declared_before(tokens, index, name) {
+        Some(at) => say_second(words, name, at),
+        None => {
+            words.name(name)?;
+            words.say(" is declared already.\n")
+        }
+    }
+}
+
+/// The same of a tag at an offset, which may be another item's name too.
 fn say_tag<'p>(
     words: &mut Words<'_>,
     alloc: Global,
@@ -150,12 +223,8 @@ fn say_tag<'p>(
     near: Nearest<'p>,
     at: u32,
 ) -> Result<(), AllocError> {
-    for item in items {
-        if let Item::Struct(structure) | Item::Union(structure) = item {
-            if structure.tag.at < at && structure.tag.text.as_slice() == near.unknown {
-                return say_second(words, near.unknown, structure.tag.at);
-            }
-        }
+    if let Some(name) = item_at_name(items, at) {
+        return say_second_item(words, items, name);
     }
     say_near(words, near_item(alloc, near, items, false)?, false)
 }

@@ -1,5 +1,8 @@
 // What is said of a fault.
 
+use crate::grammar::say_grammar;
+use crate::heads::say_head;
+use crate::lexical::say_bytes;
 use crate::near_names::say_name;
 use crate::places::{item_at, offset_of};
 use crate::used::Told;
@@ -13,7 +16,7 @@ use cyc_parser::parse;
 use cyc_tree::{Function, Item};
 use cycc_driver::CompileFault;
 use std::alloc::{AllocError, Global};
-use token_reasons::{given_away, given_later, hint, index_at, lent, wanted};
+use token_reasons::{given_away, given_later, lent};
 
 /// What is looked for at a fault, by the checker's judgements.
 #[derive(Clone, Copy)]
@@ -29,26 +32,6 @@ struct Site<'t, 'a> {
     tokens: &'t [Token<'a>],
     at: u32,
     alloc: Global,
-}
-
-/// Says what was found at a fault of the grammar, and what could stand there.
-fn say_grammar(words: &mut Words<'_>, tokens: &[Token<'_>], at: u32) -> Result<(), AllocError> {
-    let index = index_at(tokens, at);
-    words.say("Found:  ")?;
-    match tokens.get(index) {
-        Some(token) => words.name(token.text)?,
-        None => words.say("the end of the text")?,
-    }
-    words.say("\nWanted: ")?;
-    words.say(wanted(tokens, index))?;
-    words.say("\n")?;
-    match hint(tokens, index) {
-        Some(hint) => {
-            words.say(hint)?;
-            words.say("\n")
-        }
-        None => Ok(()),
-    }
 }
 
 /// Says where a local was given away.
@@ -111,6 +94,14 @@ fn say_inside<'p>(
     told.say_here()
 }
 
+/// Whether an offset is behind a function's head, or in it behind the last parameter's type.
+fn is_inside(function: &Function, at: u32) -> bool {
+    match function.parameters.last() {
+        Some(parameter) => parameter.of.at < at,
+        None => function.name.at < at,
+    }
+}
+
 /// Says what is known of a fault in an item of this index, by what the program's names mean.
 fn say_item<'p>(
     words: &mut Words<'_>,
@@ -121,13 +112,15 @@ fn say_item<'p>(
     index: usize,
 ) -> Result<(), AllocError> {
     match (items.get(index), u32::try_from(index)) {
-        (Some(Item::Function(function)), Ok(item)) if function.name.at < site.at => {
+        (Some(Item::Function(function)), Ok(item)) if is_inside(function, site.at) => {
             say_inside(words, site, asked, names, items, item, function)
         }
-        _ => match asked {
+        (Some(item), _) => match asked {
             Asked::Name => say_name(words, site.alloc, site.tokens, items, None, site.at),
-            Asked::Types | Asked::Order => Ok(()),
+            Asked::Types => say_head(words, item, site.at),
+            Asked::Order => Ok(()),
         },
+        _ => Ok(()),
     }
 }
 
@@ -180,16 +173,35 @@ fn say_fault(
     }
 }
 
+/// Says what is known of a fault at an offset.
+fn say_at(
+    words: &mut Words<'_>,
+    alloc: Global,
+    text: &[u8],
+    at: u32,
+    fault: CompileFault,
+) -> Result<(), AllocError> {
+    if let CompileFault::Lex(_) = fault {
+        return say_bytes(words, text, at);
+    }
+    match tokens(alloc, text) {
+        Ok(found) => {
+            let site = Site {
+                tokens: found.as_slice(),
+                at,
+                alloc,
+            };
+            say_fault(words, site, fault)
+        }
+        Err(_) => Ok(()),
+    }
+}
+
 /// What is known of a fault of a text, in lines of words: none, where nothing is. Fails only where no host memory is left.
 pub fn reason(alloc: Global, text: &[u8], fault: CompileFault) -> Result<Vec<u8>, AllocError> {
     let mut words = Words::new(alloc, text);
-    if let (Some(place), Ok(tokens)) = (fault.place(), tokens(alloc, text)) {
-        let site = Site {
-            tokens: tokens.as_slice(),
-            at: offset_of(text, place),
-            alloc,
-        };
-        say_fault(&mut words, site, fault)?;
+    if let Some(place) = fault.place() {
+        say_at(&mut words, alloc, text, offset_of(text, place), fault)?;
     }
     Ok(words.into_bytes())
 }

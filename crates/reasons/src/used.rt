@@ -3,6 +3,7 @@
 use crate::labels::{Labels, layer_region};
 use crate::nodes::Look;
 use crate::order::{Apart, regions_apart, say_cure, say_order, say_returned_cure};
+use crate::paired::wanted_of;
 use crate::printed::say_type;
 use crate::walk::{Here, Walk};
 use crate::words::Words;
@@ -94,7 +95,11 @@ impl<'m, 'w, 'g, 'p> Told<'m, 'w, 'g, 'p> {
     }
 
     /// Says two types that don't agree.
-    fn say_types(&mut self, found: &Value<'p>, wanted: &CType<'p>) -> Result<(), AllocError> {
+    pub(crate) fn say_types(
+        &mut self,
+        found: &Value<'p>,
+        wanted: &CType<'p>,
+    ) -> Result<(), AllocError> {
         self.say_found(found)?;
         self.say_wanted(wanted)?;
         self.say_regions(&found.of, wanted)
@@ -111,19 +116,21 @@ impl<'m, 'w, 'g, 'p> Told<'m, 'w, 'g, 'p> {
         }
     }
 
-    /// Says of two expressions their types, of which the first was found and the other wanted.
-    fn say_both(&mut self, one: &Expression, other: &Expression) -> Result<(), AllocError> {
-        let found = self.judged(one)?;
-        let wanted = self.judged(other)?;
-        match (found, wanted) {
-            (Verdict::Of(found), Verdict::Of(wanted)) => self.say_types(&found, &wanted.of),
-            _ => Ok(()),
-        }
+    /// Says of an expression its type and the one that was wanted, which don't agree.
+    pub(crate) fn say_given(
+        &mut self,
+        value: &Expression,
+        found: &Value<'p>,
+        wanted: &CType<'p>,
+    ) -> Result<(), AllocError> {
+        self.say_types(found, wanted)?;
+        self.say_union_cure(value, &found.of, wanted)
     }
 
-    /// Says of two operands their types.
+    /// Says of two operands of an operator their types.
     fn say_beside(
         &mut self,
+        operator: Operator,
         one: Option<CType<'p>>,
         other: Option<CType<'p>>,
     ) -> Result<(), AllocError> {
@@ -133,7 +140,7 @@ impl<'m, 'w, 'g, 'p> Told<'m, 'w, 'g, 'p> {
         say_typed(self.words, &self.walk.labels, "Found:  ", &one)?;
         say_typed(self.words, &self.walk.labels, "Beside: ", &other)?;
         if !self.is_order {
-            return Ok(());
+            return self.words.say(wanted_of(operator, &one, &other));
         }
         match regions_apart(&self.walk.scope, &one, &other)? {
             Some(apart) => say_cure(self.words, &self.walk.labels, &self.head, apart),
@@ -150,7 +157,7 @@ impl<'m, 'w, 'g, 'p> Told<'m, 'w, 'g, 'p> {
             let other = type_of(&operand)?;
             judged = self.applied(link.operator, judged, operand)?;
             if judged.fault().is_some() {
-                return self.say_beside(one, other);
+                return self.say_beside(link.operator, one, other);
             }
         }
         Ok(())
@@ -167,12 +174,13 @@ impl<'m, 'w, 'g, 'p> Told<'m, 'w, 'g, 'p> {
     /// Says of an expression with a fault of its own what was found and wanted in it.
     fn say_node(&mut self, node: &Expression) -> Result<(), AllocError> {
         match node {
-            Expression::Assign(to, from) => self.say_both(from, to),
+            Expression::Assign(to, from) => self.say_assigned(to, from),
             Expression::Call(name, arguments) => self.say_call(name, arguments),
             Expression::Chain(first, links) => self.say_operands(first, links),
+            Expression::Variable(name) => self.say_variable(name),
+            Expression::Suffixed(part, suffixes) => self.say_suffixed(part, suffixes),
             Expression::Prefixed(_, _, part)
             | Expression::NumElts(_, part)
-            | Expression::Suffixed(part, _)
             | Expression::AllOf(part, _)
             | Expression::AnyOf(part, _) => self.say_one(part),
             Expression::MakeUnion(tag, member, value) => self.say_union(tag, member, value),
@@ -181,7 +189,7 @@ impl<'m, 'w, 'g, 'p> Told<'m, 'w, 'g, 'p> {
     }
 
     /// The value of an expression without a fault; of another one says what was found in it.
-    fn known(&mut self, value: &Expression) -> Result<Option<Value<'p>>, AllocError> {
+    pub(crate) fn known(&mut self, value: &Expression) -> Result<Option<Value<'p>>, AllocError> {
         match self.judged(value)? {
             Verdict::Of(found) => Ok(Some(found)),
             Verdict::Wrong(_) => {
@@ -208,7 +216,8 @@ impl<'m, 'w, 'g, 'p> Told<'m, 'w, 'g, 'p> {
         self.words.written(of.at, end_of(name))?;
         self.words.say("\n")?;
         let region = written_region(&self.walk, of);
-        self.say_outer(&found, region)
+        self.say_outer(&found, region)?;
+        self.say_begun_cure(value, of)
     }
 
     /// Says what a function returns.
@@ -275,16 +284,6 @@ impl<'m, 'w, 'g, 'p> Told<'m, 'w, 'g, 'p> {
         }
     }
 
-    /// Says of two places that are exchanged what was found and wanted.
-    fn say_exchanged(&mut self, left: &Expression, right: &Expression) -> Result<(), AllocError> {
-        let one = self.known(left)?;
-        let other = self.known(right)?;
-        match (one, other) {
-            (Some(one), Some(other)) => self.say_types(&other, &one.of),
-            _ => Ok(()),
-        }
-    }
-
     /// Says what was found and wanted at the position.
     pub(crate) fn say_here(&mut self) -> Result<(), AllocError> {
         match self.walk.here {
@@ -303,7 +302,7 @@ impl<'m, 'w, 'g, 'p> Told<'m, 'w, 'g, 'p> {
 }
 
 /// Says a type behind a word.
-fn say_typed(
+pub(crate) fn say_typed(
     words: &mut Words<'_>,
     labels: &Labels<'_>,
     word: &str,
@@ -321,7 +320,7 @@ pub(crate) fn end_of(name: &Name) -> u32 {
 }
 
 /// The type of an expression, where it is known. Fails only where no host memory is left.
-fn type_of<'p>(judged: &Verdict<Value<'p>>) -> Result<Option<CType<'p>>, AllocError> {
+pub(crate) fn type_of<'p>(judged: &Verdict<Value<'p>>) -> Result<Option<CType<'p>>, AllocError> {
     match judged {
         Verdict::Of(value) => Ok(Some(value.of.try_clone()?)),
         Verdict::Wrong(_) | Verdict::NotJudged => Ok(None),

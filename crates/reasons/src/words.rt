@@ -1,6 +1,8 @@
 // Words on a text.
 
+use crate::marked::push_marked;
 use cyc_lexer::place_of;
+use cycc_driver::Place;
 use std::alloc::{AllocError, Global};
 
 /// The most bytes of a text that are shown in a line of words.
@@ -66,6 +68,25 @@ impl<'a> Words<'a> {
         let (line, column) = place_of(self.text, at);
         let position = format!(in self.alloc; "{line}:{column}")?;
         self.say(position.as_str())
+    }
+
+    /// Adds the line of an offset, with a mark below it.
+    pub(crate) fn marked(&mut self, at: u32) -> Result<(), AllocError> {
+        push_marked(&mut self.out, self.text, Place::at(self.text, at))
+    }
+
+    /// The line of an offset.
+    pub(crate) fn line(&self, at: u32) -> u32 {
+        let (line, _) = place_of(self.text, at);
+        line
+    }
+
+    /// Whether the text has this byte at an offset.
+    pub(crate) fn has(&self, at: u32, byte: u8) -> bool {
+        match self.text.get(at as usize) {
+            Some(other) => *other == byte,
+            None => false,
+        }
     }
 
     /// Adds what the text has from an offset on and before another one, in one line.

@@ -6,6 +6,9 @@ use std::alloc::AllocError;
 /// The most bytes of a text.
 const MOST_BYTES: usize = 1_048_576;
 
+/// What is said of a line for the preprocessor.
+const PREPROCESSOR: &str = "There is no preprocessor. For `#include` name the parts in the command, `cycc run main.cyc lib/io.cyc`; for `#define` write a global.\n";
+
 /// The digits of bytes in hexadecimal.
 const DIGITS: &[u8; 16] = b"0123456789abcdef";
 
@@ -59,9 +62,6 @@ fn say_string(words: &mut Words<'_>, rest: &[u8], at: u32) -> Result<(), AllocEr
 /// Says what is wrong with other bytes.
 fn say_other(words: &mut Words<'_>, byte: u8) -> Result<(), AllocError> {
     match byte {
-        b'#' => words.say(
-            "There is no preprocessor. For `#include` name the parts in the command, `cycc run main.cyc lib/io.cyc`; for `#define` write a global.\n",
-        ),
         b'\'' => words.say(
             "A character is one byte from 32 to 126 or one escape, as 'a', '\\n' and '\\x4a'.\n",
         ),
@@ -88,7 +88,8 @@ pub(crate) fn say_bytes(words: &mut Words<'_>, text: &[u8], at: u32) -> Result<(
             "The comment that begins here has no end: `*/` is missing.\n",
         ),
         [b'"', rest @ ..] => say_string(words, rest, at),
+        [b'#', b'a'..=b'z', ..] => words.say(PREPROCESSOR),
+        [b'#', ..] | [] => Ok(()),
         [byte, ..] => say_other(words, *byte),
-        [] => Ok(()),
     }
 }

@@ -3,11 +3,6 @@
 use crate::seen::kind_at;
 use cyc_lexer::{Keyword, Sign, Token, TokenKind};
 
-/// The tokens from an index on.
-fn from_index<'t, 'a: 't>(tokens: &'t [Token<'a>], index: usize) -> &'t [Token<'a>] {
-    tokens.get(index..).unwrap_or(&[])
-}
-
 /// How many brackets are open behind a token, where so many are before it.
 fn depth_behind(kind: TokenKind, depth: usize) -> usize {
     match kind {
@@ -24,7 +19,8 @@ fn depth_behind(kind: TokenKind, depth: usize) -> usize {
 /// The index behind the bracket that closes the one of an index.
 fn behind_brackets(tokens: &[Token<'_>], index: usize) -> usize {
     let mut depth = 0usize;
-    for (count, token) in from_index(tokens, index).iter().enumerate() {
+    let rest = tokens.get(index..).unwrap_or(&[]);
+    for (count, token) in rest.iter().enumerate() {
         depth = depth_behind(token.kind, depth);
         if depth == 0 {
             return index.saturating_add(count).saturating_add(1);
@@ -36,7 +32,8 @@ fn behind_brackets(tokens: &[Token<'_>], index: usize) -> usize {
 /// The index behind the `;` that ends a statement which an index is in.
 fn behind_semicolon(tokens: &[Token<'_>], index: usize) -> usize {
     let mut depth = 0usize;
-    for (count, token) in from_index(tokens, index).iter().enumerate() {
+    let rest = tokens.get(index..).unwrap_or(&[]);
+    for (count, token) in rest.iter().enumerate() {
         depth = depth_behind(token.kind, depth);
         if depth == 0 && matches!(token.kind, TokenKind::Sign(Sign::Semicolon)) {
             return index.saturating_add(count).saturating_add(1);

@@ -15,7 +15,7 @@ enum Whole<'p> {
 }
 
 /// What a type is, where it is such a one.
-fn whole(of: &TypeName) -> Option<Whole<'_>> {
+fn whole_of(of: &TypeName) -> Option<Whole<'_>> {
     if !of.pointers.is_empty() {
         return None;
     }
@@ -53,7 +53,7 @@ fn say_found(words: &mut Words<'_>, member: &Member) -> Result<(), AllocError> {
 
 /// Says of a parameter that it is a scalar.
 fn say_parameter(words: &mut Words<'_>, member: &Member) -> Result<(), AllocError> {
-    let Some(of) = whole(&member.of) else {
+    let Some(of) = whole_of(&member.of) else {
         return Ok(());
     };
     say_found(words, member)?;
@@ -65,7 +65,7 @@ fn say_parameter(words: &mut Words<'_>, member: &Member) -> Result<(), AllocErro
 
 /// Says of a function's result that it is a scalar.
 fn say_result(words: &mut Words<'_>, function: &Function) -> Result<(), AllocError> {
-    let Some(of) = whole(&function.result) else {
+    let Some(of) = whole_of(&function.result) else {
         return Ok(());
     };
     words.say("Found:  ")?;
@@ -100,7 +100,7 @@ fn say_function(words: &mut Words<'_>, function: &Function, at: u32) -> Result<(
 
 /// Says of a member of a struct or union what it may be.
 fn say_member(words: &mut Words<'_>, member: &Member, is_union: bool) -> Result<(), AllocError> {
-    if whole(&member.of).is_none() {
+    if whole_of(&member.of).is_none() {
         return Ok(());
     }
     say_found(words, member)?;
@@ -137,7 +137,7 @@ fn say_global(words: &mut Words<'_>, global: &GlobalItem, at: u32) -> Result<(),
     if let Initial::Array(0) = global.initial {
         return words.say("An array has one element at least.\n");
     }
-    match whole(&global.of) {
+    match whole_of(&global.of) {
         Some(Whole::Union(_)) => words.say(
             "No global is a union, since a union has no value to begin with. Write a pointer to one.\n",
         ),

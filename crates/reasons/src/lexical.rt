@@ -7,7 +7,8 @@ use std::alloc::AllocError;
 const MOST_BYTES: usize = 1_048_576;
 
 /// What is said of a line for the preprocessor.
-const PREPROCESSOR: &str = "There is no preprocessor. For `#include` name the parts in the command, `cycc run main.cyc lib/io.cyc`; for `#define` write a global.\n";
+const PREPROCESSOR: &str =
+    "There is no preprocessor. For `#include` name the parts in the command, `cycc run main.cyc lib/io.cyc`; for `#define` write a global.\n";
 
 /// The digits of bytes in hexadecimal.
 const DIGITS: &[u8; 16] = b"0123456789abcdef";

@@ -18,7 +18,8 @@ pub mod Cases
 pub mod Layouts
 pub mod Reaches
 pub mod PlainExpressions
+pub mod Kept
+pub mod Forms
 pub mod Quiet
-pub mod QuietForms
 mod ShapeSamples
 mod BoundSamples

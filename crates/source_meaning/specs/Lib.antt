@@ -13,5 +13,6 @@ pub mod Expressions
 pub mod Regions
 pub mod Statements
 pub mod Strings
+pub mod Callees
 pub mod Programs
 pub mod Laws

@@ -3,7 +3,7 @@ use Rattle.std.specs.Prelude.{ℕ, Bool, true, false, Option, Some, None, List}
 use Rattle.cyc_tree.specs.Tree.{Expression, Statement, BlockItems}
 use Rattle.cyc_words.specs.declared.faults.Kind.{Kind}
 use Rattle.cyc_words.specs.Events.{Event, SourceEvent, Visible, SourceEnding}
-use Rattle.step_trees.specs.Trees.{Tree, Bodies, Calls, Turns, Stops, Says, Pays, after, run}
+use Rattle.step_trees.specs.Trees.{Tree, Bodies, Calls, Turns, Stops, Says, Pays}
 use Rattle.source_meaning.specs.Shapes.{Shape, Part, Layout}
 use Rattle.source_meaning.specs.Memory.{Memory, Scalar, Spot}
 

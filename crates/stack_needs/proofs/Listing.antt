@@ -1,7 +1,7 @@
 -- Callees that are listed one after the other.
 use Rattle.std.proofs.Common.{◌≡◌, ◌∙◌, ◌+◌, ◌<◌, ℕ, sym, ap, refl, false, List, [], ◌∷◌, ◌++◌, length, map, drop, get_or, append_assoc}
 use Rattle.std.proofs.lemmas.List.{append-nil, drop_more}
-use Rattle.stack_proof.specs.Callees.{clauses_callees, expression_callees, expressions_callees, items_callees, links_callees, suffixes_callees}
+use Rattle.source_meaning.specs.Callees.{clauses_callees, expression_callees, expressions_callees, items_callees, links_callees, suffixes_callees}
 use Rattle.cyc_tree.specs.Tree.{Expression}
 use Rattle.cyc_tree.specs.View.{OneClause, OneItem, OneSuffix, clauses_of, expressions_of, items_of, links_of, suffixes_of}
 use Rattle.cyc_tree.specs.declared.expression.Operator.{Operator}

@@ -7,7 +7,7 @@ use Rattle.cyc_tree.specs.Tree.{Program}
 use Rattle.source_meaning.specs.Calls.{function_of}
 use Rattle.source_meaning.specs.Programs.{functions_of, world_of}
 use Rattle.source_meaning.specs.Steps.{Routine, World}
-use Rattle.stack_proof.specs.Callees.{items_callees}
+use Rattle.source_meaning.specs.Callees.{items_callees}
 use Rattle.stack_proof.specs.Fits.{Fits, Leaves}
 use Rattle.stack_needs.specs.Graph.{AreNumbers, FitsAt, IsAnswer, IsNeed, LeavesAt, called_by, known, most_bytes}
 use Rattle.stack_needs.specs.Numbers.{calls_among, frame_at, frame_by, number_from, numbers_among, with_number, AreNeedsOf, IsNeedOf, IsStackNeed, need_at}

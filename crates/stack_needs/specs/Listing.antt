@@ -3,7 +3,7 @@ use Rattle.std.specs.Prelude.{ℕ, ◌≡◌, false, List, ◌++◌, drop, map, 
 use Rattle.cyc_tree.specs.Tree.{Expression}
 use Rattle.cyc_tree.specs.View.{OneClause, OneItem, OneSuffix}
 use Rattle.cyc_tree.specs.declared.expression.Operator.{Operator}
-use Rattle.stack_proof.specs.Callees.{declaration_callees, expression_callees, items_callees, statement_callees}
+use Rattle.source_meaning.specs.Callees.{declaration_callees, expression_callees, items_callees, statement_callees}
 use Rattle.stack_needs.specs.declared.callee.Callee.{Callee}
 use Rattle.stack_needs.specs.declared.callee.Callees.{Callees}
 

@@ -5,7 +5,7 @@ use Rattle.cyc_tree.specs.Tree.{Program}
 use Rattle.source_meaning.specs.Calls.{function_of}
 use Rattle.source_meaning.specs.Programs.{functions_of, world_of}
 use Rattle.source_meaning.specs.Steps.{Routine, World}
-use Rattle.stack_proof.specs.Callees.{items_callees}
+use Rattle.source_meaning.specs.Callees.{items_callees}
 use Rattle.stack_proof.specs.Fits.{Fits, ProgramFits}
 use Rattle.stack_needs.specs.Graph.{IsRecursion, known, most_bytes}
 use Rattle.stack_needs.specs.declared.numbers.Numbers as code

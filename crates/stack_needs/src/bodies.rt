@@ -2,7 +2,7 @@
 
 ghost use Rattle.std.specs.Prelude.{map, option_map};
 ghost use Rattle.cyc_tree.specs.View.{clause_tree, clauses_of, declaration_tree, expression_tree, initializer_tree, item_tree, items_of, statement_tree};
-ghost use Rattle.stack_proof.specs.Callees.{clauses_callees, declaration_callees, initializer_callees, items_callees, returned_callees, statement_callees};
+ghost use Rattle.source_meaning.specs.Callees.{clauses_callees, declaration_callees, initializer_callees, items_callees, returned_callees, statement_callees};
 ghost use Rattle.stack_needs.specs.Listing.{Lists, one_item_callees};
 
 use crate::callee::Callees;

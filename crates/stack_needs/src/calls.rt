@@ -3,7 +3,7 @@
 ghost use Rattle.std.specs.Prelude.{◌≡◌, IfOk};
 ghost use Rattle.cyc_tree.specs.View.{function_tree, program_tree};
 ghost use Rattle.source_meaning.specs.Programs.{functions_of};
-ghost use Rattle.stack_proof.specs.Callees.{items_callees};
+ghost use Rattle.source_meaning.specs.Callees.{items_callees};
 ghost use Rattle.stack_needs.specs.Graph.{rows_of};
 ghost use Rattle.stack_needs.specs.Listing.{listed};
 ghost use Rattle.stack_needs.specs.Numbers.{calls_among, numbers_among};

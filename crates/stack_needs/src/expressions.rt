@@ -2,7 +2,7 @@
 
 ghost use Rattle.std.specs.Prelude.{map};
 ghost use Rattle.cyc_tree.specs.View.{expression_tree, expressions_of, link_tree, links_of, made_tree, suffix_tree, suffixes_of};
-ghost use Rattle.stack_proof.specs.Callees.{expression_callees, expressions_callees, links_callees, made_callees, suffixes_callees};
+ghost use Rattle.source_meaning.specs.Callees.{expression_callees, expressions_callees, links_callees, made_callees, suffixes_callees};
 ghost use Rattle.stack_needs.specs.Listing.{Lists, suffix_callees};
 
 use crate::callee::{Callees, add};

@@ -1,4 +1,2 @@
-pub mod Kept
-pub mod Forms
 pub mod Runs
 pub mod Suffices

@@ -11,12 +11,12 @@ use Rattle.source_meaning.specs.Steps.{World, Routine, LoopTurn, Flow, Step, ◌
 use Rattle.source_meaning.specs.Conversions.{one, integer}
 use Rattle.source_meaning.specs.Calls.{function_of}
 use Rattle.source_meaning.specs.Programs.{world_of, entered, turned, source_bodies, first_memory, start}
-use Rattle.stack_proof.specs.Callees.{expression_callees, statement_callees, items_callees}
+use Rattle.source_meaning.specs.Callees.{expression_callees, statement_callees, items_callees}
 use Rattle.rv32_machine.specs.Implements.{active_after, frames}
 use Rattle.stack_proof.specs.Fits.{Fits, Leaves, ProgramFits}
 use Rattle.stack_proof.specs.Laws.{StackSuffices}
-use Rattle.stack_proof.proofs.Kept.{Property, one_keeps, integer_keeps}
-use Rattle.stack_proof.proofs.Forms.{body_keeps, turned_keeps, globals_keep}
+use Rattle.source_meaning.proofs.Kept.{Property, one_keeps, integer_keeps}
+use Rattle.source_meaning.proofs.Forms.{body_keeps, turned_keeps, globals_keep}
 
 -- the active functions after a return
 abbrev left_by : List (List ℕ) → List (List ℕ)
@@ -62,9 +62,10 @@ module _ (bound : List ℕ → ℕ) (n : ℕ) where
     Has = AreWithin active;
     MayCall = CalleeFits room;
     stops = λ ending. tt;
-    says = λ event s h. h;
-    reads = λ next h. h;
+    says = λ event silent s h. h;
     pays = λ next m h. h;
+    reads = λ next m h. h;
+    writes = λ byte next m h. h;
     calls = λ w name f is may arguments next m h. (record { room = room; fits = may f is; left = le }, h);
     turns = λ turn c next m h. (record { room = room; fit = c; left = le }, h);
   }

@@ -5,7 +5,7 @@ use Rattle.cyc_tree.specs.Tree.{Program}
 use Rattle.source_meaning.specs.Steps.{World, Routine}
 use Rattle.source_meaning.specs.Calls.{function_of}
 use Rattle.source_meaning.specs.Programs.{world_of}
-use Rattle.stack_proof.specs.Callees.{items_callees}
+use Rattle.source_meaning.specs.Callees.{items_callees}
 
 -- A function fits so many bytes: its own frame, and beside it what each function that its body calls fits. `bound` says how many bytes a function's frame may
 -- take. This is a finite tree, so a function from which a recursion is reached fits nothing.

@@ -1,7 +1,7 @@
 use Rattle.std.proofs.Common.{map, sym, subst}
 use Rattle.cyc_tree.proofs.PartForms.{clause_parts}
 use Rattle.cyc_tree.specs.View.{OneClause, clause_tree, clauses_of, item_tree, items_of}
-use Rattle.stack_proof.specs.Callees.{clauses_callees, items_callees}
+use Rattle.source_meaning.specs.Callees.{clauses_callees, items_callees}
 use Rattle.stack_needs.specs.Listing.{Lists, clause_callees, one_item_callees}
 use Rattle.stack_needs.proofs.Listing.{of_clauses, of_items, one_more}
 use Rattle.stack_needs.proofs.bodies.+bodies.Goals as goal

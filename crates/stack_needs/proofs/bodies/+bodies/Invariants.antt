@@ -1,6 +1,6 @@
 use Rattle.std.proofs.Common.{map}
 use Rattle.cyc_tree.specs.View.{clause_tree, clauses_of, item_tree, items_of}
-use Rattle.stack_proof.specs.Callees.{clauses_callees, items_callees}
+use Rattle.source_meaning.specs.Callees.{clauses_callees, items_callees}
 use Rattle.stack_needs.specs.Listing.{ListsTo}
 use Rattle.stack_needs.proofs.bodies.+bodies.Given as goal
 

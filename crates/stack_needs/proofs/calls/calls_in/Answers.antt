@@ -1,7 +1,7 @@
 use Rattle.std.proofs.Common.{◌∙◌, ap, map}
 use Rattle.cyc_tree.specs.View.{item_tree, items_of}
 use Rattle.source_meaning.specs.Programs.{functions_of}
-use Rattle.stack_proof.specs.Callees.{items_callees}
+use Rattle.source_meaning.specs.Callees.{items_callees}
 use Rattle.stack_needs.specs.Listing.{listed}
 use Rattle.stack_needs.specs.Numbers.{numbers_among}
 use Rattle.stack_needs.proofs.Listing.{from_nothing}

@@ -1,7 +1,7 @@
 use Rattle.std.proofs.Common.{sym, subst}
 use Rattle.cyc_tree.proofs.Forms.{link_parts}
 use Rattle.cyc_tree.specs.View.{expression_tree, expressions_of, link_tree, links_of, suffix_tree, suffixes_of}
-use Rattle.stack_proof.specs.Callees.{expression_callees, expressions_callees, links_callees, suffixes_callees}
+use Rattle.source_meaning.specs.Callees.{expression_callees, expressions_callees, links_callees, suffixes_callees}
 use Rattle.stack_needs.specs.Listing.{Lists, link_callees, suffix_callees}
 use Rattle.stack_needs.proofs.Listing.{of_expressions, of_links, of_suffixes, one_more}
 use Rattle.stack_needs.proofs.expressions.+expressions.Goals as goal

@@ -1,6 +1,6 @@
 use Rattle.std.proofs.Common.{map}
 use Rattle.cyc_tree.specs.View.{expression_tree, expressions_of, link_tree, links_of, suffix_tree, suffixes_of}
-use Rattle.stack_proof.specs.Callees.{expressions_callees, links_callees, suffixes_callees}
+use Rattle.source_meaning.specs.Callees.{expressions_callees, links_callees, suffixes_callees}
 use Rattle.stack_needs.specs.Listing.{ListsTo}
 use Rattle.stack_needs.proofs.expressions.+expressions.Given as goal
 

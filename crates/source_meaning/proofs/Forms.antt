@@ -17,8 +17,8 @@ use Rattle.source_meaning.specs.Expressions.{is_unique_region, element_scope, se
 use Rattle.source_meaning.specs.Regions.{in_block, declared, local_with, initialised, operand_of, operand, lending, region_born, region_freed, lexical_region, key_of, new_key, key_opened, key_closed, open_key, key_freed, unique_freed, pointer_freed, local_freed, aliased}
 use Rattle.source_meaning.specs.Statements.{falls_to, after_turn, loop, exchanged, after_switch, local, declaration, Held, held_by, is_position, statement, block_items, case_for, default_for}
 use Rattle.source_meaning.specs.Programs.{is_main, result_at_end, result_of, with_arguments, turned, constant_value, constant_shape, global_stored, globals_stored, heap_spot}
-use Rattle.stack_proof.proofs.Kept.{Property, SensesKeep, SenseKeeps, Keeps, both_parts, all_true_keeps, any_true_keeps, applied_keeps, array_keeps, assigned_keeps, block_keeps, call_keeps, check_keeps, choose_keeps, constant_keeps, contents_keeps, converted_keeps, counted_keeps, entity_keeps, finally_keeps, give_keeps, handle_keeps, if_keeps, in_region_keeps, indexed_keeps, looked, made_in_keeps, made_keeps, member_keeps, need_keeps, no_sense_keeps, object_keeps, prefixed_keeps, put_keeps, read_cell_keeps, read_cells_keeps, scalar_keeps, stuck_keeps, tested_keeps, truth_keeps, union_keeps, value_is_keeps, write_cells_keeps}
-use Rattle.stack_proof.specs.Callees.{expression_callees, expressions_callees, links_callees, suffixes_callees, made_callees, initializer_callees, declaration_callees, statement_callees, items_callees, clauses_callees}
+use Rattle.source_meaning.proofs.Kept.{Property, SensesKeep, SenseKeeps, Keeps, both_parts, all_true_keeps, any_true_keeps, applied_keeps, array_keeps, assigned_keeps, block_keeps, call_keeps, check_keeps, choose_keeps, constant_keeps, contents_keeps, converted_keeps, counted_keeps, entity_keeps, finally_keeps, give_keeps, handle_keeps, if_keeps, in_region_keeps, indexed_keeps, looked, made_in_keeps, made_keeps, member_keeps, need_keeps, no_sense_keeps, object_keeps, prefixed_keeps, put_keeps, read_cell_keeps, read_cells_keeps, scalar_keeps, stuck_keeps, tested_keeps, truth_keeps, union_keeps, value_is_keeps, write_cells_keeps}
+use Rattle.source_meaning.specs.Callees.{expression_callees, expressions_callees, links_callees, suffixes_callees, made_callees, initializer_callees, declaration_callees, statement_callees, items_callees, clauses_callees}
 
 -- a scope's program may have calls of all these names
 abbrev pub MayCallAll : Property → Scope → List (List ℕ) → Type 0
@@ -144,10 +144,10 @@ module _ (P : Property) where
   }
 
   born_keeps : Keeps P region_born
-  born_keeps = record { go = λ next m h. P.says _ _ (h _ _) }
+  born_keeps = record { go = λ next m h. P.says _ tt _ (h _ _) }
 
   region_freed_keeps : (r : ℕ) → Keeps P (region_freed r)
-  region_freed_keeps r = record { go = λ next m h. (check_keeps P (is_live m (Born r))).go _ m (λ a m1. P.says _ _ (h tt _)) }
+  region_freed_keeps r = record { go = λ next m h. (check_keeps P (is_live m (Born r))).go _ m (λ a m1. P.says _ tt _ (h tt _)) }
 
   lexical_keeps : (scope : Scope) (handle : List ℕ) (rest : Scope → Act Flow) → KeepsWithin P scope rest → Keeps P (lexical_region scope handle rest)
   lexical_keeps scope handle rest x = in_region_keeps P region_born region_freed _ born_keeps region_freed_keeps (λ r. local_with_keeps scope handle HandleShape
@@ -159,15 +159,15 @@ module _ (P : Property) where
 
   new_key_keeps : (scope : Scope) (key : List ℕ) (rest : Scope → Act Flow) → KeepsWithin P scope rest → Keeps P (new_key scope key rest)
   new_key_keeps scope key rest x = record {
-    go = λ next m h. P.says _ _ ((local_with_keeps scope key KeyShape (KeyOf m.births ∷ []) rest x).go next (with_state (record m { births = m.births + 1 })
+    go = λ next m h. P.says _ tt _ ((local_with_keeps scope key KeyShape (KeyOf m.births ∷ []) rest x).go next (with_state (record m { births = m.births + 1 })
         (Born m.births) Closed) h);
   }
 
   opened_keeps : (r : ℕ) → Keeps P (key_opened r)
-  opened_keeps r = record { go = λ next m h. (check_keeps P (is_closed m (Born r))).go _ m (λ a m1. P.says _ _ (h r _)) }
+  opened_keeps r = record { go = λ next m h. (check_keeps P (is_closed m (Born r))).go _ m (λ a m1. P.says _ tt _ (h r _)) }
 
   closed_keeps : (r : ℕ) → Keeps P (key_closed r)
-  closed_keeps r = record { go = λ next m h. (check_keeps P (is_live m (Born r))).go _ m (λ a m1. P.says _ _ (h tt _)) }
+  closed_keeps r = record { go = λ next m h. (check_keeps P (is_live m (Born r))).go _ m (λ a m1. P.says _ tt _ (h tt _)) }
 
   open_keeps : (scope : Scope) (handle key : List ℕ) (rest : Scope → Act Flow) → KeepsWithin P scope rest → Keeps P (open_key scope handle key rest)
   open_keeps scope handle key rest x = record {
@@ -177,11 +177,11 @@ module _ (P : Property) where
   }
 
   key_freed_keeps : (v : Scalar) → Keeps P (key_freed v)
-  key_freed_keeps v = record { go = λ next m h. (key_keeps v).go _ m (λ r m1. (check_keeps P (is_closed m1 (Born r))).go _ m1 (λ a m2. P.says _ _ (h tt _))) }
+  key_freed_keeps v = record { go = λ next m h. (key_keeps v).go _ m (λ r m1. (check_keeps P (is_closed m1 (Born r))).go _ m1 (λ a m2. P.says _ tt _ (h tt _))) }
 
   unique_freed_keeps : (r : Region) → Keeps P (unique_freed r)
   unique_freed_keeps (Frame k) = stuck_keeps P
-  unique_freed_keeps (Born r) = record { go = λ next m h. (check_keeps P (is_live m (Born r))).go _ m (λ a m1. P.says _ _ (h tt _)) }
+  unique_freed_keeps (Born r) = record { go = λ next m h. (check_keeps P (is_live m (Born r))).go _ m (λ a m1. P.says _ tt _ (h tt _)) }
 
   pointer_freed_keeps : (v : Scalar) → Keeps P (pointer_freed v)
   pointer_freed_keeps (Thin None) = give_keeps P tt

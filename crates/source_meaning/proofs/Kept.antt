@@ -8,7 +8,7 @@ use Rattle.cyc_tree.specs.declared.expression.Operator.TheVariants.{Subtract, Bi
 use Rattle.cyc_tree.specs.declared.expression.Prefix.{Prefix}
 use Rattle.cyc_tree.specs.declared.expression.Prefix.TheVariants.{Negate, Not, Complement, Dereference, AddressOf}
 use Rattle.cyc_words.specs.declared.faults.Kind.{Kind}
-use Rattle.cyc_words.specs.Events.{Event, Visible, SourceEnding}
+use Rattle.cyc_words.specs.Events.{Event, ByteRead, ByteWritten, SourceEvent, Visible, SourceEnding}
 use Rattle.step_trees.specs.Trees.{Calls, Turns, Stops, Says, Reads, Pays}
 use Rattle.source_meaning.specs.Shapes.{parts_of, Reach, MayBeNull, NeverNull, bound_in, Owner, Shared, Alone, Shape, IntShape, UnsignedShape, CharShape, ThinShape, FatShape, ArrayShape, part_shape, part_shapes, pointee, has_tag, same_shape}
 use Rattle.source_meaning.specs.Memory.{Region, Frame, Born, Spot, Span, Scalar, IntegerType, AsInt, AsUnsigned, AsChar, Integer, Thin, Wide, HandleOf, Content, Holds, Blank, Gone, Lent, Object, State, Live, Dead, Memory, beyond, any_moved, cell_at, is_live, is_of, with_state}
@@ -20,17 +20,25 @@ use Rattle.source_meaning.specs.Making.{Maker, AsUnique, InRegion, maker_of, ask
 use Rattle.source_meaning.specs.Places.{Sense, value_sense, place_sense, no_sense, span_at, entity_sense, contents, indexed_span, indexed, member, address_of, given_by, assigned}
 use Rattle.source_meaning.specs.Calls.{constant, applied, truth, all_true, any_true, tested, inverted, prefixed, elements_left, counted, converted_all, flat, function_of, called, read_byte, write_byte, struct_made, call_sense, union_made, made, index_in, index_made, elements, array_made, handle_maker, made_in}
 use Rattle.source_meaning.specs.Regions.{in_region, enter_block, in_block}
-use Rattle.stack_proof.specs.Callees.{expression_callees, statement_callees}
+use Rattle.source_meaning.specs.Callees.{expression_callees, statement_callees}
+
+-- an event that is no byte
+abbrev pub IsSilent : SourceEvent → Type 0
+IsSilent (Visible (ByteRead byte)) = ⊥
+IsSilent (Visible (ByteWritten byte)) = ⊥
+IsSilent _ = Unit {0}
 
 -- A property of steps: which they are that have it, and which names may be called in a program. A run that is over has it. So has a run that goes on by a visible
--- event, a read or a unit, if what follows has it; and so has a call of a function by a name that may be called, and a turn in which all calls are by such names.
+-- event that is no byte, by a unit, or by a unit and then a byte that is read or written, if what follows has it; and so has a call of a function by a name that
+-- may be called, and a turn in which all calls are by such names.
 pub record Property : Type 1 where
   pub Has : Step → Type 0
   pub MayCall : World → List ℕ → Type 0
   pub stops : (ending : SourceEnding) → Has (Stops ending)
-  pub says : (event : Event) (s : Step) → Has s → Has (Says (Visible event) s)
-  pub reads : (next : Option ℕ → Step) → ((byte : Option ℕ) → Has (next byte)) → Has (Reads next)
+  pub says : (event : Event) → IsSilent (Visible event) → (s : Step) → Has s → Has (Says (Visible event) s)
   pub pays : (next : Memory → Step) (m : Memory) → Has (next m) → Has (Pays next m)
+  pub reads : (next : Memory → Option ℕ → Step) (m : Memory) → ((byte : Option ℕ) → Has (next m byte)) → Has (Pays (λ later. Reads (next later)) m)
+  pub writes : (byte : ℕ) (next : Memory → Step) (m : Memory) → Has (next m) → Has (Pays (λ later. Says (Visible (ByteWritten byte)) (next later)) m)
   pub calls : (w : World) (name : List ℕ) (f : Routine) → function_of w.functions name ≡ Some f → MayCall w name → (arguments : List (List Scalar))
       (next : List Scalar → Memory → Step) (m : Memory) → ((vs : List Scalar) (later : Memory) → Has (next vs later))
       → Has (Calls (record { routine = f; world = w; arguments = arguments }) next m)
@@ -318,13 +326,13 @@ module _ (P : Property) where
   })
 
   read_byte_keeps : (es : List Sense) → Keeps P (read_byte es)
-  read_byte_keeps [] = record { go = λ next m h. P.pays _ m (P.reads _ (λ byte. h _ m)) }
+  read_byte_keeps [] = record { go = λ next m h. P.reads _ m (λ byte. h _ m) }
   read_byte_keeps (e ∷ es) = stuck_keeps
 
   write_byte_keeps : (w : World) (es : List Sense) → SensesKeep P es → Keeps P (write_byte w es)
   write_byte_keeps w es x = record {
     go = λ next m h. (all_converted_keeps w (IntShape ∷ []) es x).go _ m (λ vss m1. (one_keeps (flat vss)).go _ m1 (λ v m2. (integer_keeps v).go _ m2
-        (λ n m3. P.pays _ m3 (P.says _ _ (h _ m3)))));
+        (λ n m3. P.writes _ _ m3 (h _ m3))));
   }
 
   struct_keeps : (w : World) (tag : List ℕ) (es : List Sense) → SensesKeep P es → SenseKeeps P (struct_made w tag es)
@@ -347,9 +355,9 @@ module _ (P : Property) where
   object_keeps r o = record { go = λ next m h. (check_keeps (is_live m r)).go _ m (λ a m1. h _ _) }
 
   ask_keeps : (to : Maker) (bytes : ℕ) (o : Object) → Keeps P (ask to bytes o)
-  ask_keeps (InRegion r) bytes o = record { go = λ next m h. (check_keeps (is_live m (Born r))).go _ m (λ a m1. P.says _ _ ((object_keeps (Born r) o).go next m1 h)) }
+  ask_keeps (InRegion r) bytes o = record { go = λ next m h. (check_keeps (is_live m (Born r))).go _ m (λ a m1. P.says _ tt _ ((object_keeps (Born r) o).go next m1 h)) }
   ask_keeps AsUnique bytes o =
-      record { go = λ next m h. P.says _ _ ((object_keeps (Born m.births) o).go next (with_state (record m { births = m.births + 1 }) (Born m.births) Live) h) }
+      record { go = λ next m h. P.says _ tt _ ((object_keeps (Born m.births) o).go next (with_state (record m { births = m.births + 1 }) (Born m.births) Live) h) }
 
   pub made_keeps : (w : World) (to : Act Maker) (owner : Owner) (e : Sense) → Keeps P to → SenseKeeps P e → SenseKeeps P (made w to owner e)
   made_keeps w to owner e x y = value_is_keeps _ _ (record {

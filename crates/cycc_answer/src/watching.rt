@@ -10,7 +10,7 @@ use crate::why::refused_in;
 use core_eval::{EvalEnding, Stop};
 use cyc_host::{Ending, Watch};
 use cyc_words::{Input, Output};
-use cycc_driver::{Limits, execute_watched};
+use cycc_driver::{Limits, execute_watched, stack};
 use rv32_machine::{
     GETCHAR, KEY_CLOSE, KEY_FREE, KEY_NEW, KEY_OPEN, PUTCHAR, REGION_ALLOC, REGION_FREE,
     REGION_NEW, UNIQUE_ALLOC, UNIQUE_FREE,
@@ -34,15 +34,32 @@ const REQUESTS: [(u32, &str); 11] = [
     (KEY_FREE, "key_free"),
 ];
 
-/// The lines of `--stats`: instructions, calls, the bytes of the stack at its deepest, the most pages of the arena at once, and each request that
-/// was made, with how often.
-fn stats_of(alloc: Global, watch: &Watch) -> Result<String, AllocError> {
+/// The line of `--stats` on the bytes of stack that the calls of what was run need: none of an image, whose source isn't known.
+fn need_of(alloc: Global, ran: Ran<'_>) -> Result<String, AllocError> {
+    let Ran::Text(text) = ran else {
+        return Ok(String::new(alloc));
+    };
+    // a text that was run is no refused one, so only memory can be what isn't there
+    let Ok(found) = stack(alloc, text) else {
+        return Err(AllocError);
+    };
+    match found.needs.stack() {
+        Some(bytes) => format!(in alloc; "stack_need {bytes}\n"),
+        None => format!(in alloc; "stack_need none\n"),
+    }
+}
+
+/// The lines of `--stats`: instructions, calls, the bytes of the stack at its deepest and those that the calls need, the most pages of the arena at
+/// once, and each request that was made, with how often.
+fn stats_of(alloc: Global, ran: Ran<'_>, watch: &Watch) -> Result<String, AllocError> {
     let steps = watch.steps();
     let calls = watch.calls();
-    let stack = watch.deepest();
+    let deepest = watch.deepest();
     let pages = watch.most_pages();
+    let need = need_of(alloc, ran)?;
+    let need = need.as_str();
     let mut lines = format!(in alloc;
-        "instructions {steps}\ncalls {calls}\nstack {stack}\npages {pages}\n"
+        "instructions {steps}\ncalls {calls}\nstack {deepest}\n{need}pages {pages}\n"
     )?;
     for (number, name) in REQUESTS {
         let count = watch.requests(number);
@@ -99,7 +116,7 @@ fn shown_of(
         shown.push_str(lines.as_str())?;
     }
     if told.shows_stats {
-        let lines = stats_of(alloc, watch)?;
+        let lines = stats_of(alloc, ran, watch)?;
         shown.push_str(lines.as_str())?;
     }
     Ok(shown)

@@ -23,3 +23,4 @@ pub mod Forms
 pub mod Quiet
 mod ShapeSamples
 mod BoundSamples
+mod CalleeSamples

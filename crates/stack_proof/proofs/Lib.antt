@@ -1,2 +1,3 @@
 pub mod Runs
+mod FitsSamples
 pub mod Suffices

@@ -19,7 +19,7 @@ ran name = Statement.Run (called name (number 0))
 abbrev in_statements : BlockItems
 in_statements =
     (tree.Local (typed tree.Int []) (named "x") (Initializer.Value (Expression.Chain (called "a" (called "b" (number 0)))
-        (MoreLinks Add (called "c" (number 0)) NoLinks)))) ▹
+    (MoreLinks Add (called "c" (number 0)) NoLinks)))) ▹
     (Statement.While 0 (called "d" (number 0)) (Statement.Block 0 ((ran "e") ▸ NoItems))) ▸
     (Statement.If 0 (called "f" (number 0)) (ran "g")) ▸
     (Statement.IfElse 0 (called "h" (number 0)) (ran "i") (ran "j")) ▸
@@ -34,9 +34,9 @@ in_statements_are = refl
 abbrev in_places : BlockItems
 in_places =
     (Statement.Exchange (Expression.Suffixed (called "a" (number 0)) (Index (called "b" (number 0)) NoSuffixes))
-        (Expression.Suffixed (called "c" (number 0)) (Arrow (named "m") NoSuffixes))) ▸
+    (Expression.Suffixed (called "c" (number 0)) (Arrow (named "m") NoSuffixes))) ▸
     (Statement.Switch 0 (called "d" (number 0)) (MoreClauses 0 (Case (named "m") (named "x")) ((ran "e") ▸ NoItems)
-        (MoreClauses 0 Default ((ran "f") ▸ NoItems) NoClauses))) ▸
+    (MoreClauses 0 Default ((ran "f") ▸ NoItems) NoClauses))) ▸
     (Statement.Run (Expression.New 0 (Array (named "i") (called "g" (number 0)) (called "h" (number 0))))) ▸
     (Statement.Run (Expression.NewIn 0 (called "i" (number 0)) (One (called "j" (number 0))))) ▸
     NoItems

@@ -35,8 +35,8 @@ use Rattle.source_meaning.specs.Places.{span_at, string_at}
 use Rattle.source_meaning.specs.Programs.{globals_from, heap_spot, strings_from}
 use Rattle.source_meaning.specs.Strings.{Literal}
 use Rattle.source_lowering.specs.Lowerable.{AreStrings}
-use Rattle.listed_strings.specs.Numbered.{first_at, numbered}
-use Rattle.listed_strings.specs.declared.places.Numbered as code
+use Rattle.tree_walk.specs.Numbered.{first_at, numbered}
+use Rattle.tree_walk.specs.declared.places.Numbered as code
 
 -- the value of a string of a number, where so many objects lie before all strings
 abbrev pub value_of : ℕ → code.Numbered → Scalar

@@ -10,7 +10,7 @@ ghost use Rattle.source_meaning.specs.Steps.{World};
 ghost use Rattle.source_meaning.specs.Programs.{world_of};
 ghost use Rattle.source_lowering.specs.Programs.{constant_content, datum_of, global_datum, initial_content, string_datum, text_content, text_datum};
 ghost use Rattle.source_lowering.specs.Lowerable.{IsObject, TakesGlobal};
-ghost use Rattle.listed_strings.specs.Listing.{literal_of};
+ghost use Rattle.tree_walk.specs.Listing.{literal_of};
 ghost use Rattle.lower_checks.specs.Bytes.{AreLow};
 ghost use Rattle.lower_checks.specs.Globals.{BeginsWithNumber, BeginsWithPointer, IsNumber, IsPointer};
 ghost use Rattle.lower_checks.specs.Views.{shape_tree, text_value};
@@ -21,8 +21,8 @@ use crate::table::{Table, Text};
 use cyc_core::{Cell, Datum};
 use cyc_tree::{Constant, Initial};
 use cyc_words::sub32;
-use listed_strings::Literal;
 use std::alloc::{AllocError, Global};
+use tree_walk::Literal;
 
 /// The word of a constant that is a number.
 fn constant_word(constant: &Constant) -> u32

@@ -4,7 +4,7 @@
 //! parts use the temporaries above it; a block's locals have numbers in it. The result is the Core
 //! program of `program_code` in `source_lowering`. Functions, globals, structs and unions are found by tables of their names,
 //! strings by their places.
-//! Stands on `accepted_programs`, `cyc_core`, `accepted_proof`, `source_lowering`, `listed_strings`, `cyc_tree`, `bumpalo` and `indexmap`.
+//! Stands on `accepted_programs`, `cyc_core`, `accepted_proof`, `source_lowering`, `tree_walk`, `cyc_tree`, `bumpalo` and `indexmap`.
 #![tactic(auto)]
 
 mod array;

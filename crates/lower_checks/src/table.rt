@@ -6,7 +6,7 @@ ghost use Rattle.cyc_tree.specs.View.{program_tree, function_tree, global_tree};
 ghost use Rattle.source_meaning.specs.Shapes.{StructShape, UnionShape, part_position, part_shape, part_shapes, parts_of, written, settled};
 ghost use Rattle.source_meaning.specs.Places.{bound_to, or_else, string_at};
 ghost use Rattle.source_meaning.specs.Strings.{program_strings};
-ghost use Rattle.listed_strings.specs.Listing.{literal_of};
+ghost use Rattle.tree_walk.specs.Listing.{literal_of};
 ghost use Rattle.source_meaning.specs.Calls.{function_of};
 ghost use Rattle.source_meaning.specs.Programs.{functions_of, routine_of, globals_from, global_shape, structs_from, unions_of, world_of};
 ghost use Rattle.source_lowering.specs.Lowered.{number_of, union_parts};
@@ -29,9 +29,9 @@ use crate::unions::{Union, first_unions};
 use bumpalo::Bump;
 use cyc_core::Width;
 use cyc_tree::{Function, Global as Declared, Initial, Item};
-use listed_strings::{Literal, Strings};
 use std::alloc::{AllocError, Global};
 use std::marker::Model;
+use tree_walk::{Literal, Strings};
 
 /// A global: what it is, and its number among the globals.
 #[derive(Clone, Copy)]

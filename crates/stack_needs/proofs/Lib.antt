@@ -1,4 +1,3 @@
-mod Listing
 mod Looking
 mod Loops
 mod Main

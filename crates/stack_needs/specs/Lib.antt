@@ -1,4 +1,3 @@
 pub mod Graph
 pub mod Laws
-pub mod Listing
 pub mod Numbers

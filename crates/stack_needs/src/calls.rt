@@ -1,18 +1,17 @@
 // Which functions each function calls.
 
-ghost use Rattle.std.specs.Prelude.{◌≡◌, IfOk};
+ghost use Rattle.std.specs.Prelude.{◌≡◌, IfOk, map};
 ghost use Rattle.cyc_tree.specs.View.{function_tree, program_tree};
 ghost use Rattle.source_meaning.specs.Programs.{functions_of};
 ghost use Rattle.source_meaning.specs.Callees.{items_callees};
 ghost use Rattle.stack_needs.specs.Graph.{rows_of};
-ghost use Rattle.stack_needs.specs.Listing.{listed};
 ghost use Rattle.stack_needs.specs.Numbers.{calls_among, numbers_among};
+ghost use Rattle.tree_walk.specs.Listing.{name_of};
 
-use crate::bodies::list_items;
-use crate::callee::{Callee, Callees};
 use crate::numbers::Functions;
 use cyc_tree::{Function, Item};
 use std::alloc::{AllocError, Global};
+use tree_walk::{Callee, callees_of};
 
 /// The numbers of the functions that are named.
 fn numbers_among(
@@ -20,7 +19,7 @@ fn numbers_among(
     functions: &Functions<'_>,
     callees: &[Callee<'_>],
 ) -> Result<Vec<usize>, AllocError>
-    ensures { IfOk result (λ found. found.items ≡ numbers_among (functions_of functions.now) (listed callees.now)) }
+    ensures { IfOk result (λ found. found.items ≡ numbers_among (functions_of functions.now) (map name_of callees.now)) }
 {
     let mut found = Vec::new(alloc);
     'each: for callee in callees {
@@ -39,10 +38,8 @@ fn calls_in(
 ) -> Result<Vec<usize>, AllocError>
     ensures { IfOk result (λ found. found.items ≡ numbers_among (functions_of functions.now) (items_callees (function_tree function.now).body)) }
 {
-    let mut callees = Callees::new(alloc);
-    list_items(&mut callees, &function.body);
-    let names = callees.listed()?;
-    let found = numbers_among(alloc, functions, names.as_slice())?;
+    let callees = callees_of(alloc, &function.body)?;
+    let found = numbers_among(alloc, functions, callees.as_slice())?;
     Ok(found)
 }
 

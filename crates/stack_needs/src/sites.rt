@@ -4,11 +4,10 @@ ghost use Rattle.std.specs.Prelude.{◌≡◌, IfOk, map};
 ghost use Rattle.cyc_tree.specs.View.{function_tree, program_tree};
 ghost use Rattle.source_meaning.specs.Programs.{functions_of};
 
-use crate::bodies::list_items;
-use crate::callee::{Callee, Callees};
 use crate::numbers::Functions;
 use cyc_tree::{Function, Item};
 use std::alloc::{AllocError, Global};
+use tree_walk::{Callee, callees_of};
 
 /// A function's name.
 fn name_of(function: &Function) -> Result<Vec<u8>, AllocError>
@@ -66,8 +65,6 @@ pub fn call_site(
         return Ok(None);
     };
     let functions = Functions::of(alloc, items)?;
-    let mut callees = Callees::new(alloc);
-    list_items(&mut callees, &function.body);
-    let names = callees.listed()?;
-    Ok(site_among(&functions, &names, called))
+    let callees = callees_of(alloc, &function.body)?;
+    Ok(site_among(&functions, &callees, called))
 }

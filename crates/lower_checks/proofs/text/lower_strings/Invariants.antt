@@ -2,7 +2,7 @@ use Rattle.std.proofs.Common.{◌≡◌, ◌++◌, drop, map}
 use Rattle.cyc_core.specs.Trees.{datum_tree}
 use Rattle.source_meaning.specs.Programs.{world_of}
 use Rattle.source_lowering.specs.Programs.{string_datum}
-use Rattle.listed_strings.specs.Listing.{literal_of}
+use Rattle.tree_walk.specs.Listing.{literal_of}
 use Rattle.lower_checks.proofs.text.lower_strings.Given as goal
 
 -- those so far and the rest are all

@@ -1,6 +1,6 @@
 -- Tables of names: what is first stays first.
-use Rattle.std.proofs.Common.{◌≡◌, ◌∙◌, ℕ, suc, ◌+◌, refl, sym, ap, List, [], ◌∷◌, Bool, true, false, Option, Some, None, if◌then◌else◌, arith}
-use Rattle.std.specs.Prelude.{bytes_eq, is_some, option_map, IfSome}
+use Rattle.std.proofs.Common.{◌≡◌, ◌∙◌, ℕ, suc, ◌+◌, refl, ap, List, [], ◌∷◌, Bool, true, false, Option, Some, None, if◌then◌else◌, arith}
+use Rattle.std.specs.Prelude.{bytes_eq, option_map, IfSome}
 use Rattle.cyc_tree.specs.Tree as tree
 use Rattle.source_meaning.specs.Steps.{Entity}
 use Rattle.source_meaning.specs.Places.{or_else}
@@ -28,10 +28,6 @@ global_kept old new own value e rest is value_is =
     ap (λ n. or_else (option_map found_entity n) rest) is
     ∙ first_kept found_entity old own value rest
     ∙ ap (λ x. or_else (option_map found_entity old) (if own then Some x else rest)) value_is
-
-pub nothing_more : {A : Type 0} (found : Option A) → or_else found None ≡ found
-nothing_more (Some a) = refl
-nothing_more None = refl
 
 mapped_if : {A B : Type 0} (f : A → B) (own : Bool) (a b : Option A) → option_map f (if own then a else b) ≡ (if own then option_map f a else option_map f b)
 mapped_if f true a b = refl
@@ -68,16 +64,6 @@ first_number (tree.FunctionItem f ∷ items) k name =
 first_number (tree.GlobalItem g ∷ items) k name = first_number items k name
 first_number (tree.StructItem s ∷ items) k name = first_number items k name
 first_number (tree.UnionItem u ∷ items) k name = first_number items k name
-
--- one more of a name, where the name has none
-pub first_added : {V : Type 0} (own : Bool) (value : V) (old : Option V) → (own ≡ true → old ≡ None)
-    → (if own then Some value else old) ≡ or_else old (if own then Some value else None)
-first_added true value old absent = ap (λ o. or_else o (Some value)) (sym (absent refl))
-first_added false value old absent = sym (nothing_more old)
-
-pub has_none : {V : Type 0} (found : Option V) → is_some found ≡ false → found ≡ None
-has_none (Some v) h = absurd cc
-has_none None h = refl
 
 -- ---- what the code has is seen as that
 

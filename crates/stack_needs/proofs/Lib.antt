@@ -6,4 +6,3 @@ mod Paths
 mod Sizes
 mod Standing
 mod Suffices
-mod Table

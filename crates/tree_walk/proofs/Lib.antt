@@ -1,2 +1,3 @@
 mod Listing
 mod Numbers
+pub mod Tables

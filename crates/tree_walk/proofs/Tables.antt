@@ -1,9 +1,9 @@
--- A table of the first number of each name.
+-- Tables of the first value of each name.
 use Rattle.std.proofs.Common.{◌≡◌, ap, sym, refl, Bool, true, false, Option, Some, None, if◌then◌else◌}
 use Rattle.std.specs.Prelude.{is_some}
 use Rattle.source_meaning.specs.Places.{or_else}
 
-nothing_more : {V : Type 0} (old : Option V) → or_else old None ≡ old
+pub nothing_more : {V : Type 0} (found : Option V) → or_else found None ≡ found
 nothing_more (Some v) = refl
 nothing_more None = refl
 

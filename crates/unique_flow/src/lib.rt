@@ -8,5 +8,6 @@
 mod checked;
 mod fault;
 
+pub use accepted_programs::Checked;
 pub use checked::{first_broken, flow};
 pub use fault::FlowFault;

@@ -73,7 +73,7 @@ class Board:
 
     def __init__(self, name, **options):
         self.name = name
-        self.elf = board.monitor(name, console="batch", statistics="yes", **options)
+        self.elf = board.monitor(name, tests="yes", **options)
         self.is_small = board.is_small(name)
         self.file_at, self.memory = board.facts(name)
         makefile = (board.PORT / "Makefile").read_text()

@@ -17,6 +17,9 @@ class Case:
     content: bytes
     given: bytes
     options: dict
+    status: int
+    writes: bytes
+    says: str | None                                     # None where the command asks for no ending
 
 
 def from_escapes(text):
@@ -86,4 +89,6 @@ def cases_of(data, file):
         words = command[0].decode().split()
         is_text = words[1] == "run"
         content = content_of(parts, pathlib.Path(data)) if is_text else from_escapes(parts.get("bytes", b""))
-        yield Case(f"{file}: {parts['name']}", is_text, content, from_escapes(parts.get("input", b"")), options_of(words))
+        says = parts.get("says", b"").decode("latin1") if "--ending" in words or parts.get("status") == b"8" else None
+        yield Case(f"{file}: {parts['name']}", is_text, content, from_escapes(parts.get("input", b"")), options_of(words), int(parts.get("status", b"0")),
+                   from_escapes(parts.get("writes", b"")), says)

@@ -9,9 +9,11 @@ struct header { uint32_t magic, version, entry, code, data, pages, stack_pages; 
 /* What tools/place puts before an image: how many bytes it has, and the addresses of its areas. `code_at` is 0 where the code runs from where it lies. */
 struct placed { uint32_t magic, length, code_at, data_at, stack_at, arena_at, reserved[2]; };
 
-/* What the compiler calls too, where C has no library. */
+/* What the compiler calls too, where C has no library. By words where the address is a multiple of 4, as an area's is. */
 void *memset(void *to, int byte, uint32_t count) {
-    for (uint8_t *at = to; count--; at++) *at = byte;
+    uint32_t words = (uint32_t)to % 4 ? 0 : count / 4;
+    for (uint32_t i = 0; i < words; i++) ((uint32_t *)to)[i] = (byte & 255) * 0x01010101u;
+    for (uint32_t i = 4 * words; i < count; i++) ((uint8_t *)to)[i] = byte;
     return to;
 }
 

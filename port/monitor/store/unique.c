@@ -1,9 +1,7 @@
-/* Unique blocks: pages cut into slots of one class, 32 << class bytes. A page stays with its class; a class's chain has its pages with a vacant slot. */
+/* Unique blocks: pages cut into 128 >> class slots of 32 << class bytes. A page stays with its class; a class's chain has its pages with a vacant slot. */
 #include "pages.h"
 
 static uint16_t vacant[8];                   /* for each class the first page of its chain */
-
-static uint32_t slots_of(uint32_t class) { return 128u >> class; }
 
 /* A page with a vacant slot, or 0. */
 static uint32_t vacant_page(uint32_t class) {
@@ -25,7 +23,7 @@ enum answer unique_alloc(struct call *call) {
     while (page->as.cut.bits[slot / 32] >> slot % 32 & 1) slot++;
     page->as.cut.bits[slot / 32] |= 1u << slot % 32;
     call->value = address_of(number) + slot * (32u << class);
-    if (++page->as.cut.live == slots_of(class)) vacant[class] = page->next;
+    if (++page->as.cut.live == (128u >> class)) vacant[class] = page->next;
     return GRANTED;
 }
 
@@ -35,7 +33,7 @@ enum answer unique_free(struct call *call) {
     uint32_t slot = call->first % PAGE / (32u << page->class);
     if (!(page->as.cut.bits[slot / 32] >> slot % 32 & 1)) return BAD;
     page->as.cut.bits[slot / 32] &= ~(1u << slot % 32);
-    if (page->as.cut.live-- == slots_of(page->class)) {
+    if (page->as.cut.live-- == (128u >> page->class)) {
         page->next = vacant[page->class];
         vacant[page->class] = page - pages;
     }

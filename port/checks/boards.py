@@ -109,7 +109,7 @@ class Board:
 
 
 def entry(file, given):
-    """What console_batch.c reads of an image: its file begins a page, and so does the next entry."""
+    """What batch.c reads of an image: its file begins a page, and so does the next entry."""
     head = struct.pack("<II", len(given), -(-len(file) // place.PAGE) * place.PAGE) + given
     return head + bytes(-len(head) % place.PAGE) + file + bytes(-len(file) % place.PAGE)
 

@@ -87,6 +87,8 @@ def cases_of(data, file):
         if not command or any(key in parts for key in LEFT_OUT):
             continue
         words = command[0].decode().split()
+        if "--help" in words:
+            continue
         is_text = words[1] == "run"
         content = content_of(parts, pathlib.Path(data)) if is_text else from_escapes(parts.get("bytes", b""))
         says = parts.get("says", b"").decode("latin1") if "--ending" in words or parts.get("status") == b"8" else None

@@ -33,12 +33,11 @@ def short(number):
 
 
 def from_pieces(text):
-    made = b""
+    made = []
     for line in text.splitlines():
         times, _, piece = line.partition(b" ")
-        for number in range(int(times or 0)):
-            made += piece.replace(b"#", str(number).encode()).replace(b"$", short(number)) if piece else b"\n"
-    return made
+        made += [piece.replace(b"#", str(number).encode()).replace(b"$", short(number)) if piece else b"\n" for number in range(int(times or 0))]
+    return b"".join(made)
 
 
 def parts_of(path):

@@ -1,10 +1,7 @@
 /* SiFive's E31 on a board of the FE310's kind: 16 KB of memory, no MMU. The code runs where it lies in flash; tools/place says where the rest goes. */
 #define MOST_PAGES 3u
 #define FILE_AT 0x20500000u
-#define CODE_LIES(at) (at)
-#define DATA_LIES(at) (at)
-#define STACK_LIES(at) (at)
-#define ARENA_LIES(at) (at)
+#define LIES(area, at) (at)
 #define IMAGE_MEMORY { { 0x80001000u, 0x80004000u }, { 0x20500000u, 0x40000000u } }
 #define IN_BYTES 64
 #define OUT_BYTES 512

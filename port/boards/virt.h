@@ -1,11 +1,8 @@
-/* QEMU's board virt: memory from 0x80000000, an MMU. The image has any addresses; its areas lie where the macros say. */
+/* QEMU's board virt: memory from 0x80000000, an MMU. The image has any addresses; its code, data, stack and arena lie where LIES says. */
 #define HAS_MMU
 #define MOST_PAGES 4096u
 #define FILE_AT 0x80200000u
-#define CODE_LIES(at) 0x80800000u
-#define DATA_LIES(at) 0x80900000u
-#define STACK_LIES(at) 0x81000000u
-#define ARENA_LIES(at) 0x82000000u
+#define LIES(area, at) ((const uint32_t[]){ 0x80800000u, 0x80900000u, 0x81000000u, 0x82000000u })[area]
 #define IMAGE_MEMORY { { 0x80200000u, 0x83000000u } }
 #define IN_BYTES 512
 #define OUT_BYTES 4096

@@ -73,7 +73,7 @@ class Board:
 
     def __init__(self, name, **options):
         self.name = name
-        self.elf = board.monitor(name, console="batch", statistics="yes", **options)
+        self.elf = board.monitor(name, tests="yes", **options)
         self.is_small = board.is_small(name)
         self.file_at, self.memory = board.facts(name)
         makefile = (board.PORT / "Makefile").read_text()
@@ -109,7 +109,7 @@ class Board:
 
 
 def entry(file, given):
-    """What console_batch.c reads of an image: its file begins a page, and so does the next entry."""
+    """What batch.c reads of an image: its file begins a page, and so does the next entry."""
     head = struct.pack("<II", len(given), -(-len(file) // place.PAGE) * place.PAGE) + given
     return head + bytes(-len(head) % place.PAGE) + file + bytes(-len(file) % place.PAGE)
 

@@ -17,6 +17,9 @@ class Case:
     content: bytes
     given: bytes
     options: dict
+    status: int
+    writes: bytes
+    says: str | None                                     # None where the command asks for no ending
 
 
 def from_escapes(text):
@@ -30,12 +33,11 @@ def short(number):
 
 
 def from_pieces(text):
-    made = b""
+    made = []
     for line in text.splitlines():
         times, _, piece = line.partition(b" ")
-        for number in range(int(times or 0)):
-            made += piece.replace(b"#", str(number).encode()).replace(b"$", short(number)) if piece else b"\n"
-    return made
+        made += [piece.replace(b"#", str(number).encode()).replace(b"$", short(number)) if piece else b"\n" for number in range(int(times or 0))]
+    return b"".join(made)
 
 
 def parts_of(path):
@@ -84,6 +86,10 @@ def cases_of(data, file):
         if not command or any(key in parts for key in LEFT_OUT):
             continue
         words = command[0].decode().split()
+        if "--help" in words:
+            continue
         is_text = words[1] == "run"
         content = content_of(parts, pathlib.Path(data)) if is_text else from_escapes(parts.get("bytes", b""))
-        yield Case(f"{file}: {parts['name']}", is_text, content, from_escapes(parts.get("input", b"")), options_of(words))
+        says = parts.get("says", b"").decode("latin1") if "--ending" in words or parts.get("status") == b"8" else None
+        yield Case(f"{file}: {parts['name']}", is_text, content, from_escapes(parts.get("input", b"")), options_of(words), int(parts.get("status", b"0")),
+                   from_escapes(parts.get("writes", b"")), says)

@@ -93,10 +93,14 @@ NONE = literal(0)
 
 
 class Sequence:
-    """Requests up to the first that is refused, or up to a number of them: their bytes, the ending that the rules give, and what each was."""
+    """Requests up to the first that is refused, or up to a number of them: their bytes, the ending that the rules give, and what each was.
 
-    def __init__(self, seed, pages, most, wrong):
+    Of the requests of a right kind that would be refused so many are left out: in a small arena almost each would be, and end the run.
+    """
+
+    def __init__(self, seed, pages, most, wrong, left_out=0.0):
         self.random = random.Random(seed)
+        self.left_out = left_out
         self.counts = Counts(pages)
         self.bytes, self.ending, self.made = b"", "ended 0", [None]
         self.numbers, self.pages = 0, pages
@@ -112,6 +116,8 @@ class Sequence:
         self.made.append(what)
 
     def asked(self, call, first, second, is_granted, what=None):
+        if not is_granted and self.left_out and self.random.random() < self.left_out:
+            return
         self.ask(call, first, second, "ended 0" if is_granted else "exhausted", what)
 
     def handles(self):

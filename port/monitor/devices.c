@@ -2,10 +2,6 @@
    of an address read a register, whose four bytes are the next of the input; 'w' and four bytes more write one. All other bytes are text. */
 #include "monitor.h"
 
-#ifndef DEVICES
-void put(uint32_t byte) { console_put(byte); }
-int get(void) { return console_get(); }
-#else
 static const struct { uint32_t from, to; } registers[] = REGISTERS;
 static uint8_t request[11];                  /* the byte 16, the kind, the width, the address, the value */
 static uint32_t gathered, answer, answers;
@@ -14,21 +10,19 @@ static uint32_t word_of(const uint8_t *bytes) { return bytes[0] | bytes[1] << 8 
 
 /* Whether the board lets an image reach this register. */
 static int is_reached(uint32_t width, uint32_t at) {
-    for (uint32_t i = 0; i < sizeof registers / sizeof *registers; i++)
-        if (at >= registers[i].from && at < registers[i].to && width <= registers[i].to - at) return (width == 1 || width == 2 || width == 4) && at % width == 0;
+    if ((width != 1 && width != 2 && width != 4) || at % width) return 0;
+    for (uint32_t i = 0; i < COUNT(registers); i++)
+        if (at >= registers[i].from && at < registers[i].to && width <= registers[i].to - at) return 1;
     return 0;
 }
 
 /* Does a request that is whole. One that isn't allowed is an output that fails. */
+#define REACH(type) (request[1] == 'r' ? *(volatile type *)at : (*(volatile type *)at = value))
 static void serve_request(uint32_t width, uint32_t at, uint32_t value) {
     console_flush();
     if ((request[1] != 'r' && request[1] != 'w') || !is_reached(width, at) || answers) stop("write fault", FILE_FAULT);
-    if (request[1] == 'r') {
-        answer = width == 1 ? *(volatile uint8_t *)at : width == 2 ? *(volatile uint16_t *)at : *(volatile uint32_t *)at;
-        answers = 4;
-    } else if (width == 1) *(volatile uint8_t *)at = value;
-    else if (width == 2) *(volatile uint16_t *)at = value;
-    else *(volatile uint32_t *)at = value;
+    answer = width == 1 ? REACH(uint8_t) : width == 2 ? REACH(uint16_t) : REACH(uint32_t);
+    answers = request[1] == 'r' ? 4 : 0;
 }
 
 void put(uint32_t byte) {
@@ -41,10 +35,6 @@ void put(uint32_t byte) {
 }
 
 int get(void) {
-    int byte = answer & 255;
     if (!answers) return console_get();
-    answer >>= 8;
-    answers--;
-    return byte;
+    return answer >> 8 * (4 - answers--) & 255;
 }
-#endif

@@ -4,12 +4,29 @@
 
 struct area areas[AREAS];
 
+struct header { uint32_t magic, version, entry, code, data, pages, stack_pages; };
+
+/* What tools/place puts before an image: how many bytes it has, and the addresses of its areas. `code_at` is 0 where the code runs from where it lies. */
+struct placed { uint32_t magic, length, code_at, data_at, stack_at, arena_at, reserved[2]; };
+
+/* What the compiler calls too, where C has no library. By words where the address is a multiple of 4, as an area's is. */
+void *memset(void *to, int byte, uint32_t count) {
+    uint32_t words = (uint32_t)to % 4 ? 0 : count / 4;
+    for (uint32_t i = 0; i < words; i++) ((uint32_t *)to)[i] = (byte & 255) * 0x01010101u;
+    for (uint32_t i = 4 * words; i < count; i++) ((uint8_t *)to)[i] = byte;
+    return to;
+}
+
+void *memcpy(void *to, const void *from, uint32_t count) {
+    const uint8_t *it = from;
+    for (uint8_t *at = to; count--; at++) *at = *it++;
+    return to;
+}
+
 static void refuse(const char *name) {
     console_say("image: ");
     stop(name, REFUSED);
 }
-
-struct header { uint32_t magic, version, entry, code, data, pages, stack_pages; };
 
 /* The bytes of the header, for an image of this many bytes that isn't refused. */
 static uint32_t checked(const struct header *h, uint32_t length) {
@@ -24,46 +41,38 @@ static uint32_t checked(const struct header *h, uint32_t length) {
     return bytes;
 }
 
-/* Bytes from elsewhere, or zeros, and zeros up to the end of the last page, which no fence by pages keeps from the image. */
-static void fill(const struct area *area, const uint8_t *from) {
-    memset((void *)area->lies, 0, (area->bytes + PAGE - 1) & -PAGE);
-    if (from) memcpy((void *)area->lies, from, area->bytes);
+/* Whether the board has memory there which isn't the monitor's. */
+static int is_memory(uint32_t from, uint32_t bytes) {
+    static const struct { uint32_t from, to; } memory[] = IMAGE_MEMORY;
+    for (uint32_t i = 0; i < COUNT(memory); i++)
+        if (from >= memory[i].from && from <= memory[i].to && bytes <= memory[i].to - from) return 1;
+    return 0;
 }
 
-static int meet(const struct area *a, const struct area *b) { return a->lies < b->lies + b->bytes && b->lies < a->lies + a->bytes; }
-
-/* The board has memory there which isn't the monitor's, and no two areas meet. */
-static void check_places(void) {
-    static const struct { uint32_t from, to; } memory[] = IMAGE_MEMORY;
-    for (int i = 0; i < AREAS; i++) {
-        uint32_t found = 0;
-        for (uint32_t m = 0; m < sizeof memory / sizeof *memory; m++)
-            found |= areas[i].lies >= memory[m].from && areas[i].lies <= memory[m].to && areas[i].bytes <= memory[m].to - areas[i].lies;
-        if (!found || areas[i].lies % 4 || (areas[i].at - areas[i].lies) % PAGE) refuse("no memory of the board for the image's areas");
-        for (int j = 0; j < i; j++)
-            if (meet(&areas[i], &areas[j])) refuse("two areas of the image meet");
-    }
+/* Makes an area of these bytes, or of zeros, unless it is code that runs from where it lies. Zeros go up to the end of the last page, which no fence by
+   pages keeps from the image. */
+static void make(int number, uint32_t at, uint32_t bytes, uint32_t rights, const uint8_t *from) {
+    struct area *area = &areas[number];
+    *area = (struct area){ at, LIES(number, at), bytes, rights };
+    if (!is_memory(area->lies, bytes) || area->lies % 4 || (at - area->lies) % PAGE) refuse("no memory of the board for the image's areas");
+    for (int i = 0; i < number; i++)
+        if (area->lies < areas[i].lies + areas[i].bytes && areas[i].lies < area->lies + bytes) refuse("two areas of the image meet");
+    if (area->lies == (uint32_t)from) return;
+    memset((void *)area->lies, 0, (bytes + PAGE - 1) & -PAGE);
+    if (from) memcpy((void *)area->lies, from, bytes);
 }
 
 uint32_t load(void) {
     const struct placed *file = (const struct placed *)FILE_AT;
     const struct header *h = (const struct header *)(file + 1);
-    const uint8_t *code;
-    uint32_t stack_pages;
-    if (file->magic != PLACED_MAGIC) refuse("none at the board's address for it");
-    code = (const uint8_t *)h + checked(h, file->length);
-    stack_pages = h->version == 2 ? h->stack_pages : 256;
+    if (file->magic != 0x31425943) refuse("none at the board's address for it");
+    const uint8_t *code = (const uint8_t *)h + checked(h, file->length);
+    uint32_t stack_pages = h->version == 2 ? h->stack_pages : 256;
     if (h->pages > MOST_PAGES || stack_pages > MOST_PAGES) refuse("more pages than the board has");
-    areas[CODE] = (struct area){ file->code_at, CODE_LIES(file->code_at), h->code, READ | EXECUTE };
-    areas[DATA] = (struct area){ file->data_at, DATA_LIES(file->data_at), h->data, READ | WRITE };
-    areas[STACK] = (struct area){ file->stack_at, STACK_LIES(file->stack_at), stack_pages * PAGE, READ | WRITE };
-    areas[ARENA] = (struct area){ file->arena_at, ARENA_LIES(file->arena_at), h->pages * PAGE, READ | WRITE };
-    if (!file->code_at) areas[CODE].at = areas[CODE].lies = (uint32_t)code;
-    check_places();
-    if (file->code_at) fill(&areas[CODE], code);
-    fill(&areas[DATA], code + h->code);
-    fill(&areas[STACK], 0);
-    fill(&areas[ARENA], 0);
+    make(CODE, file->code_at ? file->code_at : (uint32_t)code, h->code, READ | EXECUTE, code);
+    make(DATA, file->data_at, h->data, READ | WRITE, code + h->code);
+    make(STACK, file->stack_at, stack_pages * PAGE, READ | WRITE, 0);
+    make(ARENA, file->arena_at, h->pages * PAGE, READ | WRITE, 0);
     store_new(h->pages, h->version == 2 ? 1048576 : 4096);
     return areas[CODE].at + h->entry;
 }

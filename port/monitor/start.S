@@ -8,13 +8,12 @@ _start:
     la t0, trap
     csrw mtvec, t0
     la sp, monitor_stack_end
-    la t0, monitor_memory
-    la t1, monitor_memory_end
-1:  bgeu t0, t1, 2f
-    sw zero, 0(t0)
-    addi t0, t0, 4
-    j 1b
-2:  call monitor
+    la a0, monitor_memory
+    li a1, 0
+    la a2, monitor_memory_end
+    sub a2, a2, a0
+    call memset
+    call monitor
 
     .section .stack, "aw", @nobits
     .balign 16

@@ -177,6 +177,7 @@ def contrast_is_enough(page):
             assert least["ratio"] >= LEAST_CONTRAST, f"{scheme}, {name}: {least}"
     page.tab("output")
     page.shot("dark")
+    page.used.scheme("light")
 
 
 def keyboard_suffices(page):

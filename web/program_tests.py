@@ -117,6 +117,8 @@ def an_outlives_is_mended(page):
     words = page.text(".beside")
     assert words.startswith("Outlives") and "has to outlive" in words, words
     page.shot("newcomer_fault")
+    page.point_at("#faults li button.link", "line 4")
+    assert page.value()[page.get("document.getElementById('source').selectionStart"):].startswith("`r"), "the words lead to the region"
     page.point_at("#faults li button", "Outlives")
     assert page.value()[page.get("document.getElementById('source').selectionStart"):].startswith("rnew"), "the click goes to the fault"
     page.shot("newcomer_at_it")

@@ -102,9 +102,9 @@ export class Faults {
     /** The words of a fault. A position in them leads there. */
     words(text) {
         const made = document.createElement("p");
-        for (const part of text.split(/(\(\d+:\d+\))/)) {
-            const at = /^\((\d+):(\d+)\)$/.exec(part);
-            made.append(at ? this.link(`(line ${at[1]}, column ${at[2]})`, Number(at[1]), Number(at[2])) : part);
+        for (const part of text.split(/((?<=\(|\bat )\d+:\d+\b)/)) {
+            const [line, column] = part.split(":").map(Number), is = /^\d+:\d+$/.test(part);
+            made.append(is ? this.link(`line ${line}, column ${column}`, line, column) : part);
         }
         return made;
     }

@@ -90,12 +90,11 @@ class Browser:
         how = {"stdin": subprocess.DEVNULL, "stdout": self.said, "stderr": subprocess.STDOUT}
         home = {**os.environ, "HOME": self.room, "MOZ_REMOTE_ALLOW_SYSTEM_ACCESS": "1"}
         self.process = subprocess.Popen([it.format(room=self.room) for it in words], env=home, **how)
-        self.number, self.errors = 0, []
-        try:
-            self.socket = Socket(*self.address(said_in))
-        except BaseException:
-            self.close()
-            raise
+        self.number, self.errors, self.said_in = 0, [], said_in
+
+    def connect(self):
+        """Waits until the browser is ready, and opens a page in it."""
+        self.socket = Socket(*self.address(self.said_in))
 
     def address(self, pattern):
         """The port and the path, as the browser prints them when it is ready."""
@@ -151,6 +150,9 @@ class Chromium(Browser):
                  "--disable-background-networking", "--disable-component-update", "--disable-extensions", "--hide-scrollbars",
                  "--remote-debugging-port=0", "--user-data-dir={room}/profile", "about:blank"]
         super().__init__(words, r"DevTools listening on ws://127\.0\.0\.1:(\d+)(/\S+)")
+
+    def connect(self):
+        super().connect()
         target = self.ask("Target.createTarget", url="about:blank")["targetId"]
         self.session = {"sessionId": self.ask("Target.attachToTarget", targetId=target, flatten=True)["sessionId"]}
         for it in ("Page.enable", "Runtime.enable", "Log.enable"):
@@ -213,6 +215,9 @@ class Firefox(Browser):
         self.profile = profile
         words = [shutil.which("firefox-esr") or shutil.which("firefox"), "--headless", "--profile", profile, "--remote-debugging-port", "0", "about:blank"]
         super().__init__(words, r"WebDriver BiDi listening on ws://127\.0\.0\.1:(\d+)(/\S*)?")
+
+    def connect(self):
+        super().connect()
         self.ask("session.new", capabilities={})
         self.ask("session.subscribe", events=["log.entryAdded"])
         self.context = self.ask("browsingContext.getTree")["contexts"][0]["context"]
@@ -268,6 +273,7 @@ def opened(name):
     """A browser, which ends with the block."""
     used = BROWSERS[name]()
     try:
+        used.connect()
         yield used
     finally:
         used.close()

@@ -1,5 +1,6 @@
 """A browser without a window, driven from Python alone: Chromium by its DevTools protocol, Firefox by WebDriver BiDi, both over a WebSocket."""
 import base64
+import contextlib
 import functools
 import http.server
 import json
@@ -89,9 +90,11 @@ class Browser:
         how = {"stdin": subprocess.DEVNULL, "stdout": self.said, "stderr": subprocess.STDOUT}
         home = {**os.environ, "HOME": self.room, "MOZ_REMOTE_ALLOW_SYSTEM_ACCESS": "1"}
         self.process = subprocess.Popen([it.format(room=self.room) for it in words], env=home, **how)
-        self.number, self.errors = 0, []
-        port, path = self.address(said_in)
-        self.socket = Socket(port, path)
+        self.number, self.errors, self.said_in = 0, [], said_in
+
+    def connect(self):
+        """Waits until the browser is ready, and opens a page in it."""
+        self.socket = Socket(*self.address(self.said_in))
 
     def address(self, pattern):
         """The port and the path, as the browser prints them when it is ready."""
@@ -147,6 +150,9 @@ class Chromium(Browser):
                  "--disable-background-networking", "--disable-component-update", "--disable-extensions", "--hide-scrollbars",
                  "--remote-debugging-port=0", "--user-data-dir={room}/profile", "about:blank"]
         super().__init__(words, r"DevTools listening on ws://127\.0\.0\.1:(\d+)(/\S+)")
+
+    def connect(self):
+        super().connect()
         target = self.ask("Target.createTarget", url="about:blank")["targetId"]
         self.session = {"sessionId": self.ask("Target.attachToTarget", targetId=target, flatten=True)["sessionId"]}
         for it in ("Page.enable", "Runtime.enable", "Log.enable"):
@@ -187,6 +193,11 @@ class Chromium(Browser):
         how.pop("text", None)
         self.ask("Input.dispatchKeyEvent", self.session, type="keyUp", **how)
 
+    def click(self, x, y):
+        """Moves the mouse to a point and clicks there."""
+        for kind in ("mouseMoved", "mousePressed", "mouseReleased"):
+            self.ask("Input.dispatchMouseEvent", self.session, type=kind, x=x, y=y, **({} if kind == "mouseMoved" else {"button": "left", "clickCount": 1}))
+
     def shot(self, path):
         data = self.ask("Page.captureScreenshot", self.session, format="png")["data"]
         pathlib.Path(path).write_bytes(base64.b64decode(data))
@@ -204,6 +215,9 @@ class Firefox(Browser):
         self.profile = profile
         words = [shutil.which("firefox-esr") or shutil.which("firefox"), "--headless", "--profile", profile, "--remote-debugging-port", "0", "about:blank"]
         super().__init__(words, r"WebDriver BiDi listening on ws://127\.0\.0\.1:(\d+)(/\S*)?")
+
+    def connect(self):
+        super().connect()
         self.ask("session.new", capabilities={})
         self.ask("session.subscribe", events=["log.entryAdded"])
         self.context = self.ask("browsingContext.getTree")["contexts"][0]["context"]
@@ -237,6 +251,11 @@ class Firefox(Browser):
         actions += [{"type": "keyUp", "value": it} for it in held]
         self.ask("input.performActions", context=self.context, actions=[{"type": "key", "id": "keys", "actions": actions}])
 
+    def click(self, x, y):
+        """Moves the mouse to a point and clicks there."""
+        actions = [{"type": "pointerMove", "x": int(x), "y": int(y)}, {"type": "pointerDown", "button": 0}, {"type": "pointerUp", "button": 0}]
+        self.ask("input.performActions", context=self.context, actions=[{"type": "pointer", "id": "mouse", "actions": actions}])
+
     def shot(self, path):
         data = self.ask("browsingContext.captureScreenshot", context=self.context)["data"]
         pathlib.Path(path).write_bytes(base64.b64decode(data))
@@ -249,20 +268,29 @@ class Firefox(Browser):
 BROWSERS = {"chromium": Chromium, "firefox": Firefox}
 
 
+@contextlib.contextmanager
+def opened(name):
+    """A browser, which ends with the block."""
+    used = BROWSERS[name]()
+    try:
+        used.connect()
+        yield used
+    finally:
+        used.close()
+
+
 class Quiet(http.server.SimpleHTTPRequestHandler):
     def log_message(self, *_):
         pass
 
-    def do_PUT(self):
-        """Keeps what a page sends, for whoever started the server."""
-        self.server.got.append(self.rfile.read(int(self.headers["Content-Length"])))
-        self.send_response(204)
-        self.end_headers()
 
-
+@contextlib.contextmanager
 def served(folder):
-    """A server of a folder, on a port of its own: the server and its address."""
+    """A server of a folder, on a port of its own, which ends with the block."""
     server = http.server.ThreadingHTTPServer(("127.0.0.1", 0), functools.partial(Quiet, directory=str(folder)))
-    server.got = []
+    server.address = f"http://127.0.0.1:{server.server_address[1]}/"
     threading.Thread(target=server.serve_forever, daemon=True).start()
-    return server, f"http://127.0.0.1:{server.server_address[1]}/"
+    try:
+        yield server
+    finally:
+        server.shutdown()

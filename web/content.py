@@ -45,9 +45,10 @@ def example_inputs(top):
 
 
 def examples(top):
-    """The examples by their paths, the first ones first."""
+    """The examples by their paths, the first ones first. One that needs parts of lib/ is joined with them, as the gate runs it."""
     inputs = example_inputs(top)
-    paths = sorted((top / "examples").glob("*.cyc"), key=lambda it: (FIRST.index(it.stem) if it.stem in FIRST else len(FIRST), it.stem))
+    place = lambda it: (FIRST.index(it.stem) if it.stem in FIRST else len(FIRST), it.stem)
+    paths = sorted((top / "crates" / "case_runs" / "data" / "examples").glob("*.cyc"), key=place)
     return {f"examples/{it.name}": {"source": it.read_text(), **inputs.get(f"examples/{it.name}", {})} for it in paths}
 
 

@@ -52,6 +52,7 @@ export class Editor {
         this.field.addEventListener("input", () => this.edited());
         this.field.addEventListener("scroll", () => this.scrolled());
         this.field.addEventListener("keydown", (event) => this.key(event));
+        this.field.addEventListener("click", (event) => this.clicked(event.clientX, event.clientY));
     }
 
     get text() {
@@ -87,6 +88,13 @@ export class Editor {
         if (!indent) return;
         event.preventDefault();
         document.execCommand("insertText", false, `\n${indent}`);
+    }
+
+    /** A click on the words beside a line goes to what they are about. The field lies above them, so it gets the click. */
+    clicked(x, y) {
+        const isOver = ({ left, right, top, bottom }) => left <= x && x < right && top <= y && y < bottom;
+        const words = [...this.layer.querySelectorAll(".beside")].find((it) => isOver(it.getBoundingClientRect()));
+        if (words) this.go(Number(words.dataset.line), Number(words.dataset.column));
     }
 
     /** Sets the marks, `{ line, column, kind, words }`, all of one group in place of the earlier ones. */
@@ -131,7 +139,11 @@ export class Editor {
         for (const it of pieces(text.length, tokens, marks)) made.append(span(text.slice(it.start, it.end), it.kind));
         if (!text) made.append(span("\u200b", marks[0]?.kind));
         const words = marks.find((it) => it.words);
-        if (words) made.append(span(words.words, `beside ${words.kind}`));
+        if (words) {
+            const beside = span(words.words, `beside ${words.kind}`);
+            Object.assign(beside.dataset, { line: words.line, column: words.column });
+            made.append(beside);
+        }
         const old = this.layer.children[index];
         if (old) old.replaceWith(made);
         else this.layer.append(made);

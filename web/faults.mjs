@@ -16,10 +16,23 @@ export function faultsOf(said) {
     return found;
 }
 
+const HEAP = "`H is the heap, which lasts for the whole run. Where a pointer's type names no region, it may be the heap's.";
+
+/** What is said of two regions, in fewer words: the line of each alone, and what `H is. */
+function briefly(regions) {
+    return regions.replace(/^The region /, "").replace(/\((\d+):\d+\)/g, "(line $1)").replace(/`H\.$/, "`H, the heap.").replace(/^`H /, "`H, the heap, ");
+}
+
 /** A fault in one line: which region has to outlive which, what was found and wanted, or else what the fault means. */
 function inShort(fault) {
     const own = fault.words.slice(1).filter((it) => it), regions = own.find((it) => it.startsWith("The region "));
-    return `${fault.name}: ${regions ?? (own.join("; ").replace(/: +/g, ": ") || fault.words[0] || "")}`;
+    return `${fault.name}: ${regions ? briefly(regions) : (own.join("; ").replace(/: +/g, ": ") || fault.words[0] || "")}`;
+}
+
+function note(text) {
+    const made = document.createElement("p");
+    Object.assign(made, { className: "quiet", textContent: text });
+    return made;
 }
 
 export class Faults {
@@ -80,9 +93,26 @@ export class Faults {
         button.firstChild.textContent = fault.name;
         button.lastChild.textContent = `line ${fault.line}, column ${fault.column}`;
         button.addEventListener("click", () => this.editor.go(fault.line, fault.column));
-        const words = document.createElement("p");
-        words.textContent = fault.words.filter((it) => it).join("\n");
-        made.append(button, words);
+        const text = fault.words.filter((it) => it).join("\n");
+        made.append(button, this.words(text));
+        if (text.includes("`H")) made.append(note(HEAP));
+        return made;
+    }
+
+    /** The words of a fault. A position in them leads there. */
+    words(text) {
+        const made = document.createElement("p");
+        for (const part of text.split(/((?<=\(|\bat )\d+:\d+\b)/)) {
+            const [line, column] = part.split(":").map(Number), is = /^\d+:\d+$/.test(part);
+            made.append(is ? this.link(`line ${line}, column ${column}`, line, column) : part);
+        }
+        return made;
+    }
+
+    link(words, line, column) {
+        const made = document.createElement("button");
+        Object.assign(made, { type: "button", className: "link", textContent: words });
+        made.addEventListener("click", () => this.editor.go(line, column));
         return made;
     }
 

@@ -47,8 +47,12 @@ export class Guide {
             made("h3", {}, "What is different from C"),
             made("p", {}, "A pointer can't be followed into memory that was freed: such a source is rejected, before it runs."),
             first,
-            made("p", {}, "The words say which region has to outlive which. Here p lives longer than the region r, which ends with its block, so p can't point "
-                + "into it. Change it: take the number out of the region while it is there."),
+            made("p", {}, "A click on the words goes to the fault. The list below the editor has them in full: what was found, what is wanted, "
+                + "and which region has to outlive which."),
+            made("p", {}, ...inline("Here the type `int *` of `p` names no region, so `p` points into the heap, `` `H ``, which lasts for the whole run. "
+                + "The region `` `r `` ends with its block, so what is made in it may not be kept in `p`.", this.links)),
+            made("p", {}, ...inline("Mend it: let `n` be a number in place of `p`. In the block make ``int *`r p = rnew(h) 3;``, and take the number out "
+                + "while the region is there, `n = *p;`. At the end return `n`.", this.links)),
             second,
             made("p", {}, "An index out of bounds and a NULL that is followed stop the run, and nothing is read or written there. "
                 + "The tab Memory shows regions come and go."),

@@ -34,7 +34,7 @@ export function pagesOf(headers) {
 /** The functions that are active at a moment, innermost first, by what exec --where says in addresses; and the bytes of their frames. */
 function activeAt(said, map) {
     const named = (address) => map.functions.find((it) => it.first <= address && address <= it.last);
-    const stop = /^step limit at 0x(\w+)$/m.exec(said);
+    const stop = /^step limit at 0x(\w+)$/m.exec(said) ?? /^[^:\n]*:0x(\w+): (?!call of )/m.exec(said);
     const inner = stop ? named(parseInt(stop[1], 16)) : undefined;
     const calls = [...said.matchAll(/^[^:\n]*:0x(\w+): call of 0x\w+$/gm)].map((it) => parseInt(it[1], 16));
     const active = [inner, ...calls.map(named)].filter((it) => it);

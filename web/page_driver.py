@@ -1,0 +1,115 @@
+"""The page in a browser: what is on it, and what one does to it. And the sources that the tests of the page type."""
+import json
+import pathlib
+import time
+
+import browser
+
+TOP = pathlib.Path(__file__).resolve().parent.parent
+
+RAISE = """int at(int ?`r a, int i) {
+    return a[i];
+}
+
+int main() {
+    int a[3];
+    int i = 0;
+    while (i < 4) { putchar('0' + at(a, i)); i = i + 1; }
+    return 0;
+}
+"""
+ENDLESS = """int main() {
+    int n = 0;
+    while (1) { n = n + 1; }
+    return n;
+}
+"""
+
+
+class Page:
+    """The page in a browser: what is on it, and what one does to it."""
+
+    def __init__(self, used, address, shots, seconds):
+        self.used, self.address, self.shots, self.end = used, address, shots, time.time() + seconds
+
+    def left(self):
+        """How many seconds are left for all that is tried."""
+        return self.end - time.time()
+
+    def open(self, hash=""):
+        self.used.open("about:blank")
+        self.used.open(f"{self.address}index.html{hash}")
+        self.until("document.body.classList.contains('ready')", "the page is ready")
+
+    def get(self, expression):
+        return self.used.evaluate(expression)
+
+    def until(self, condition, what, seconds=90):
+        if self.left() < 1:
+            raise browser.Late(f"no time is left: {what}")
+        return self.used.wait(condition, what, min(seconds, self.left()))
+
+    def text(self, where):
+        return self.get(f"document.querySelector({json.dumps(where)}).innerText")
+
+    def click(self, where):
+        self.get(f"(document.querySelector({json.dumps(where)}).click(), 1)")
+
+    def point_at(self, where, words):
+        """Clicks with the mouse on the element that has these words, which has to be on top there. The field of the source lies above words beside a line."""
+        self.get(f"(window.at = [...document.querySelectorAll({json.dumps(where)})].find(it => it.innerText.includes({json.dumps(words)})), 1)")
+        x, y, width, height = self.get("((it) => [it.x, it.y, it.width, it.height])(window.at.getBoundingClientRect())")
+        x, y = x + width / 2, y + height / 2
+        is_top = self.get(f"((top) => window.at.contains(top) || (window.at.matches('.beside') && top.id === 'source'))(document.elementFromPoint({x}, {y}))")
+        assert is_top, f"{words} can't be clicked"
+        self.used.click(x, y)
+
+    def press_button(self, words):
+        self.get(f"([...document.querySelectorAll('button')].find(it => it.innerText.includes({json.dumps(words)})).click(), 1)")
+
+    def choose(self, where, value):
+        change = f"it.value = {json.dumps(value)}; it.dispatchEvent(new Event('change')); return 1;"
+        self.get(f"((it) => {{ {change} }})(document.querySelector({json.dumps(where)}))")
+
+    def source(self, text):
+        self.get(f"((it) => {{ it.value = {json.dumps(text)}; it.dispatchEvent(new Event('input')); return 1; }})(document.getElementById('source'))")
+
+    def type(self, text):
+        for it in text:
+            self.used.press("Enter" if it == "\n" else it)
+
+    def state(self, words, seconds=60):
+        self.until(f"document.getElementById('checked').innerText.includes({json.dumps(words)})", f"the state {words}", seconds)
+
+    def run(self):
+        self.until("!document.getElementById('run').disabled", "Run can be pressed")
+        self.click("#run")
+
+    def ended(self, words):
+        self.until(f"document.querySelector('#output .ending').innerText.includes({json.dumps(words)})", f"the ending {words}")
+
+    def pictured(self):
+        """Waits until the picture of memory is whole: how many moments it has."""
+        made = "document.querySelector('#memory .made').innerText"
+        self.until(f"{made}.includes('moments') && !{made}.includes('more to come')", "all moments")
+        count = self.get(f"parseInt({made})")
+        assert count >= 2 and self.get("Number(document.getElementById('moment').max)") == count - 1, f"{count} moments"
+        return count
+
+    def pause(self, moment=150):
+        """Lets the page go on for some milliseconds."""
+        self.get(f"new Promise((done) => setTimeout(() => done(1), {moment}))")
+
+    def cursor(self, start, end=None):
+        """Sets the cursor of the source, or selects up to an end."""
+        self.get(f"((it) => {{ it.focus(); it.setSelectionRange({start}, {start if end is None else end}); return 1; }})(document.getElementById('source'))")
+
+    def value(self):
+        return self.get("document.getElementById('source').value")
+
+    def tab(self, name):
+        self.click(f"#tab_{name}")
+
+    def shot(self, name):
+        self.pause()
+        self.used.shot(self.shots / f"{self.used.name}_{name}.png")

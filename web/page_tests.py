@@ -1,0 +1,229 @@
+"""Tests of the page's own parts: the editor, its colours, what one reads, links, keys and screens. They need no compiler: the stub's answers are enough."""
+import content
+from page_driver import ENDLESS, RAISE, TOP
+
+LEAST_CONTRAST = 4.5
+COLOURED = """// a note
+char ?`r text(char ?`r it) {
+    if (it == NULL) putchar('a');
+    return "b\\n";
+}
+"""
+# the class that the grammar gives to each of these tokens of that source
+CLASSES = {"// a note": "comment-line-double-slash", "char": "storage-type", "`r": "entity-name-type-region", "text": "entity-name-function",
+           "if": "keyword-control", "NULL": "constant-language", "putchar": "support-function", "'a'": "string-quoted-single", "return": "keyword-control"}
+
+
+def faults_come_and_go(page):
+    page.state("Accepted")
+    page.cursor(0)
+    page.type("int f() { return m; }\n")
+    page.state("1 fault")
+    page.until("document.querySelector('.line .fault')?.innerText === 'm'", "the name underlined")
+    page.until("document.querySelector('.beside')?.innerText.startsWith('Name')", "the words beside")
+    page.cursor(99)
+    page.click("#faults li button")
+    assert page.get("document.getElementById('source').selectionStart") == 17, "the click goes to the fault"
+    page.cursor(99)
+    page.point_at(".beside", "Name")
+    assert page.get("document.getElementById('source').selectionStart") == 17, "so does a click on the words beside the line"
+    page.shot("fault")
+    page.type("1")
+    page.state("Accepted")
+    assert page.get("document.querySelectorAll('.fault').length") == 0, "no mark is left"
+
+
+def hello_runs(page):
+    page.choose("#example", "examples/hello.cyc")
+    page.state("Accepted")
+    page.get("(document.getElementById('source').focus(), 1)")
+    page.used.press("Enter", control=True)
+    page.ended("main gave 0")
+    assert page.text("pre.output") == "hello, world\n" or page.text("pre.output").strip() == "hello, world", page.text("pre.output")
+    page.shot("hello")
+
+
+def a_raise_is_marked(page):
+    page.tab("output")
+    page.source(RAISE)
+    page.state("Accepted")
+    page.run()
+    page.ended("an index is outside")
+    assert page.text("pre.output").strip() == "000", page.text("pre.output")
+    lines = page.get("[...document.querySelectorAll('#editor .line')].map(it => it.className.trim())")
+    assert lines[1] == "line stopped" and lines[7] == "line called", lines
+    assert "line 2, column 14" in page.text(".calls") and "call of at" in page.text(".calls"), page.text(".calls")
+    page.click(".calls button")
+    assert page.get("document.getElementById('source').selectionStart") == RAISE.index("i]"), "the click goes to the index"
+    page.shot("raise")
+
+
+def an_endless_run_is_stopped(page):
+    page.source(ENDLESS)
+    page.state("Accepted")
+    page.run()
+    page.until("!document.getElementById('stop').disabled", "Stop can be pressed")
+    page.pause(700)
+    assert page.get("1 + 1") == 2, "the page answers"
+    page.shot("endless")
+    page.click("#stop")
+    page.ended("You stopped it")
+    page.shot("stopped")
+    hello_runs(page)
+
+# the first text outside of code that still has marks of Markdown
+RAW = """[...document.querySelectorAll('#guide .reading p, #guide .reading td')].flatMap(it => [...it.childNodes]).filter(it => it.nodeType === 3)
+    .map(it => it.data).filter(it => /^#+ |`|^- |[*][*]|\\]\\(/.test(it))[0] ?? ''"""
+
+
+def tokens_are_coloured(page):
+    page.source(COLOURED)
+    pairs = page.get("[...document.querySelectorAll('#editor .line span')].map(it => [it.textContent, it.className])")
+    for token, kind in CLASSES.items():
+        assert [token, kind] in pairs, f"{token} isn't {kind}: {pairs}"
+    shown = page.get("[...document.querySelectorAll('#editor .line')].map(it => it.innerText.replaceAll('\\u200b', '')).join('\\n')")
+    assert shown == COLOURED, shown
+    page.source("/* one\ntwo */ int\n")
+    lines = page.get("[...document.querySelectorAll('#editor .line')].map(it => it.firstChild.className)")
+    assert lines[:2] == ["comment-block", "comment-block"], lines
+
+
+def enter_keeps_the_indentation(page):
+    page.source("int main() {")
+    page.cursor(12)
+    page.type("\nreturn 1;\nreturn 2;")
+    assert page.value() == "int main() {\n    return 1;\n    return 2;", page.value()
+
+
+def documents_are_shown(page):
+    for name in content.DOCUMENTS:
+        page.choose("#chapter", f"document {name}.md")
+        text = page.text("#guide .reading")
+        assert len(text) > 500 and not page.get(RAW), f"{name}.md is shown as {text[:200]}, with {page.get(RAW)}"
+    page.choose("#chapter", "document TUTORIAL.md")
+    assert page.get("document.querySelectorAll('#guide table').length") > 0 and page.get("document.querySelectorAll('#guide pre').length") > 0
+    page.get("([...document.querySelectorAll('#guide .reading button.link')].find(it => it.innerText.includes('FAULTS.md')).click(), 1)")
+    assert page.get("document.getElementById('chapter').value") == "document FAULTS.md", "a link leads to the document"
+    page.shot("document")
+
+
+def examples_are_loaded_whole(page):
+    for name, it in content.examples(TOP).items():
+        page.choose("#example", name)
+        assert page.value() == it["source"], name
+        given = it.get("input", "").replace("\r\n", "\n")
+        assert page.get("document.getElementById('input').value") == given and page.text("#name") == name, name
+        assert page.get("Number(document.getElementById('pages').value)") == it.get("pages", 1024), name
+    page.state("Accepted")
+
+
+def a_theme_is_chosen(page):
+    before = page.get("document.documentElement.dataset.theme")
+    page.click("#theme")
+    assert page.get("document.documentElement.dataset.theme") != before
+    page.click("#theme")
+    assert page.get("document.documentElement.dataset.theme") == before
+
+
+def every_lesson_holds(page):
+    for index, lesson in enumerate(content.lessons(TOP)):
+        page.choose("#chapter", f"lesson {index}")
+        for which in range(len(lesson["rows"])):
+            for kind, wanted in (("rejected source", "fault"), ("accepted one", "Accepted")):
+                page.get(f"([...document.querySelectorAll('#guide button')].filter(it => it.innerText === 'Load the {kind}')[{which}].click(), 1)")
+                page.state(wanted)
+
+
+def a_link_holds_the_source(page):
+    page.source(RAISE)
+    page.click("#link")
+    page.until("location.hash.startsWith('#program=')", "the address has the source")
+    hash = page.get("location.hash")
+    page.open(hash)
+    assert page.value() == RAISE
+
+
+CONTRAST = """(() => {
+    const parts = (text) => { const it = text.match(/[\\d.]+%?/g)?.map(parseFloat) ?? [0, 0, 0, 0]; return it.length < 4 ? [...it, 1] : it; };
+    const over = (top, under) => [0, 1, 2].map((at) => top[at] * top[3] + under[at] * (1 - top[3])).concat(1);
+    const back = (it) => {
+        const found = [];
+        for (let at = it; at; at = at.parentElement) found.push(parts(getComputedStyle(at).backgroundColor));
+        return found.reverse().reduce((under, top) => over(top, under), [255, 255, 255, 1]);
+    };
+    const linear = (v) => (v /= 255) <= 0.04045 ? v / 12.92 : ((v + 0.055) / 1.055) ** 2.4;
+    const light = ([r, g, b]) => 0.2126 * linear(r) + 0.7152 * linear(g) + 0.0722 * linear(b);
+    let least = { ratio: 99 };
+    const walker = document.createTreeWalker(document.body, NodeFilter.SHOW_TEXT);
+    while (walker.nextNode()) {
+        const it = walker.currentNode.parentElement;
+        if (!walker.currentNode.data.trim() || !it.checkVisibility() || it.id === 'source' || it.closest('.skip, .sr, option')) continue;
+        const under = back(it), text = over(parts(getComputedStyle(it).color), under);
+        const [a, b] = [light(text), light(under)].sort((x, y) => y - x), ratio = (a + 0.05) / (b + 0.05);
+        if (ratio < least.ratio) least = { ratio, text: walker.currentNode.data.trim().slice(0, 40), kind: it.tagName + '.' + it.className };
+    }
+    return least;
+})()"""
+
+
+def contrast_is_enough(page):
+    page.source(RAISE + "int g() { return unknown; }\n")
+    page.state("1 fault")
+    for scheme in ("light", "dark"):
+        page.used.scheme(scheme)
+        for name in ("output", "statistics", "instructions", "meaning", "memory"):
+            page.tab(name)
+            least = page.get(CONTRAST)
+            assert least["ratio"] >= LEAST_CONTRAST, f"{scheme}, {name}: {least}"
+    page.tab("output")
+    page.shot("dark")
+    page.used.scheme("light")
+
+
+def keyboard_suffices(page):
+    page.open()
+    seen = []
+    for _ in range(60):
+        page.used.press("Tab")
+        it = page.get("document.activeElement.id || document.activeElement.className || document.activeElement.tagName")
+        seen.append(it)
+        if it == "tab_output":
+            break
+    for wanted in ("example", "link", "theme", "chapter", "run", "source", "input", "pages", "tab_output"):
+        assert wanted in seen, f"{wanted} isn't reached: {seen}"
+    page.used.press("ArrowRight")
+    assert page.get("document.activeElement.id") == "tab_statistics" and not page.get("document.getElementById('statistics').hidden")
+    page.used.press("ArrowLeft")
+    page.source("int main() { return one; }\n")
+    page.state("1 fault")
+    page.used.press("F8")
+    assert page.get("document.activeElement.id") == "source" and page.get("document.getElementById('source').selectionStart") == 20
+
+
+def narrow_screens_do(page):
+    page.used.size(390, 844)
+    page.open()
+    page.state("Accepted")
+    wide = page.get("[document.scrollingElement.scrollWidth, innerWidth]")
+    assert wide[0] <= wide[1], f"the page is {wide[0]} wide on a screen of {wide[1]}"
+    page.shot("narrow")
+    page.get("(document.getElementById('writing').scrollIntoView(), 1)")
+    page.run()
+    page.ended("main gave 0")
+    page.shot("narrow_source")
+    page.get("(document.getElementById('results').scrollIntoView(), 1)")
+    page.shot("narrow_results")
+    page.used.size(820, 1100)
+    page.shot("medium")
+    page.used.size(1440, 900)
+
+
+def nothing_more_is_fetched(page):
+    before = page.get("performance.getEntriesByType('resource').filter(it => !it.name.startsWith('blob:')).length")
+    an_endless_run_is_stopped(page)
+    after = page.get("performance.getEntriesByType('resource').filter(it => !it.name.startsWith('blob:')).length")
+    assert before == after, f"{after - before} more were fetched"
+
+
+def no_error_was_thrown(page):
+    assert not page.used.errors, page.used.errors

@@ -1,0 +1,151 @@
+"""Tests of the page with the program: runs, statistics, instructions, the meaning, the memory, and a fault that a newcomer mends."""
+import re
+import time
+
+import content
+from page_driver import ENDLESS, RAISE, TOP
+
+# it ends while its dynamic region is open, so the last moment of its run shows that
+KEPT = """int main() {
+    int sums[2];
+    int i = 0;
+    let NewDynamicRegion{<`r> key} = new_ukey();
+    while (i < 3) {
+        region<`r> h = open(key);
+        int ?`r kept = rnew(h) {for n < 8u : i};
+        sums[i] = kept[7];
+        i = i + 1;
+    }
+    free_ukey(key);
+    return 0;
+}
+"""
+# moments.mjs: at least so many moments are looked at, or else for so many seconds
+LEAST_MOMENTS, LONGEST_LOOK = 12, 30
+
+def sort_runs(page):
+    case = next(it for it in content.cases_of((TOP / "crates/case_runs/data/examples.cases").read_text()) if it.get("file") == "examples/sort.cyc")
+    page.choose("#example", "examples/sort.cyc")
+    page.state("Accepted")
+    page.run()
+    page.ended("The program ended by itself")
+    assert page.text("pre.output").split() == case["writes"].split(), page.text("pre.output")
+
+
+def statistics_are_shown(page):
+    page.tab("statistics")
+    assert "instructions executed" in page.text("#statistics")
+    page.shot("statistics")
+
+
+def steps_are_a_limit(page):
+    page.source(ENDLESS)
+    page.get("(document.getElementById('steps').value = 100000, 1)")
+    page.run()
+    page.ended("the steps are used up")
+    assert "step limit in main" in page.text("#output"), page.text("#output")
+    page.get("(document.getElementById('steps').value = 4294967295, 1)")
+
+
+def meaning_agrees(page):
+    page.choose("#example", "examples/queens.cyc")
+    page.state("Accepted")
+    page.tab("output")
+    page.run()
+    page.ended("The program ended by itself")
+    page.tab("meaning")
+    page.press_button("Evaluate the source")
+    page.until("document.querySelector('#meaning .same') !== null", "the meaning is the image's")
+    page.shot("meaning")
+
+
+def instructions_are_lit(page):
+    page.tab("instructions")
+    page.until("document.querySelectorAll('table.code tr').length > 50", "the instructions")
+    text = page.get("document.getElementById('source').value")
+    line = next(number for number, it in enumerate(text.split("\n"), 1) if "show(" in it and "void" not in it)
+    where = sum(len(it) + 1 for it in text.split("\n")[:line - 1])
+    page.get(f"(document.getElementById('source').focus(), document.getElementById('source').setSelectionRange({where}, {where}), 1)")
+    page.until("document.querySelectorAll('table.code tr.lit').length > 0", "the line's instructions are lit")
+    assert page.get("[...document.querySelectorAll('table.code tr.lit')].some(it => it.innerText.includes('call of show'))"), "the call is lit"
+    page.shot("instructions")
+
+
+def memory_is_a_picture(page):
+    page.tab("output")
+    page.source(KEPT)
+    page.state("Accepted")
+    page.run()
+    page.ended("an index is outside")
+    began = time.time()
+    page.tab("memory")
+    count = page.pictured()
+    assert count >= LEAST_MOMENTS or time.time() - began >= LONGEST_LOOK, f"{count} moments in {time.time() - began:.0f} seconds"
+    page.get("(document.getElementById('moment').focus(), 1)")
+    page.used.press("End")
+    page.until("document.querySelector('#memory .legend').innerText.includes('dynamic region')", "the dynamic region, at the last moment")
+    assert page.get("document.querySelectorAll('#memory .cell').length") > 0
+    assert re.match(r"Step \d+ in main\. The stack is [1-9]", page.text("#memory .moment")), page.text("#memory .moment")
+    page.shot("memory")
+    page.used.press("Home")
+    page.until("document.querySelector('#memory .moment').innerText.startsWith('Step 0')", "the first moment, by the keyboard")
+
+
+def a_lesson_is_gone_through(page):
+    page.tab("output")
+    page.choose("#chapter", "lesson 4")
+    page.press_button("Load examples/tutorial_request.cyc")
+    page.state("Accepted")
+    page.run()
+    page.ended("main gave 0")
+    assert page.text("pre.output").split("\n")[0].strip() == "three two one", page.text("pre.output")
+    page.press_button("Load the rejected source")
+    page.state("1 fault")
+    assert "Outlives" in page.text("#faults"), page.text("#faults")
+    page.shot("outlives")
+    page.press_button("Load the accepted one")
+    page.state("Accepted")
+    page.shot("mended")
+
+
+def an_outlives_is_mended(page):
+    """What a newcomer does: opens the page, looks at the fault, goes to it, and mends it by the keyboard as the words say."""
+    page.open()
+    page.state("Accepted")
+    page.point_at("#guide button", "Show me a pointer that outlives its region")
+    page.state("1 fault")
+    words = page.text(".beside")
+    assert words.startswith("Outlives") and "has to outlive" in words, words
+    page.shot("newcomer_fault")
+    page.point_at("#faults li button.link", "line 4")
+    assert page.value()[page.get("document.getElementById('source').selectionStart"):].startswith("`r"), "the words lead to the region"
+    page.point_at("#faults li button", "Outlives")
+    assert page.value()[page.get("document.getElementById('source').selectionStart"):].startswith("rnew"), "the click goes to the fault"
+    page.shot("newcomer_at_it")
+    for old, new in (("int *p = NULL", "int n = 0"), ("p = rnew(h) 3;", "int *`r p = rnew(h) 3;\nn = *p;"), ("return *p", "return n")):
+        at = page.value().rindex(old)
+        page.cursor(at, at + len(old))
+        page.type(new)
+    page.state("Accepted")
+    assert page.get("document.querySelector('.beside')") is None, "the words are gone"
+    page.point_at("#run", "Run")
+    page.ended("main gave 3")
+    page.shot("newcomer_mended")
+
+
+def dark_states(page):
+    page.used.scheme("dark")
+    page.choose("#example", "examples/tutorial_service.cyc")
+    page.state("Accepted")
+    page.run()
+    page.ended("The program ended by itself")
+    page.tab("memory")
+    page.pictured()
+    page.shot("dark_memory")
+    page.tab("output")
+    page.source(RAISE)
+    page.state("Accepted")
+    page.run()
+    page.ended("an index is outside")
+    page.shot("dark_raise")
+    page.used.scheme("light")

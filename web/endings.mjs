@@ -4,6 +4,7 @@ const COUNTS = {
     instructions: "instructions executed",
     calls: "calls of functions",
     stack: "bytes of the stack at its deepest",
+    stack_need: "bytes of the stack that the calls need",
     pages: "pages of the arena taken at once, at most",
     putchar: "bytes written",
     getchar: "bytes read, or ends of the input",

@@ -3,6 +3,7 @@
 A test is `void test_NAME()` with a body. Comments of lines directly above it, and those between its `{` and its first token, may say more of its run: a
 line `// input: TEXT` is what it reads, `// writes: TEXT` what it has to write, `// ends: TEXT` how it has to end, as `ended 0` or `raised Array_bounds`,
 and `// pages: N`, `// stack-pages: N`, `// steps: N` what it has. In a text `\\n`, `\\t`, `\\\\` and `\\x` with two digits stand for a byte.
+Several lines of one key are one text.
 """
 import re
 
@@ -57,7 +58,7 @@ def told_by(comments):
         said = re.fullmatch(rb"//\s*([a-z-]+): ?(.*)", it.text.rstrip(b"\r"))
         key = said[1].decode() if said else ""
         if key in TEXTS:
-            found[key] = unescaped(said[2])
+            found[key] = found.get(key, b"") + unescaped(said[2])
         elif key in NUMBERS:
             if not re.fullmatch(rb"[0-9]+", said[2].strip()):
                 raise Wrong(it.at, f"'{key}' wants a number")
@@ -127,10 +128,24 @@ def has_main(text):
     return any(tokens[name].text == b"main" for _, name, _, _ in heads_of(tokens))
 
 
+def end_of(tokens, brace):
+    """Where the `}` stands that belongs to a `{`."""
+    depth = 0
+    for at in range(brace, len(tokens)):
+        depth += {b"{": 1, b"}": -1}.get(tokens[at].text, 0) if tokens[at].kind == "sign" else 0
+        if depth == 0:
+            return at
+    return None
+
+
 def without_main(text):
-    """The text with another name of four letters for each `main`, so that each position stays, and that name."""
+    """The text with another name of four letters for each `main`, so that positions stay, and that name.
+
+    At the end of that function stands a `return`, which only a `main` may leave out."""
     tokens = tokens_of(text)
     taken = {it.text for it in tokens if it.kind == "word"}
     letters = [bytes([it]) for it in range(ord("A"), ord("Z") + 1)]
     other = next(one + two + b"in" for one in [b"M", *letters] for two in [b"a", *letters] if one + two + b"in" not in taken)
-    return b"".join(other if it.kind == "word" and it.text == b"main" else it.text for it in tokens), other.decode()
+    ends = {end_of(tokens, brace) for _, name, brace, _ in heads_of(tokens) if tokens[name].text == b"main"}
+    pieces = [other if it.kind == "word" and it.text == b"main" else it.text for it in tokens]
+    return b"".join(b"return 0;" + it if at in ends else it for at, it in enumerate(pieces)), other.decode()

@@ -1,5 +1,4 @@
 -- Messages by what they are.
-use Rattle.std.specs.Prelude.{⊥}
 use Rattle.editor_protocol.specs.declared.messages.Message.{Message}
 use Rattle.editor_protocol.specs.declared.messages.Message.TheVariants.{Response, Notification}
 

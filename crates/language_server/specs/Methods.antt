@@ -1,9 +1,9 @@
 -- Which requests there are, and when they may be made.
-use Rattle.std.specs.Prelude.{◌×◌, ℕ, List, [], ◌∷◌, map, Option, Some, None, Result, Ok, Err, if◌then◌else◌}
+use Rattle.std.specs.Prelude.{ℕ, List, [], ◌∷◌, map, Option, Some, None, Result, Ok, Err, Bool, true, false, codes, if◌then◌else◌}
 use Rattle.editor_protocol.specs.declared.messages.Code.{Code}
 use Rattle.editor_protocol.specs.declared.messages.Code.TheVariants.{InvalidRequest, MethodNotFound, ServerNotInitialized}
 use Rattle.language_server.specs.declared.methods.Method.{Method}
-use Rattle.language_server.specs.declared.methods.Method.TheVariants.{Initialize}
+use Rattle.language_server.specs.declared.methods.Method.TheVariants.{Initialize, Shutdown}
 use Rattle.language_server.specs.declared.methods.TheConstants.{METHODS}
 use Rattle.language_server.specs.declared.methods.Phase.{Phase}
 use Rattle.language_server.specs.declared.methods.Phase.TheVariants.{Fresh, Ready, Shut, Ended}
@@ -35,3 +35,25 @@ admission Ready None = Err MethodNotFound
 admission Ready (Some method) = later_admission method
 admission Shut method = Err InvalidRequest
 admission (Ended as_asked) method = Err InvalidRequest
+
+-- how far a session is behind a request that was admitted or not: one that is refused leaves it where it was
+abbrev pub phase_behind : Phase → Result Method Code → Phase
+phase_behind phase (Err code) = phase
+phase_behind phase (Ok Initialize) = Ready
+phase_behind phase (Ok Shutdown) = Shut
+phase_behind phase (Ok _) = phase
+
+-- the notification that ends a session
+abbrev pub exit : List ℕ
+exit = codes "exit"
+
+-- how far a session is that ends: it was asked to before, or not
+abbrev pub ended : Phase → Phase
+ended Fresh = Ended false
+ended Ready = Ended false
+ended Shut = Ended true
+ended (Ended as_asked) = Ended false
+
+-- how far a session is behind a notification
+abbrev pub phase_told : Phase → List ℕ → Phase
+phase_told phase name = if same name exit then ended phase else phase

@@ -1,7 +1,7 @@
 // Which requests there are, and when they may be made.
 
 ghost use Rattle.std.specs.Prelude.{◌≡◌, map};
-ghost use Rattle.language_server.specs.Methods.{find_method, methods, admission};
+ghost use Rattle.language_server.specs.Methods.{find_method, methods, admission, phase_behind, ended, phase_told};
 ghost use Rattle.cyc_lexer.specs.Reading.{same};
 
 use editor_protocol::Code;
@@ -34,6 +34,9 @@ static METHODS: [(Method, &[u8]); 10] = [
     (Method::Rename, b"textDocument/rename"),
     (Method::Completion, b"textDocument/completion"),
 ];
+
+/// The notification that ends a session.
+const EXIT: &[u8] = b"exit";
 
 /// How far a session is.
 #[derive(Clone, Copy)]
@@ -88,11 +91,32 @@ pub(crate) fn admission(phase: Phase, method: Option<Method>) -> Result<Method, 
     }
 }
 
-/// How far a session is behind a request, which may have been made or not.
-pub(crate) fn phase_behind(phase: Phase, method: Option<Method>) -> Phase {
-    match (phase, method) {
-        (Phase::Fresh, Some(Method::Initialize)) => Phase::Ready,
-        (Phase::Ready, Some(Method::Shutdown)) => Phase::Shut,
+/// How far a session is behind a request that was admitted or not.
+pub(crate) fn phase_behind(phase: Phase, admitted: Result<Method, Code>) -> Phase
+    ensures { result ≡ phase_behind phase admitted }
+{
+    match admitted {
+        Ok(Method::Initialize) => Phase::Ready,
+        Ok(Method::Shutdown) => Phase::Shut,
         _ => phase,
+    }
+}
+
+/// How far a session is that ends.
+fn ended(phase: Phase) -> Phase
+    ensures { result ≡ ended phase }
+{
+    let as_asked = matches!(phase, Phase::Shut);
+    Phase::Ended { as_asked }
+}
+
+/// How far a session is behind a notification.
+pub(crate) fn phase_told(phase: Phase, name: &str) -> Phase
+    ensures { result ≡ phase_told phase name.now }
+{
+    if are_same(name.as_bytes(), EXIT) {
+        ended(phase)
+    } else {
+        phase
     }
 }

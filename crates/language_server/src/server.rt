@@ -6,7 +6,7 @@ ghost use Rattle.language_server.specs.Messages.{IsNotification};
 use crate::changes::changed;
 use crate::documents::{Document, document_of, index_of, is_later, uri_in, version_in};
 use crate::faults::{faults_of, published};
-use crate::methods::{Method, Phase, admission, method_of, phase_behind};
+use crate::methods::{Method, Phase, admission, method_of, phase_behind, phase_told};
 use crate::requests::found_in;
 use editor_protocol::{Code, Incoming, Message, Outcome, read};
 use serde_json::Value;
@@ -41,7 +41,8 @@ fn one(alloc: Global, message: Message) -> Result<Vec<Message>, AllocError>
 
 impl Server {
     ghost use Rattle.serde_json.specs.View.{view};
-    ghost use Rattle.language_server.specs.Serving.{IsOutcome, IsResponse, IsRefusal, Serves, IsServed};
+    ghost use Rattle.language_server.specs.Methods.{methods, find_method, admission, phase_told};
+    ghost use Rattle.language_server.specs.Serving.{IsOutcome, IsRequested, IsTold, IsRefusal, Serves, IsServed};
     ghost use Rattle.editor_protocol.specs.Kinds.{kind_read};
 
     /// A session that has not begun.
@@ -69,11 +70,15 @@ impl Server {
         }
     }
 
-    /// The outcome of a request.
-    fn outcome(&self, name: &str, body: &Value) -> Result<Outcome, AllocError>
-        ensures { IfOk result (IsOutcome self.now.phase name.now) }
+    /// The outcome of a request that was admitted or not.
+    fn outcome(
+        &self,
+        admitted: Result<Method, Code>,
+        body: &Value,
+    ) -> Result<Outcome, AllocError>
+        ensures { IfOk result (IsOutcome admitted) }
     {
-        match admission(self.phase, method_of(name)) {
+        match admitted {
             Ok(method) => self.found(method, body),
             Err(code) => Ok(Outcome::Refused(code)),
         }
@@ -81,12 +86,14 @@ impl Server {
 
     /// Answers a request.
     fn requested(&mut self, id: Value, name: &str, body: &Value) -> Result<Vec<Message>, AllocError>
-        ensures answered { IfOk result (λ messages. IsResponse self.old.phase (view id) name.now messages.items) }
+        ensures answered { IfOk result (λ messages. IsRequested (admission self.old.phase (find_method methods name.now)) (view id)
+            self.old self.new messages.items) }
         ensures same { self.new.texts ≡ self.old.texts }
     {
-        let outcome = self.outcome(name, body)?;
+        let admitted = admission(self.phase, method_of(name));
+        let outcome = self.outcome(admitted, body)?;
         let messages = one(self.alloc, Message::Response { id, outcome })?;
-        self.phase = phase_behind(self.phase, method_of(name));
+        self.phase = phase_behind(self.phase, admitted);
         Ok(messages)
     }
 
@@ -98,6 +105,7 @@ impl Server {
         text: Vec<u8>,
     ) -> Result<Vec<Message>, AllocError>
         ensures told { IfOk result (λ messages. All IsNotification messages.items) }
+        ensures phase { self.new.phase ≡ self.old.phase }
         ensures failed { OnErr result (self.new.texts.items ≡ self.old.texts.items) }
     {
         let faults = faults_of(self.alloc, text.as_slice())?;
@@ -119,6 +127,7 @@ impl Server {
     /// A text is opened.
     fn open(&mut self, body: &Value) -> Result<Vec<Message>, AllocError>
         ensures told { IfOk result (λ messages. All IsNotification messages.items) }
+        ensures phase { self.new.phase ≡ self.old.phase }
         ensures failed { OnErr result (self.new.texts.items ≡ self.old.texts.items) }
     {
         let text = body
@@ -134,6 +143,7 @@ impl Server {
     /// A text is changed. One that isn't open, a version that isn't later, and what is no change leave it as it was.
     fn change(&mut self, body: &Value) -> Result<Vec<Message>, AllocError>
         ensures told { IfOk result (λ messages. All IsNotification messages.items) }
+        ensures phase { self.new.phase ≡ self.old.phase }
         ensures failed { OnErr result (self.new.texts.items ≡ self.old.texts.items) }
     {
         let none = Vec::new(self.alloc);
@@ -156,6 +166,7 @@ impl Server {
     /// A text is closed, and its faults go.
     fn close(&mut self, body: &Value) -> Result<Vec<Message>, AllocError>
         ensures told { IfOk result (λ messages. All IsNotification messages.items) }
+        ensures phase { self.new.phase ≡ self.old.phase }
         ensures failed { OnErr result (self.new.texts.items ≡ self.old.texts.items) }
     {
         let Some(uri) = uri_in(body) else {
@@ -172,6 +183,7 @@ impl Server {
     /// Does what a notification says while the server is initialized. One that is unknown says nothing.
     fn told(&mut self, name: &str, body: &Value) -> Result<Vec<Message>, AllocError>
         ensures told { IfOk result (λ messages. All IsNotification messages.items) }
+        ensures phase { self.new.phase ≡ self.old.phase }
         ensures failed { OnErr result (self.new.texts.items ≡ self.old.texts.items) }
     {
         match name {
@@ -184,17 +196,17 @@ impl Server {
 
     /// Does what a notification says. Nothing is answered to it.
     fn notified(&mut self, name: &str, body: &Value) -> Result<Vec<Message>, AllocError>
-        ensures told { IfOk result (λ messages. All IsNotification messages.items) }
+        ensures told { IfOk result (λ messages. IsTold self.old.phase self.old self.new messages.items) }
+        ensures phase { IfOk result (λ _. self.new.phase ≡ phase_told self.old.phase name.now) }
         ensures failed { OnErr result (self.new.texts.items ≡ self.old.texts.items) }
     {
-        if name == "exit" {
-            let as_asked = matches!(self.phase, Phase::Shut);
-            self.phase = Phase::Ended { as_asked };
-        }
-        match self.phase {
-            Phase::Ready => self.told(name, body),
-            _ => Ok(Vec::new(self.alloc)),
-        }
+        let phase = phase_told(self.phase, name);
+        let messages = match self.phase {
+            Phase::Ready => self.told(name, body)?,
+            _ => Vec::new(self.alloc),
+        };
+        self.phase = phase;
+        Ok(messages)
     }
 
     /// The answer to what is no message.
@@ -224,7 +236,8 @@ impl Server {
 
     /// Answers a message. Fails only where no host memory is left, and the texts are then as they were.
     pub fn serve(&mut self, message: &[u8]) -> Result<Vec<Message>, AllocError>
-        // a request gets one response with its id, a notification none, and what is neither one error; a request changes no text
+        // a request gets one response with its id, a notification none, and what is neither one error; a text is changed by notifications alone,
+        // and the phase by a request that may be made and by `exit`
         ensures served { IfOk result (λ messages. IsServed message.now self.old self.new messages.items) }
         ensures failed { OnErr result (self.new.texts.items ≡ self.old.texts.items) }
     {

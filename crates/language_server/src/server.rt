@@ -71,11 +71,7 @@ impl Server {
     }
 
     /// The outcome of a request that was admitted or not.
-    fn outcome(
-        &self,
-        admitted: Result<Method, Code>,
-        body: &Value,
-    ) -> Result<Outcome, AllocError>
+    fn outcome(&self, admitted: Result<Method, Code>, body: &Value) -> Result<Outcome, AllocError>
         ensures { IfOk result (IsOutcome admitted) }
     {
         match admitted {

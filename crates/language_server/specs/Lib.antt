@@ -1,0 +1,3 @@
+pub mod Messages
+pub mod Methods
+pub mod Serving

@@ -1,0 +1,106 @@
+// What requests are answered.
+
+use crate::changes::position_of;
+use crate::completion::completions;
+use crate::documents::{Document, document_of, uri_in};
+use crate::layouts::layout;
+use crate::methods::Method;
+use crate::names::{definition, hover, may_be_named, references, renamed};
+use crate::outlines::{folding, symbols};
+use crate::pages::Page;
+use editor_protocol::offset_at;
+use serde_json::Value;
+use std::alloc::{AllocError, Global};
+use token_names::pieces;
+
+/// What the server can do.
+const CAPABILITIES: &str =
+    r#"{"capabilities":{"positionEncoding":"utf-16","textDocumentSync":{"openClose":true,"change":2},"hoverProvider":true,"definitionProvider":true,"referencesProvider":true,"renameProvider":true,"documentSymbolProvider":true,"foldingRangeProvider":true,"documentFormattingProvider":true,"completionProvider":{"triggerCharacters":[".",">","`"]}},"serverInfo":{"name":"cycc"}}"#;
+
+/// A text of JSON as bytes of its own.
+fn written(alloc: Global, text: &str) -> Result<Option<Vec<u8>>, AllocError> {
+    Ok(Some(Vec::from_slice(alloc, text.as_bytes())?))
+}
+
+/// The offset that a message asks about.
+fn offset_in(body: &Value, text: &[u8]) -> Option<usize> {
+    let position = body.pointer("/params/position").and_then(position_of)?;
+    Some(offset_at(text, position))
+}
+
+/// Whether the declaration is asked for among the uses.
+fn asks_declaration(body: &Value) -> bool {
+    body.pointer("/params/context/includeDeclaration")
+        .and_then(Value::as_bool)
+        .unwrap_or(true)
+}
+
+/// The answer to a new name.
+fn renamed_in(page: &Page<'_>, offset: usize, body: &Value) -> Result<Option<Vec<u8>>, AllocError> {
+    match body.pointer("/params/newName").and_then(Value::as_str) {
+        Some(name) if may_be_named(page, offset, name.as_bytes()) => {
+            Ok(Some(renamed(page, offset, name.as_bytes())?))
+        }
+        _ => Ok(None),
+    }
+}
+
+/// The answer to a request about a position.
+fn found_at(page: &Page<'_>, method: Method, body: &Value) -> Result<Option<Vec<u8>>, AllocError> {
+    let Some(offset) = offset_in(body, page.document.text.as_slice()) else {
+        return Ok(None);
+    };
+    match method {
+        Method::Definition => Ok(Some(definition(page, offset)?)),
+        Method::References => Ok(Some(references(page, offset, asks_declaration(body))?)),
+        Method::Completion => Ok(Some(completions(page, offset)?)),
+        Method::Rename => renamed_in(page, offset, body),
+        _ => Ok(Some(hover(page, offset)?)),
+    }
+}
+
+/// The answer to a request about a text.
+fn found_on(page: &Page<'_>, method: Method, body: &Value) -> Result<Option<Vec<u8>>, AllocError> {
+    match method {
+        Method::Symbols => Ok(Some(symbols(page)?)),
+        Method::Folds => Ok(Some(folding(page)?)),
+        Method::Layout => Ok(Some(layout(page)?)),
+        _ => found_at(page, method, body),
+    }
+}
+
+/// The answer to a request about one of these texts; none, where it isn't among them.
+fn found_among(
+    alloc: Global,
+    texts: &[Document],
+    method: Method,
+    body: &Value,
+) -> Result<Option<Vec<u8>>, AllocError> {
+    let Some(uri) = uri_in(body) else {
+        return Ok(None);
+    };
+    let Some(document) = document_of(texts, uri) else {
+        return Ok(None);
+    };
+    let tokens = pieces(alloc, document.text.as_slice())?;
+    let page = Page {
+        alloc,
+        document,
+        tokens: tokens.as_slice(),
+    };
+    found_on(&page, method, body)
+}
+
+/// The answer to a request, a text of JSON; none, where its parameters are wrong. Fails only where no host memory is left.
+pub(crate) fn found_in(
+    alloc: Global,
+    texts: &[Document],
+    method: Method,
+    body: &Value,
+) -> Result<Option<Vec<u8>>, AllocError> {
+    match method {
+        Method::Initialize => written(alloc, CAPABILITIES),
+        Method::Shutdown => written(alloc, "null"),
+        _ => found_among(alloc, texts, method, body),
+    }
+}

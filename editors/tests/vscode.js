@@ -1,0 +1,86 @@
+// What the extension of VS Code does with cycc's server, over a small stand-in for VS Code itself: run by editors/test with $FILE and $CYCC.
+const assert = require('assert');
+const fs = require('fs');
+const Module = require('module');
+
+const shown = new Map();
+const made = {};
+const listeners = {};
+const text = { value: fs.readFileSync(process.env.FILE, 'utf8') };
+const uri = { toString: () => 'file:///test.cyc' };
+const document = { languageId: 'cycc', uri, version: 1, getText: () => text.value };
+const remember = (name) => (...given) => { made[name] = given[1]; return {}; };
+const listen = (name) => (call) => { listeners[name] = call; return {}; };
+
+class Plain { constructor(...given) { Object.assign(this, { given }); } }
+class Edits { constructor() { this.list = []; } replace(where, range, newText) { this.list.push({ range, newText }); } }
+const vscode = {
+  Range: class { constructor(a, b, c, d) { Object.assign(this, { start: { line: a, character: b }, end: { line: c, character: d } }); } },
+  Location: class { constructor(where, range) { Object.assign(this, { where, range }); } },
+  Hover: class { constructor(value) { this.value = value; } },
+  MarkdownString: class { constructor(value) { this.value = value; } },
+  Diagnostic: class { constructor(range, message) { Object.assign(this, { range, message }); } },
+  CompletionItem: class { constructor(label) { this.label = label; } },
+  DocumentSymbol: class { constructor(name) { this.name = name; } },
+  FoldingRange: Plain,
+  TextEdit: class { constructor(where, newText) { Object.assign(this, { newText }); } },
+  WorkspaceEdit: Edits,
+  DiagnosticSeverity: { Error: 0 },
+  Uri: { parse: (it) => it },
+  window: { showErrorMessage: (words) => { throw new Error(words); } },
+  languages: {
+    createDiagnosticCollection: () => ({ set: (where, list) => shown.set(where, list) }),
+    registerHoverProvider: remember('hover'),
+    registerDefinitionProvider: remember('definition'),
+    registerReferenceProvider: remember('references'),
+    registerRenameProvider: remember('rename'),
+    registerCompletionItemProvider: remember('completion'),
+    registerDocumentSymbolProvider: remember('symbols'),
+    registerFoldingRangeProvider: remember('folds'),
+    registerDocumentFormattingEditProvider: remember('layout'),
+  },
+  workspace: {
+    getConfiguration: () => ({ get: () => process.env.CYCC }),
+    onDidOpenTextDocument: listen('open'),
+    onDidChangeTextDocument: listen('change'),
+    onDidCloseTextDocument: listen('close'),
+    textDocuments: [document],
+  },
+};
+const load = Module._load;
+Module._load = (name, ...rest) => (name === 'vscode' ? vscode : load(name, ...rest));
+const client = require('../client.js');
+
+async function until(words, test) {
+  for (let tries = 0; tries < 400; tries++) {
+    if (test()) return;
+    await new Promise((go) => setTimeout(go, 50));
+  }
+  throw new Error(words);
+}
+
+async function main() {
+  await client.activate({ subscriptions: [] });
+  const faults = () => shown.get('file:///test.cyc') || [];
+  await until('no fault appeared', () => faults().length === 1 && faults()[0].code === 'Name');
+  document.version = 2;
+  const range = { start: { line: 5, character: 11 }, end: { line: 5, character: 16 } };
+  listeners.change({ document, contentChanges: [{ range, text: 'total' }] });
+  await until('the fault did not go', () => faults().length === 0);
+  const at = { line: 5, character: 12 };
+  assert.strictEqual((await made.definition.provideDefinition(document, at)).range.start.line, 4);
+  assert.match((await made.hover.provideHover(document, at)).value.value, /int total/);
+  assert.strictEqual((await made.rename.provideRenameEdits(document, at, 'sum')).list.length, 2);
+  assert.strictEqual((await made.references.provideReferences(document, at, { includeDeclaration: false })).length, 1);
+  const members = await made.completion.provideCompletionItems(document, { line: 5, character: 22 });
+  assert.deepStrictEqual(members.map((it) => it.label), ['x', 'next']);
+  assert.strictEqual((await made.symbols.provideDocumentSymbols(document)).length, 3);
+  assert.strictEqual((await made.folds.provideFoldingRanges(document)).length, 1);
+  const [laid] = await made.layout.provideDocumentFormattingEdits(document);
+  assert.match(laid.newText, /;\n\}\n$/);
+  listeners.close(document);
+  await client.deactivate();
+  console.log('vscode: faults, definition, hover, rename, references, completion, symbols, folding and layout were seen');
+}
+
+main().then(() => process.exit(0), (error) => { console.error(`vscode: ${error.message}`); process.exit(1); });

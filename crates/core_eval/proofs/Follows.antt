@@ -6,6 +6,7 @@ use Rattle.core_meaning.specs.Steps as steps
 use Rattle.core_meaning.specs.Steps.{Config, Exit, Step}
 use Rattle.core_meaning.specs.Meaning.{falls_to, statement, statements}
 use Rattle.cyc_core.specs.declared.operation.Operation.{Operation}
+use Rattle.cyc_core.specs.declared.statement.Origin.{Origin}
 use Rattle.cyc_core.specs.declared.statement.Statement as code
 use Rattle.cyc_core.specs.declared.statement.Statement.TheVariants as form
 use Rattle.cyc_core.specs.Trees.{operation_tree, statement_tree, body_tree}
@@ -139,10 +140,10 @@ module _ {task : Task} {ws : List Wait} {known : Known} {ws' : List Wait} {known
   entered_answer (Ok due) behind ws2 known2 waits m = entered_next (next_of due) behind ws2 known2 waits m
   entered_answer (Err e) behind ws2 known2 waits m = tt
 
-  module _ (o : Operation) (does : s ≡ form.Do o) where
+  module _ (at : Origin) (o : Operation) (does : s ≡ form.Do at o) where
     as_does : (next : Next) (b : List Wait) (known2 : Known) → IsMove (Execute (core.Do (operation_tree o))) b known' next b known2
         → IsMove (Execute (statement_tree s)) b known' next b known2
-    as_does next b known2 m = subst (λ (t : core.Statement). IsMove (Execute t) b known' next b known2) (sym (ap statement_tree does ∙ do_tree o)) m
+    as_does next b known2 m = subst (λ (t : core.Statement). IsMove (Execute t) b known' next b known2) (sym (ap statement_tree does ∙ do_tree at o)) m
 
     -- the first is an operation, which is done, and the others are next
     pub operation_done : (due : Due) (known2 : Known) → next_of due ≡ Go (Leave steps.Falls)

@@ -218,7 +218,7 @@ pub fn enter_statement<'p>(
         (next_of due) (waits_of stack.new.items) (known_of frame.new memory.new)) }
 {
     match statement {
-        Statement::Do(operation) => operate(alloc, *operation, frame, memory),
+        Statement::Do(_, operation) => operate(alloc, *operation, frame, memory),
         Statement::Copy(to, from, layout) => {
             copy(alloc, frame, memory, *to, *from, layout.as_ref())
         }
@@ -238,14 +238,14 @@ pub fn enter_statement<'p>(
         Statement::While(flag, both) => enter_loop(&both.0, *flag, &both.1, stack),
         Statement::Block(block) => enter_block(alloc, &block.0, &block.1, stack, memory),
         Statement::Leave(body) => enter_breakable(body, stack),
-        Statement::Break => Ok(Due::Go(Now::Leave(Flow::Breaks))),
-        Statement::Continue => Ok(Due::Go(Now::Leave(Flow::Continues))),
+        Statement::Break(_) => Ok(Due::Go(Now::Leave(Flow::Breaks))),
+        Statement::Continue(_) => Ok(Due::Go(Now::Leave(Flow::Continues))),
         Statement::Call(call) => {
             frame.at = call.origin;
             let values = arguments_of(alloc, frame, &mut memory.spare, &call.arguments)?;
             Ok(Due::Call(call.result, call.function, values))
         }
-        Statement::Return(words) => {
+        Statement::Return(words, _) => {
             let values = returned(frame, *words)?;
             leave_function(values, stack, frame, memory)
         }
@@ -273,7 +273,7 @@ pub fn follow_statements<'p>(
         let Some((statement, others)) = rest.split_first() else {
             return Ok(Due::Go(Now::Leave(Flow::Falls)));
         };
-        let Statement::Do(operation) = statement else {
+        let Statement::Do(_, operation) = statement else {
             wait_for_others(stack, others)?;
             return enter_statement(alloc, statement, stack, frame, memory);
         };

@@ -21,8 +21,8 @@ use Rattle.cyc_core.specs.declared.layout.Local.{Local}
 abbrev Body : Type 0
 Body = Vec code.Statement Global
 
-pub do_tree : (o : Operation) → statement_tree (form.Do o) ≡ core.Do (operation_tree o)
-do_tree o = ap statement_tree (sym (form.rolls-Do o)) ∙ fold-roll-Statement core.Statement statement_step (Statement-F.Do o)
+pub do_tree : (at : Origin) (o : Operation) → statement_tree (form.Do at o) ≡ core.Do (operation_tree o)
+do_tree at o = ap statement_tree (sym (form.rolls-Do at o)) ∙ fold-roll-Statement core.Statement statement_step (Statement-F.Do at o)
 
 pub check_tree : (t : Temporary) (f : Failure) (at : Origin) → statement_tree (form.Check t f at) ≡ core.If t.0 core.NoStatements (failure_body f)
 check_tree t f at = ap statement_tree (sym (form.rolls-Check t f at)) ∙ fold-roll-Statement core.Statement statement_step (Statement-F.Check t f at)
@@ -46,5 +46,5 @@ pub call_tree : (call : Box Call Global)
     → statement_tree (form.Call call) ≡ core.Call (optional_tree call.value.result) call.value.function (map temporary_tree call.value.arguments.items)
 call_tree call = ap statement_tree (sym (form.rolls-Call call)) ∙ fold-roll-Statement core.Statement statement_step (Statement-F.Call call)
 
-pub return_tree : (value : Option Words) → statement_tree (form.Return value) ≡ core.Return (optional_tree value)
-return_tree value = ap statement_tree (sym (form.rolls-Return value)) ∙ fold-roll-Statement core.Statement statement_step (Statement-F.Return value)
+pub return_tree : (value : Option Words) (at : Origin) → statement_tree (form.Return value at) ≡ core.Return (optional_tree value)
+return_tree value at = ap statement_tree (sym (form.rolls-Return value at)) ∙ fold-roll-Statement core.Statement statement_step (Statement-F.Return value at)

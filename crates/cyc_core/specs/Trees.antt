@@ -191,7 +191,7 @@ failure_body (failure.Always kind) = raise_tree kind
 failure_body (failure.ByTest t first second) = core.MoreStatements (core.If t.0 (raise_tree first) (raise_tree second)) core.NoStatements
 
 abbrev pub statement_step : Statement-F core.Statement → core.Statement
-statement_step (Statement-F.Do o) = core.Do (operation_tree o)
+statement_step (Statement-F.Do at o) = core.Do (operation_tree o)
 statement_step (Statement-F.Copy to from l) = core.Do (core.Copy to.0 from.0 (layout_tree l.value))
 statement_step (Statement-F.Clear p l count) = core.Do (core.Clear p.0 (layout_tree l.value) count)
 statement_step (Statement-F.RegionAlloc t h n l) = core.Do (core.RegionAlloc t.0 h.0 n.0 (layout_tree l.value))
@@ -201,10 +201,10 @@ statement_step (Statement-F.If t both) = core.If t.0 (statements_of both.value.0
 statement_step (Statement-F.While t both) = core.While (statements_of both.value.0.items) t.0 (statements_of both.value.1.items)
 statement_step (Statement-F.Block block) = core.Block (map local_tree block.value.0.items) (statements_of block.value.1.items)
 statement_step (Statement-F.Leave body) = core.Leave (statements_of body.items)
-statement_step Statement-F.Break = core.Break
-statement_step Statement-F.Continue = core.Continue
+statement_step (Statement-F.Break at) = core.Break
+statement_step (Statement-F.Continue at) = core.Continue
 statement_step (Statement-F.Call call) = core.Call (optional_tree call.value.result) call.value.function (map temporary_tree call.value.arguments.items)
-statement_step (Statement-F.Return value) = core.Return (optional_tree value)
+statement_step (Statement-F.Return value at) = core.Return (optional_tree value)
 statement_step (Statement-F.Raise kind at) = core.Raise kind
 
 abbrev pub statement_tree : code.Statement → core.Statement

@@ -75,14 +75,14 @@ impl Origins {
                 self.raises.push(*origin)?;
                 Ok(())
             }
-            Statement::Do(_)
+            Statement::Do(..)
             | Statement::Copy(..)
             | Statement::Clear(..)
             | Statement::RegionAlloc(..)
             | Statement::UniqueAlloc(..)
-            | Statement::Break
-            | Statement::Continue
-            | Statement::Return(_) => Ok(()),
+            | Statement::Break(_)
+            | Statement::Continue(_)
+            | Statement::Return(..) => Ok(()),
         }
     }
 

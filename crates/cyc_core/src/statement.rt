@@ -5,7 +5,8 @@ use crate::operation::{Operation, Temporary, Words};
 use cyc_words::Kind;
 use std::rc::Rc;
 
-/// The offset in the source's text of the phrase that raises or calls. No promise rests on it: the meaning of a statement leaves it out.
+/// The offset in the source's text of the phrase that raises or calls, or of the statement that does something. No promise rests on it: the meaning of a
+/// statement leaves it out.
 #[derive(Clone, Copy)]
 pub struct Origin(pub u32);
 
@@ -35,7 +36,7 @@ pub struct Call {
 #[derive(Drop)]
 pub enum Statement {
     /// The operation is done.
-    Do(Operation),
+    Do(Origin, Operation),
     /// The object of this layout that the first temporary points to gets what that holds which the second points to.
     Copy(Temporary, Temporary, Rc<Layout>),
     /// So many elements of this layout, from where the temporary points on, get what they begin as: numbers 0, and pointers NULL.
@@ -56,13 +57,13 @@ pub enum Statement {
     /// The statements are done, and a `Break` among them ends them; a `Continue` is one of the loop around.
     Leave(Vec<Statement>),
     /// The innermost loop, or `Leave`, is left.
-    Break,
+    Break(Origin),
     /// The innermost loop goes on with its test.
-    Continue,
+    Continue(Origin),
     /// A function is called with what temporaries hold, and others get its result, if it has one.
     Call(Box<Call>),
     /// The function returns, with what the temporaries hold if it has a result.
-    Return(Option<Words>),
+    Return(Option<Words>, Origin),
     /// The program ends with this exception.
     Raise(Kind, Origin),
 }

@@ -15,18 +15,20 @@ use cyc_words::Kind;
 use std::alloc::{AllocError, Global};
 use std::mem;
 
-/// What is written: statements, the shapes of the unnamed values, and whether memory was wanting on the way.
+/// What is written: statements, the shapes of the unnamed values, where the statement of the source stands that it is of, and whether memory was wanting on
+/// the way.
 #[derive(Drop)]
 pub struct Body<'p> {
     pub alloc: Global,
     pub code: Vec<Statement>,
     pub own: Vec<Shape<'p>>,
+    pub at: Origin,
     pub failed: bool,
 }
 
 impl<'p> Body<'p> {
-    /// Nothing is written.
-    pub fn new(alloc: Global) -> Body<'p>
+    /// Nothing is written, of what stands at an origin.
+    pub fn new(alloc: Global, at: Origin) -> Body<'p>
         ensures code { result.code.items ≡ [] }
         ensures own { result.own.items ≡ [] }
         ensures sound { IsSound result }
@@ -35,6 +37,7 @@ impl<'p> Body<'p> {
             alloc,
             code: Vec::new(alloc),
             own: Vec::new(alloc),
+            at,
             failed: false,
         }
     }
@@ -60,7 +63,15 @@ impl<'p> Body<'p> {
     pub fn operation(&mut self, operation: Operation)
         ensures { Emits self.old self.new (core.Do (operation_tree operation) ∷ []) }
     {
-        self.emit(Statement::Do(operation));
+        let at = self.at;
+        self.emit(Statement::Do(at, operation));
+    }
+
+    /// Goes on to what stands at an origin.
+    pub fn go_to(&mut self, at: Origin)
+        ensures { Stays self.old self.new }
+    {
+        self.at = at;
     }
 
     /// Sets aside what is written, to begin a part.
@@ -68,6 +79,15 @@ impl<'p> Body<'p> {
         ensures begun { IsBegun self.old self.new }
         ensures aside { map statement_tree result.items ≡ code_of self.old }
     {
+        mem::replace(&mut self.code, Vec::new(self.alloc))
+    }
+
+    /// Sets aside what is written, to begin a part of what stands at an origin.
+    pub fn begin_at(&mut self, at: Origin) -> Vec<Statement>
+        ensures begun { IsBegun self.old self.new }
+        ensures aside { map statement_tree result.items ≡ code_of self.old }
+    {
+        self.at = at;
         mem::replace(&mut self.code, Vec::new(self.alloc))
     }
 
@@ -175,7 +195,8 @@ impl<'p> Body<'p> {
     pub fn breaks(&mut self)
         ensures { Emits self.old self.new (core.Break ∷ []) }
     {
-        self.emit(Statement::Break);
+        let at = self.at;
+        self.emit(Statement::Break(at));
     }
 
     /// Appends the shape of a further unnamed value.

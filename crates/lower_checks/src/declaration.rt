@@ -289,7 +289,7 @@ fn lower_alias<'p>(
 
 /// Appends what gives the local of a number its first value: that of its shape, its initializer's value, that of an alias's pointer, a new
 /// region's handle, a key that opens one or a new key, which comes into a temporary; appends the shapes of the unnamed values.
-pub fn lower_declaration<'p>(
+fn lower_first<'p>(
     scope: &Scope<'_, 'p>,
     declaration: &'p Declaration,
     body: &mut Body<'p>,
@@ -321,4 +321,23 @@ pub fn lower_declaration<'p>(
         Declaration::Open(_, _, _, key) => lower_open(scope, key, body, to, index),
         Declaration::NewKey(_, _, _) => lower_new_key(body, to, index),
     }
+}
+
+/// The same, of operations that stand where the declaration does.
+pub fn lower_declaration<'p>(
+    scope: &Scope<'_, 'p>,
+    declaration: &'p Declaration,
+    body: &mut Body<'p>,
+    to: Temporary,
+    index: usize,
+)
+    requires room { HasRoom to.0 (declaration_room (declaration_tree declaration.now)) }
+    requires taken { IsSound body.old → TakesDeclaration (world_in scope.now) (names_in scope.now) (declaration_tree declaration.now) }
+    ensures writes { let w = world_in scope.now in
+        let names = names_in scope.now in
+        let d = declaration_tree declaration.entry.now in
+        Writes body.old body.new (declaration_code w names d to.0 index (next_of body.old)) (declaration_values w names d) }
+{
+    body.go_to(Origin(declaration.place()));
+    lower_first(scope, declaration, body, to, index);
 }

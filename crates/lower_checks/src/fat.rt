@@ -173,8 +173,9 @@ fn lower_counted(body: &mut Body<'_>, pointer: Temporary, count: u32)
 {
     let at = behind(pointer, 1);
     let index = behind(pointer, 2);
-    let these = body.alone(Statement::Do(Operation::Constant(at, count)));
-    let those = body.alone(Statement::Do(Operation::Constant(at, 0)));
+    let origin = body.at;
+    let these = body.alone(Statement::Do(origin, Operation::Constant(at, count)));
+    let those = body.alone(Statement::Do(origin, Operation::Constant(at, 0)));
     body.branch(pointer, these, those);
     body.operation(Operation::Constant(index, 0));
 }

@@ -25,7 +25,7 @@ use crate::stored::Stored;
 use crate::table::Table;
 use crate::usage::{passed, temporaries};
 use crate::variable::lower_store_local;
-use cyc_core::{Function, Operation, Statement, Temporary, Variable, Words};
+use cyc_core::{Function, Operation, Origin, Statement, Temporary, Variable, Words};
 use cyc_tree::{Function as Source, Member};
 use std::alloc::{AllocError, Global};
 
@@ -75,15 +75,15 @@ fn lower_parameters<'p>(
     }
 }
 
-/// Appends the end of a function without `return`, which gives 0 where a result is due.
-fn lower_end(body: &mut Body<'_>, shape: &Shape<'_>)
+/// Appends the end of a function without `return`, which gives 0 where a result is due, of what stands at an origin.
+fn lower_end(body: &mut Body<'_>, shape: &Shape<'_>, at: Origin)
     ensures { Emits body.old body.new (end_code (shape_tree shape.now)) }
 {
     match shape {
-        Shape::Void => body.emit(Statement::Return(None)),
+        Shape::Void => body.emit(Statement::Return(None, at)),
         _ => {
-            body.operation(Operation::Constant(Temporary(0), 0));
-            body.emit(Statement::Return(Some(Words::One(Temporary(0)))));
+            body.emit(Statement::Do(at, Operation::Constant(Temporary(0), 0)));
+            body.emit(Statement::Return(Some(Words::One(Temporary(0))), at));
         }
     }
 }
@@ -102,7 +102,7 @@ fn lower_body<'p>(
     ensures values { let f = routine_of (source_tree function.entry.now) in IsSound result → values_of result ≡ routine_values (world_of program.now) f }
 {
     let shape = Shape::of(&function.result);
-    let mut body = Body::new(alloc);
+    let mut body = Body::new(alloc, Origin(function.name.at));
     let mut locals = Locals::new(alloc);
     let mut all = Vec::new(alloc);
     let opened = Vec::new(alloc);
@@ -125,7 +125,7 @@ fn lower_body<'p>(
     );
     let inside = body.end(Vec::new(alloc));
     lower_inside(program, &all, &mut body, inside);
-    lower_end(&mut body, &shape);
+    lower_end(&mut body, &shape, Origin(function.end));
     body
 }
 

@@ -188,7 +188,8 @@ fn lower_result(body: &mut Body<'_>, shape: &Shape<'_>, to: Temporary)
     requires room { HasRoom to.0 2 }
     ensures { Emits body.old body.new (core.Return (results_in (shape_tree shape.now) to.0) ∷ []) }
 {
-    body.emit(Statement::Return(shape.result_in(to)));
+    let at = body.at;
+    body.emit(Statement::Return(shape.result_in(to), at));
 }
 
 /// Appends a return, with the value of an expression in the shape of the function's result, when all regions of the function are left;

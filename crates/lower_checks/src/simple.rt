@@ -18,12 +18,12 @@ use crate::freeing::{lower_free, lower_free_key};
 use crate::leaving::{RegionsAround, lower_left, lower_return};
 use crate::scope::Scope;
 use crate::shape::Shape;
-use cyc_core::Statement;
+use cyc_core::{Origin, Statement};
 use cyc_tree::Statement as Source;
 
 /// Appends what a statement without statements in it does, in a function with a result of this shape, among regions; appends the shapes of
 /// the unnamed values.
-pub fn lower_simple<'p>(
+fn lower_plain<'p>(
     scope: &Scope<'_, 'p>,
     shape: &Shape<'_>,
     statement: &'p Source,
@@ -44,20 +44,26 @@ pub fn lower_simple<'p>(
     match statement {
         Source::Empty(_) => {}
         Source::Run(value) => lower_run(scope, value, body, to),
-        Source::Break(_) => lower_left(body, around, opened, around.broken, Statement::Break),
-        Source::Continue(_) => lower_left(
+        Source::Break(at) => lower_left(
+            body,
+            around,
+            opened,
+            around.broken,
+            Statement::Break(Origin(*at)),
+        ),
+        Source::Continue(at) => lower_left(
             body,
             around,
             opened,
             around.continued,
-            Statement::Continue,
+            Statement::Continue(Origin(*at)),
         ),
-        Source::Return(_, None) => lower_left(
+        Source::Return(at, None) => lower_left(
             body,
             around,
             opened,
             around.all,
-            Statement::Return(None),
+            Statement::Return(None, Origin(*at)),
         ),
         Source::Return(_, Some(value)) => lower_return(scope, shape, value, body, around, opened),
         Source::Exchange(left, right) => lower_exchange(scope, left, right, body, to),
@@ -69,4 +75,26 @@ pub fn lower_simple<'p>(
         | Source::While(_, _, _)
         | Source::Switch(_, _, _) => unreachable!(),
     }
+}
+
+/// The same, of operations that stand where the statement does.
+pub fn lower_simple<'p>(
+    scope: &Scope<'_, 'p>,
+    shape: &Shape<'_>,
+    statement: &'p Source,
+    body: &mut Body<'p>,
+    around: RegionsAround,
+    opened: &[bool],
+)
+    requires room { HasRoom around.all (statement_room (source_tree statement.now)) }
+    requires simple { is_simple (source_tree statement.now) ≡ true }
+    requires taken { IsSound body.old → TakesStatement (world_in scope.now) (shape_tree shape.now) (names_in scope.now) (source_tree statement.now) }
+    ensures { let w = world_in scope.now in
+        let names = names_in scope.now in
+        let s = source_tree statement.entry.now in
+        Writes body.old body.new (statement_code w (shape_tree shape.now) names (regions_tree around opened.now) (next_of body.old) s)
+        (statement_values w names s) }
+{
+    body.go_to(Origin(statement.place()));
+    lower_plain(scope, shape, statement, body, around, opened);
 }

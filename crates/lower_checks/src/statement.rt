@@ -41,7 +41,7 @@ use crate::simple::lower_simple;
 use crate::stored::{Stored, add_stored};
 use crate::switch::lower_switch;
 use crate::table::Table;
-use cyc_core::{Statement, Temporary};
+use cyc_core::{Origin, Statement, Temporary};
 use cyc_tree::{BlockItem, Declaration, Expression, Name, Statement as Source};
 
 /// Appends what a statement does, in a function with a result of this shape, among regions; appends the shapes of the unnamed values. The
@@ -76,12 +76,12 @@ fn lower_statement<'p>(
     match statement {
         Source::Block(_, items) => lower_block(program, shape, locals, items, body, around, opened),
         Source::If(_, condition, these) => {
-            lower_expression(&scope, condition, body, to);
+            lower_condition(&scope, condition, body, to);
             let these = lower_part(program, shape, locals, these, body, around, opened);
             body.branch(to, these, Vec::new(body.alloc));
         }
         Source::IfElse(_, condition, these, those) => {
-            lower_expression(&scope, condition, body, to);
+            lower_condition(&scope, condition, body, to);
             let these = lower_part(program, shape, locals, these, body, around, opened);
             let those = lower_part(program, shape, locals, those, body, around, opened);
             body.branch(to, these, those);
@@ -96,6 +96,24 @@ fn lower_statement<'p>(
         }
         _ => lower_simple(&scope, shape, statement, body, around, opened),
     }
+}
+
+/// Appends what leaves a condition's value in a temporary, of operations that stand where the condition does; appends the shapes of the unnamed values.
+fn lower_condition<'p>(
+    scope: &Scope<'_, 'p>,
+    condition: &'p Expression,
+    body: &mut Body<'p>,
+    to: Temporary,
+)
+    requires room { HasRoom to.0 (room (expression_tree condition.now)) }
+    requires taken { IsSound body.old → Takes (world_in scope.now) (names_in scope.now) (expression_tree condition.now) }
+    ensures writes { let w = world_in scope.now in
+        let names = names_in scope.now in
+        let e = expression_tree condition.entry.now in
+        Writes body.old body.new (expression_code w names e to.0 (next_of body.old)) (expression_values w names e) }
+{
+    body.go_to(Origin(condition.place()));
+    lower_expression(scope, condition, body, to);
 }
 
 /// What leaves the value of a loop's condition in a temporary; appends the shapes of the unnamed values.
@@ -113,7 +131,7 @@ fn lower_test<'p>(
         IsSound body.new → map statement_tree result.items ≡ expression_code (world_in scope.now) (names_in scope.now) e to.0 (next_of body.old) }
 {
     let outer = body.begin();
-    lower_expression(scope, condition, body, to);
+    lower_condition(scope, condition, body, to);
     body.end(outer)
 }
 

@@ -54,7 +54,7 @@ use crate::table::Table;
 use crate::union_members::Chosen;
 use crate::variable::lower_put_local;
 use crate::words::{lower_held_loads, lower_tag};
-use cyc_core::{Binary, Operation, Statement, Temporary, Variable};
+use cyc_core::{Binary, Operation, Origin, Statement, Temporary, Variable};
 use cyc_tree::{BlockItem, Clause, Expression, Name, Pattern};
 
 /// Appends what leaves a pointer to a place that is a union in a temporary, and the number of the member that it holds in the next one; gives
@@ -324,7 +324,7 @@ pub fn lower_switch<'p>(
         (statement_values w names s) }
     ensures kept { IsSound body.new → locals.new ≡ locals.old }
 {
-    let outer = body.begin();
+    let outer = body.begin_at(Origin(place.place()));
     let tag = lower_union_place(
         &Scope {
             alloc: body.alloc,

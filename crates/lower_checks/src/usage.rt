@@ -85,7 +85,7 @@ fn of_statement(statement: &Statement) -> u64
     ensures { result ≡ statement_temporaries (statement_tree statement.now) }
 {
     match statement {
-        Statement::Do(operation) => of_operation(*operation),
+        Statement::Do(_, operation) => of_operation(*operation),
         Statement::Check(t, failure, _) => u64::max(up_to(*t), of_failure(*failure)),
         Statement::If(t, both) | Statement::While(t, both) => {
             u64::max(
@@ -101,9 +101,9 @@ fn of_statement(statement: &Statement) -> u64
         Statement::RegionAlloc(to, handle, count, _) => {
             u64::max(up_to(*to), u64::max(up_to(*handle), up_to(*count)))
         }
-        Statement::Break | Statement::Continue | Statement::Raise(_, _) => 0,
+        Statement::Break(_) | Statement::Continue(_) | Statement::Raise(_, _) => 0,
         Statement::Call(call) => u64::max(up_to_value(call.result), last(&call.arguments)),
-        Statement::Return(value) => up_to_value(*value),
+        Statement::Return(value, _) => up_to_value(*value),
     }
 }
 
@@ -131,15 +131,15 @@ fn passed_in(statement: &Statement) -> usize
         Statement::Block(block) => passed(&block.1),
         Statement::Leave(body) => passed(body),
         Statement::Call(call) => call.arguments.len(),
-        Statement::Do(_)
+        Statement::Do(..)
         | Statement::Copy(..)
         | Statement::Clear(..)
         | Statement::RegionAlloc(..)
         | Statement::UniqueAlloc(..)
         | Statement::Check(..)
-        | Statement::Break
-        | Statement::Continue
-        | Statement::Return(_)
+        | Statement::Break(_)
+        | Statement::Continue(_)
+        | Statement::Return(..)
         | Statement::Raise(..) => 0,
     }
 }

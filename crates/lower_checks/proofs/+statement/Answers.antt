@@ -108,14 +108,14 @@ switch::lower_switch-lower_default-requires = Switches.switch::lower_switch-lowe
 pub statement::lower_statement-lower_block-requires : goal.statement::lower_statement-lower_block-requires
 statement::lower_statement-lower_block-requires = Rooms.statement::lower_statement-lower_block-requires
 
-pub statement::lower_statement-lower_expression-requires : goal.statement::lower_statement-lower_expression-requires
-statement::lower_statement-lower_expression-requires = Rooms.statement::lower_statement-lower_expression-requires
+pub statement::lower_statement-lower_condition-requires : goal.statement::lower_statement-lower_condition-requires
+statement::lower_statement-lower_condition-requires = Rooms.statement::lower_statement-lower_condition-requires
 
 pub statement::lower_statement-lower_part-these-requires : goal.statement::lower_statement-lower_part-these-requires
 statement::lower_statement-lower_part-these-requires = Rooms.statement::lower_statement-lower_part-these-requires
 
-pub statement::lower_statement-lower_expression-requires-in-IfElse : goal.statement::lower_statement-lower_expression-requires-in-IfElse
-statement::lower_statement-lower_expression-requires-in-IfElse = Rooms.statement::lower_statement-lower_expression-requires-in-IfElse
+pub statement::lower_statement-lower_condition-requires-in-IfElse : goal.statement::lower_statement-lower_condition-requires-in-IfElse
+statement::lower_statement-lower_condition-requires-in-IfElse = Rooms.statement::lower_statement-lower_condition-requires-in-IfElse
 
 pub statement::lower_statement-lower_part-these-requires-in-IfElse : goal.statement::lower_statement-lower_part-these-requires-in-IfElse
 statement::lower_statement-lower_part-these-requires-in-IfElse = Rooms.statement::lower_statement-lower_part-these-requires-in-IfElse

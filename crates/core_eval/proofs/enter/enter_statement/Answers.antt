@@ -36,5 +36,5 @@ returns-in-Leave c =
 pub returns-in_ok-values-in-Return : goal.returns-in_ok-values-in-Return
 returns-in_ok-values-in-Return c =
     return_answer c.leave_function.result (statement_tree c.args.statement.now) (optional_tree c.in-Return.words) (optional_value c.in_ok-values-in-Return.values)
-    (waits_of c.args.stack.now.items) (known_of c.args.frame.now c.args.memory.now) _ _ (ap statement_tree c.in-Return.is ∙ return_tree c.in-Return.words)
+    (waits_of c.args.stack.now.items) (known_of c.args.frame.now c.args.memory.now) _ _ (ap statement_tree c.in-Return.is ∙ return_tree c.in-Return.words c.in-Return.field-1)
     c.in_ok-values-in-Return.ensures c.leave_function.ensures

@@ -24,7 +24,7 @@ returns-in_default-statement c =
 pub returns-then-not-is_over : goal.returns-then-not-is_over
 returns-then-not-is_over c =
     let is : c.each.rest.now ≡ c.in-Some.statement.now ∷ c.in-Some.others.now = search rules in
-    operation_due c.each.rest.now c.in-Some.statement.now c.in-Some.others.now is c.each.invariant c.in-Do.operation c.in-Do.is c.in_ok-due.due
+    operation_due c.each.rest.now c.in-Some.statement.now c.in-Some.others.now is c.each.invariant c.in-Do.field-0 c.in-Do.operation c.in-Do.is c.in_ok-due.due
     (waits_of c.wait_for_others-then-not-is_over.new.stack.items) (known_of c.operate.new.frame c.operate.new.memory)
     c.in_ok-wait_for_others-2.ensures (from_same _ _ _ _ _ (c.in_ok-is_done.ensures.kept c.if-is_done.false) c.in_ok-due.ensures)
 
@@ -32,12 +32,12 @@ pub each-preserved : goal.each-preserved
 each-preserved c =
     let over : c.is_over.result ≡ true = search rules in
     let is : c.each.rest.now ≡ c.in-Some.statement.now ∷ c.in-Some.others.now = search rules in
-    operation_done c.each.rest.now c.in-Some.statement.now c.in-Some.others.now is c.each.invariant c.in-Do.operation c.in-Do.is c.in_ok-due.due
+    operation_done c.each.rest.now c.in-Some.statement.now c.in-Some.others.now is c.each.invariant c.in-Do.field-0 c.in-Do.operation c.in-Do.is c.in_ok-due.due
     (known_of c.operate.new.frame c.operate.new.memory) (c.is_over.ensures over)
     (from_same _ _ _ _ _ (c.in_ok-is_done.ensures.kept c.if-is_done.false) c.in_ok-due.ensures)
 
 pub each-preserved-then-is_done : goal.each-preserved-then-is_done
 each-preserved-then-is_done c =
     let is : c.each.rest.now ≡ c.in-Some.statement.now ∷ c.in-Some.others.now = search rules in
-    operation_done c.each.rest.now c.in-Some.statement.now c.in-Some.others.now is c.each.invariant c.in-Do.operation c.in-Do.is (due.Go (now.Leave flow.Falls))
+    operation_done c.each.rest.now c.in-Some.statement.now c.in-Some.others.now is c.each.invariant c.in-Do.field-0 c.in-Do.operation c.in-Do.is (due.Go (now.Leave flow.Falls))
     (known_of c.operate_on_words.new.frame c.operate_on_words.new.memory) refl (c.in_ok-is_done.ensures.done c.if-is_done.true)

@@ -35,8 +35,8 @@ statement::lower_statement-lower_block-requires t c =
     search (rules, the_lemmas, room, counted, taken)
 
 -- a choice's condition and its part
-pub statement::lower_statement-lower_expression-requires : goal.statement::lower_statement-lower_expression-requires
-statement::lower_statement-lower_expression-requires t c =
+pub statement::lower_statement-lower_condition-requires : goal.statement::lower_statement-lower_condition-requires
+statement::lower_statement-lower_condition-requires t c =
     let w = world_of c.args.program.now in
     let result = shape_tree c.args.shape.now in
     let names = names_of c.args.locals.now in
@@ -67,14 +67,14 @@ statement::lower_statement-lower_part-these-requires t c =
     let room : HasRoom around.all (statement_room part) =
     subst (λ (s : Statement). HasRoom around.all (statement_room s)) part_is (omega (arith, both)) in
     let counted : IsCounted around = c.requires.counted in
-    let taken : IsSound c.lower_expression.new.body → TakesStatement w result names part = λ sound.
-    let whole = subst (TakesStatement w result names) is (c.requires.taken (c.lower_expression.ensures.writes sound).sound) in
+    let taken : IsSound c.lower_condition.new.body → TakesStatement w result names part = λ sound.
+    let whole = subst (TakesStatement w result names) is (c.requires.taken (c.lower_condition.ensures.writes sound).sound) in
     subst (TakesStatement w result names) part_is whole.1 in
     search (rules, the_lemmas, room, counted, taken)
 
 -- one with two parts
-pub statement::lower_statement-lower_expression-requires-in-IfElse : goal.statement::lower_statement-lower_expression-requires-in-IfElse
-statement::lower_statement-lower_expression-requires-in-IfElse t c =
+pub statement::lower_statement-lower_condition-requires-in-IfElse : goal.statement::lower_statement-lower_condition-requires-in-IfElse
+statement::lower_statement-lower_condition-requires-in-IfElse t c =
     let w = world_of c.args.program.now in
     let result = shape_tree c.args.shape.now in
     let names = names_of c.args.locals.now in
@@ -107,8 +107,8 @@ statement::lower_statement-lower_part-these-requires-in-IfElse t c =
     let room : HasRoom around.all (statement_room part) =
     subst (λ (s : Statement). HasRoom around.all (statement_room s)) part_is (omega (arith, both)) in
     let counted : IsCounted around = c.requires.counted in
-    let taken : IsSound c.lower_expression-in-IfElse.new.body → TakesStatement w result names part = λ sound.
-    let whole = subst (TakesStatement w result names) is (c.requires.taken (c.lower_expression-in-IfElse.ensures.writes sound).sound) in
+    let taken : IsSound c.lower_condition-in-IfElse.new.body → TakesStatement w result names part = λ sound.
+    let whole = subst (TakesStatement w result names) is (c.requires.taken (c.lower_condition-in-IfElse.ensures.writes sound).sound) in
     subst (TakesStatement w result names) part_is whole.1.0 in
     search (rules, the_lemmas, room, counted, taken)
 
@@ -131,7 +131,7 @@ statement::lower_statement-lower_part-those-requires t c =
     let counted : IsCounted around = c.requires.counted in
     let taken : IsSound c.lower_part-these-in-IfElse.new.body → TakesStatement w result (names_of c.lower_part-these-in-IfElse.new.locals) part = λ sound.
     let first = c.lower_part-these-in-IfElse.ensures.apart sound in
-    let whole = subst (TakesStatement w result names) is (c.requires.taken (c.lower_expression-in-IfElse.ensures.writes first.sound).sound) in
+    let whole = subst (TakesStatement w result names) is (c.requires.taken (c.lower_condition-in-IfElse.ensures.writes first.sound).sound) in
     subst (λ ms. TakesStatement w result (names_of ms) part) (sym (c.lower_part-these-in-IfElse.ensures.kept sound))
     (subst (TakesStatement w result names) part_is whole.1.1) in
     search (rules, the_lemmas, room, counted, taken)

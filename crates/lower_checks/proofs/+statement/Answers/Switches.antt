@@ -183,7 +183,7 @@ pub switch::lower_switch-lower_union_place-tag-requires : goal.switch::lower_swi
 switch::lower_switch-lower_union_place-tag-requires t c = record {
   room = omega (arith, c.requires.room, c.value.ensures);
   taken = λ sound.
-      let taken = c.requires.taken (sym c.begin-outer.ensures.begun.failed ∙ sound) in
+      let taken = c.requires.taken (sym c.begin_at-outer.ensures.begun.failed ∙ sound) in
       (taken.0, taken.1.0);
 }
 
@@ -199,7 +199,7 @@ switch::lower_switch-lower_cases-requires t c =
     let place = c.lower_union_place-tag in
     let taken : IsSound c.lower_union_place-tag.new.body → TakesClauses w result names found clauses = λ sound.
     let parts_are = subst (λ r. IfSome r (λ tag. parts_of w.unions tag.now ≡ parts)) c.in-Some.is (place.ensures.parts sound) in
-    let first = sym c.begin-outer.ensures.begun.failed ∙ (place.ensures.writes sound).sound in
+    let first = sym c.begin_at-outer.ensures.begun.failed ∙ (place.ensures.writes sound).sound in
     subst (λ (ps : List Part). TakesClauses w result names ps clauses) (sym parts_are) (c.requires.taken first).1.1 in
     let values : AreValues (part_shapes found) =
     subst (λ r. IfSome r (λ tag. AreValues (part_shapes (parts_of w.unions tag.now)))) c.in-Some.is place.ensures.values in
@@ -220,7 +220,7 @@ switch::lower_switch-returns-clause-writes t c sound =
     let clauses = clauses_of (map clause_tree c.args.clauses.now) in
     let parts = union_parts w (static_shape w names e) in
     let a = c.args.body.now in
-    let b = c.begin-outer.new.self in
+    let b = c.begin_at-outer.new.self in
     let x = c.lower_union_place-tag.new.body in
     let y = c.match-tag.body in
     let v = c.lower_default.new.body in
@@ -235,7 +235,7 @@ switch::lower_switch-returns-clause-writes t c sound =
     let inside_is = c.in_switch-inside.ensures.regions c.args.opened.now in
     let to_is : c.value.result.0 ≡ d = c.value.ensures in
     let ended = c.end-all.ensures.ended in
-    let begun = c.begin-outer.ensures.begun in
+    let begun = c.begin_at-outer.ensures.begun in
     let four = c.leaves.ensures sound in
     let three = c.lower_default.ensures.writes (sym ended.failed ∙ four.sound) in
     let joined : IsWritten x y (cases (next_of x)) q × (c.match-tag.locals ≡ c.args.locals.now) =
@@ -269,7 +269,7 @@ switch::lower_switch-returns-clause-writes t c sound =
     let written = switch_written b x y v (place_code w names e d (next_of b)) (tag_load (d + 1) d) cases others p q r one two last in
     let part = map statement_tree c.end-all.result.items in
     let part_are : part ≡ whole (next_of a) = part_is a b v part whole values begun written c.end-all.ensures.part in
-    let apart = part_apart a b v f (map statement_tree c.begin-outer.result.items) (whole (next_of b)) values begun c.begin-outer.ensures.aside written ended in
+    let apart = part_apart a b v f (map statement_tree c.begin_at-outer.result.items) (whole (next_of b)) values begun c.begin_at-outer.ensures.aside written ended in
     let leave = subst (λ ss. IsEmitted f z (core.Leave (all_of ss) ∷ [])) part_are four in
     apart_emit a f z (core.Leave (all_of (whole (next_of a))) ∷ []) values apart leave
 
@@ -289,7 +289,7 @@ switch::lower_switch-lower_default-requires t c =
     ] in
     let taken : IsSound c.match-tag.body → (ps : List Part) × TakesClauses w result (names_of c.match-tag.locals) ps clauses = λ sound.
     let both = joined sound in
-    let first = sym c.begin-outer.ensures.begun.failed ∙ (c.lower_union_place-tag.ensures.writes both.1).sound in
+    let first = sym c.begin_at-outer.ensures.begun.failed ∙ (c.lower_union_place-tag.ensures.writes both.1).sound in
     (parts, subst (λ ms. TakesClauses w result (names_of ms) parts clauses) (sym both.0) (c.requires.taken first).1.1) in
     let all_is : c.in_switch-inside.result.all ≡ c.args.around.all = c.in_switch-inside.ensures.all in
     let room : HasRoom c.in_switch-inside.result.all (clause_room clauses) = omega (arith, all_is, c.requires.room) in

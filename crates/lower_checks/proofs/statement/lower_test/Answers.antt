@@ -14,15 +14,15 @@ returns-clause-apart c sound =
     let e = expression_tree c.args.condition.now in
     let b = c.begin-outer.new.self in
     let ended = c.end.ensures.ended in
-    part_apart c.args.body.now b c.lower_expression.new.body c.end.new.self (map statement_tree c.begin-outer.result.items)
+    part_apart c.args.body.now b c.lower_condition.new.body c.end.new.self (map statement_tree c.begin-outer.result.items)
     (expression_code w names e c.args.to.0 (next_of b)) (expression_values w names e) c.begin-outer.ensures.begun c.begin-outer.ensures.aside
-    (c.lower_expression.ensures.writes (sym ended.failed ∙ sound)) ended
+    (c.lower_condition.ensures.writes (sym ended.failed ∙ sound)) ended
 
 pub returns-clause-part : goal.returns-clause-part
 returns-clause-part c sound =
     let w = world_in c.args.scope.now in
     let names = names_in c.args.scope.now in
     let e = expression_tree c.args.condition.now in
-    part_is c.args.body.now c.begin-outer.new.self c.lower_expression.new.body (map statement_tree c.end.result.items)
+    part_is c.args.body.now c.begin-outer.new.self c.lower_condition.new.body (map statement_tree c.end.result.items)
     (λ n. expression_code w names e c.args.to.0 n) (expression_values w names e) c.begin-outer.ensures.begun
-    (c.lower_expression.ensures.writes (sym c.end.ensures.ended.failed ∙ sound)) c.end.ensures.part
+    (c.lower_condition.ensures.writes (sym c.end.ensures.ended.failed ∙ sound)) c.end.ensures.part

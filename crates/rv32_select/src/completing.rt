@@ -16,9 +16,10 @@ pub fn can_complete(statement: &Statement) -> bool
     match statement {
         Statement::If(_, both) => can_complete_all(&both.0) || can_complete_all(&both.1),
         Statement::Block(block) => can_complete_all(&block.1),
-        Statement::Break | Statement::Continue | Statement::Return(_) | Statement::Raise(_, _) => {
-            false
-        }
+        Statement::Break(_)
+        | Statement::Continue(_)
+        | Statement::Return(..)
+        | Statement::Raise(_, _) => { false }
         _ => true,
     }
 }
@@ -42,7 +43,7 @@ fn ends_in_return(statement: &Statement) -> bool
     ensures { result ≡ ends_in_return (statement_tree statement.now) }
 {
     match statement {
-        Statement::Return(_) => true,
+        Statement::Return(..) => true,
         Statement::Block(block) => ends_in_return_all(&block.1),
         _ => false,
     }

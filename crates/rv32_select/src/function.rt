@@ -26,6 +26,7 @@ use crate::layout::{highest_of, saved_slot, statics, sum};
 use crate::operands::put_kept;
 use crate::place::Place;
 use crate::saves::find_saves;
+use crate::starts::Start;
 use crate::statement::{Ways, following, put_statements};
 use crate::taking::parameter_register;
 use core_lines::Line;
@@ -259,6 +260,7 @@ struct Labels {
 /// their slots. Answers the next free label.
 fn put_begun(
     lines: &mut Vec<Line>,
+    starts: &mut Vec<Start>,
     place: &mut Place,
     labels: Labels,
     function: &Function,
@@ -289,7 +291,7 @@ fn put_begun(
         again: number,
     };
     let first = following(next)?;
-    let free = put_statements(lines, place, first, ways, &function.body)?;
+    let free = put_statements(lines, starts, place, first, ways, &function.body)?;
     end_lines(lines, &function.body);
     put_lines(lines, &[Line::Label(next)])?;
     put_epilogue(lines, bytes, slot, saved)?;
@@ -299,6 +301,7 @@ fn put_begun(
 /// Appends a function with these labels. Answers the next free label.
 fn put_function(
     lines: &mut Vec<Line>,
+    starts: &mut Vec<Start>,
     place: &mut Place,
     labels: Labels,
     function: &Function,
@@ -310,12 +313,13 @@ fn put_function(
 {
     let saved = place.begin(function, labels.next)?;
     let live = find_saves(place, function, labels.next)?;
-    put_begun(lines, place, labels, function, &saved, &live)
+    put_begun(lines, starts, place, labels, function, &saved, &live)
 }
 
 /// Appends functions, the first of which has the number 0. Their frames are refused at a label, behind which the labels are free.
 fn put_functions(
     lines: &mut Vec<Line>,
+    starts: &mut Vec<Start>,
     place: &mut Place,
     refused: usize,
     functions: &[Function],
@@ -331,14 +335,18 @@ fn put_functions(
             number,
             next,
         };
-        next = put_function(lines, place, labels, function)?;
+        next = put_function(lines, starts, place, labels, function)?;
         number = following(number)?;
     }
     Ok(())
 }
 
-/// The lines of a lowered program.
-fn program_lines(alloc: Global, program: &Program) -> Result<Vec<Line>, AllocError>
+/// The lines of a lowered program; notes where in them statements begin.
+fn program_lines(
+    alloc: Global,
+    starts: &mut Vec<Start>,
+    program: &Program,
+) -> Result<Vec<Line>, AllocError>
     ensures { IfOk result (λ lines. lines.items ≡ program_code far (program_tree program.now)) }
 {
     let mut lines = Vec::new(alloc);
@@ -349,7 +357,7 @@ fn program_lines(alloc: Global, program: &Program) -> Result<Vec<Line>, AllocErr
     put_lines(&mut lines, &[Line::Label(refused)])?;
     put_refusal(&mut lines)?;
     let mut place = Place::new(alloc, statics(alloc, &program.globals)?);
-    put_functions(&mut lines, &mut place, refused, &program.functions)?;
+    put_functions(&mut lines, starts, &mut place, refused, &program.functions)?;
     Ok(lines)
 }
 
@@ -363,7 +371,12 @@ pub fn select(alloc: Global, program: &Program) -> Result<Labelled, AllocError>
     // of each function in turn, the registers of its locals in its order, 0 for one that has none
     ensures homes { IfOk result (λ labelled. labelled.homes ≡ homes_listed (program_tree program.now).functions) }
 {
-    let lines = program_lines(alloc, program)?;
+    let mut starts = Vec::new(alloc);
+    let lines = program_lines(alloc, &mut starts, program)?;
     let homes = homes_listed(alloc, &program.functions)?;
-    Ok(Labelled { lines, homes })
+    Ok(Labelled {
+        lines,
+        homes,
+        starts,
+    })
 }

@@ -3,6 +3,7 @@
 ghost use Rattle.std.specs.Prelude.{◌≡◌, ◌&&◌, IfSome, IfNone, true, false, [], slice_index_or};
 ghost use Rattle.rv32_select.specs.Beginning.{first_target, leads_to_code, begins_within, are_long};
 
+use crate::starts::Start;
 use core_lines::Line;
 use std::marker::Model;
 
@@ -14,6 +15,8 @@ pub struct Labelled {
     pub(crate) lines: Vec<Line>,
     /// Of each function, the numbers of its locals' homes, in its order.
     pub(crate) homes: Vec<Vec<u8>>,
+    /// Where in the lines statements of the source begin, in the order of the lines. No promise rests on it.
+    pub(crate) starts: Vec<Start>,
 }
 
 impl Model for Labelled {
@@ -38,7 +41,12 @@ impl Labelled {
     {
         if begins_within(&lines) && are_long(&lines) {
             let homes = Vec::new(*lines.allocator());
-            Some(Labelled { lines, homes })
+            let starts = Vec::new(*lines.allocator());
+            Some(Labelled {
+                lines,
+                homes,
+                starts,
+            })
         } else {
             None
         }
@@ -51,6 +59,12 @@ impl Labelled {
         ensures long { are_long self.now.lines ≡ true }
     {
         &self.lines
+    }
+
+    /// Where in the lines the statements of the source, raises and calls begin, each line once and in order, with where they stand in the text. What stands
+    /// behind a line goes on to the next one.
+    pub fn starts(&self) -> &[Start] {
+        &self.starts
     }
 
     /// Where the locals of a function live, which is counted from 0 in the order of the text: the number of each one's register, or 0 for

@@ -44,7 +44,7 @@ fn live_statement(
     ensures homes { OnOk result (place.new.homes.items ≡ place.old.homes.items) }
 {
     match statement {
-        Statement::Do(operation) => live_operation(saves, &place.held, live, *operation),
+        Statement::Do(_, operation) => live_operation(saves, &place.held, live, *operation),
         Statement::Copy(to, from, _) => {
             set_flag(live, *to, true);
             set_flag(live, *from, true);
@@ -68,10 +68,10 @@ fn live_statement(
         }
         Statement::Block(block) => live_block(saves, place, live, exits, &block.0, &block.1),
         Statement::Leave(body) => live_leavable(saves, place, live, exits.again, body),
-        Statement::Break => live_jump(live, exits.out),
-        Statement::Continue => live_jump(live, exits.again),
+        Statement::Break(_) => live_jump(live, exits.out),
+        Statement::Continue(_) => live_jump(live, exits.again),
         Statement::Call(call) => live_call(saves, &place.held, live, call.result, &call.arguments),
-        Statement::Return(value) => live_return(place, live, *value),
+        Statement::Return(value, _) => live_return(place, live, *value),
         Statement::Raise(..) => live_end(place, live),
     }
 }

@@ -163,7 +163,7 @@ pub fn flag_statement(
     ensures homes { OnOk result (place.new.homes.items ≡ place.old.homes.items) }
 {
     match statement {
-        Statement::Do(operation) => {
+        Statement::Do(_, operation) => {
             flag_operation(flags, &place.held, *operation);
             return hold_behind(place, *operation);
         }
@@ -181,7 +181,7 @@ pub fn flag_statement(
         }
         Statement::Block(block) => return flag_block(flags, place, &block.0, &block.1),
         Statement::Leave(body) => flag_all(flags, place, body)?,
-        Statement::Return(value) => flag_return(flags, place, *value),
+        Statement::Return(value, _) => flag_return(flags, place, *value),
         Statement::RegionAlloc(to, handle, count, _) => {
             flag_both(flags, &place.held, *handle, *count);
             return hold_answer(place, *to);
@@ -192,7 +192,7 @@ pub fn flag_statement(
             set_flag(flags, *second, true);
         }
         Statement::Clear(pointer, _, _) => set_flag(flags, *pointer, true),
-        Statement::Break | Statement::Continue | Statement::Raise(..) => {}
+        Statement::Break(_) | Statement::Continue(_) | Statement::Raise(..) => {}
     }
     place.held.forget();
     Ok(())

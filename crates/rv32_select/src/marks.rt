@@ -125,7 +125,7 @@ fn put_marks(
         ≡ marked (λ o n. addressed o n (statement_tree statement.now)) 0 (map (λ marks. marks.items) around.old.items)) }
 {
     match statement {
-        Statement::Do(operation) => {
+        Statement::Do(_, operation) => {
             mark_operation(around, *operation);
             Ok(())
         }

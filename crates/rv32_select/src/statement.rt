@@ -22,6 +22,7 @@ use crate::emit::{FIRST, put_lines};
 use crate::operands::put_test;
 use crate::operation::put_operation;
 use crate::place::Place;
+use crate::starts::{Start, note, trim};
 use crate::straight::{behind_first, home_behind, put_straight};
 use crate::ways::{put_behind, put_between};
 use crate::whole::{put_clear, put_copy, put_region_request, put_unique_request};
@@ -112,6 +113,7 @@ fn put_called(
 #[cycle(statement)]
 fn put_statement(
     lines: &mut Vec<Line>,
+    starts: &mut Vec<Start>,
     place: &mut Place,
     next: usize,
     ways: Ways,
@@ -125,7 +127,7 @@ fn put_statement(
     ensures saves { OnOk result (saves_left place.new ≡ drop (results_in (statement_tree statement.now)) (saves_left place.old)) }
 {
     match statement {
-        Statement::Do(operation) => {
+        Statement::Do(_, operation) => {
             put_done(lines, place, *operation)?;
             return Ok(next);
         }
@@ -145,22 +147,22 @@ fn put_statement(
             return put_checked(lines, place, next, *test, *failure);
         }
         Statement::If(test, both) => {
-            return put_if(lines, place, next, ways, *test, &both.0, &both.1);
+            return put_if(lines, starts, place, next, ways, *test, &both.0, &both.1);
         }
         Statement::While(flag, both) => {
-            return put_while(lines, place, next, ways, &both.0, *flag, &both.1);
+            return put_while(lines, starts, place, next, ways, &both.0, *flag, &both.1);
         }
         Statement::Block(block) => {
-            return put_block(lines, place, next, ways, &block.0, &block.1);
+            return put_block(lines, starts, place, next, ways, &block.0, &block.1);
         }
-        Statement::Leave(body) => return put_leavable(lines, place, next, ways, body),
-        Statement::Break => put_lines(lines, &[Line::Jump(ways.out)])?,
-        Statement::Continue => put_lines(lines, &[Line::Jump(ways.again)])?,
+        Statement::Leave(body) => return put_leavable(lines, starts, place, next, ways, body),
+        Statement::Break(_) => put_lines(lines, &[Line::Jump(ways.out)])?,
+        Statement::Continue(_) => put_lines(lines, &[Line::Jump(ways.again)])?,
         Statement::Call(call) => {
             put_called(lines, place, call.result, call.function, &call.arguments)?;
             return Ok(next);
         }
-        Statement::Return(value) => {
+        Statement::Return(value, _) => {
             put_return(lines, place, *value)?;
             return Ok(next);
         }
@@ -175,6 +177,7 @@ fn put_statement(
 #[cycle(statement)]
 fn put_first(
     lines: &mut Vec<Line>,
+    starts: &mut Vec<Start>,
     place: &mut Place,
     next: usize,
     ways: Ways,
@@ -190,7 +193,7 @@ fn put_first(
 {
     put_straight(lines, place, home, statement)?;
     let kept = lines.len();
-    let free = put_statement(lines, place, next, ways, statement)?;
+    let free = put_statement(lines, starts, place, next, ways, statement)?;
     keep_reached(lines, kept, home.number() == 0);
     Ok(free)
 }
@@ -200,6 +203,7 @@ fn put_first(
 #[cycle(statement)]
 pub fn put_statements(
     lines: &mut Vec<Line>,
+    starts: &mut Vec<Start>,
     place: &mut Place,
     next: usize,
     ways: Ways,
@@ -219,9 +223,12 @@ pub fn put_statements(
     'each: for statement in statements {
         behind = behind_first(behind);
         let kept = lines.len();
+        note(starts, kept, statement)?;
         let home = home_behind(place, placed, statement, behind);
-        free = put_first(lines, place, free, ways, home, statement)?;
+        free = put_first(lines, starts, place, free, ways, home, statement)?;
         keep_reached(lines, kept, reached && !placed);
+        let end = lines.len();
+        trim(starts, end, reached);
         reached = reached && can_complete(statement);
         placed = home.number() != 0;
     }
@@ -232,6 +239,7 @@ pub fn put_statements(
 #[cycle(statement)]
 fn put_if(
     lines: &mut Vec<Line>,
+    starts: &mut Vec<Start>,
     place: &mut Place,
     next: usize,
     ways: Ways,
@@ -249,7 +257,7 @@ fn put_if(
 {
     match check_of(these, those) {
         Some(failure) => put_checked(lines, place, next, test, failure),
-        None => put_ways(lines, place, next, ways, test, these, those),
+        None => put_ways(lines, starts, place, next, ways, test, these, those),
     }
 }
 
@@ -258,6 +266,7 @@ fn put_if(
 #[cycle(statement)]
 fn put_ways(
     lines: &mut Vec<Line>,
+    starts: &mut Vec<Start>,
     place: &mut Place,
     next: usize,
     ways: Ways,
@@ -276,11 +285,11 @@ fn put_ways(
 {
     let inside = put_choice(lines, place, test, next)?;
     let known = place.known()?;
-    let behind = put_statements(lines, place, inside, ways, these)?;
+    let behind = put_statements(lines, starts, place, inside, ways, these)?;
     put_between(lines, can_complete_all(these), those, behind, next)?;
     let other = following(behind)?;
     let first = place.exchange(known);
-    let free = put_statements(lines, place, other, ways, those)?;
+    let free = put_statements(lines, starts, place, other, ways, those)?;
     put_behind(lines, those, behind)?;
     place.join(first, those);
     Ok(free)
@@ -291,6 +300,7 @@ fn put_ways(
 #[cycle(statement)]
 fn put_while(
     lines: &mut Vec<Line>,
+    starts: &mut Vec<Start>,
     place: &mut Place,
     next: usize,
     ways: Ways,
@@ -309,14 +319,14 @@ fn put_while(
 {
     let first = put_label(lines, next)?;
     place.held.forget();
-    let behind = put_statements(lines, place, first, ways, test)?;
+    let behind = put_statements(lines, starts, place, first, ways, test)?;
     let within = put_choice(lines, place, flag, behind)?;
     place.held.forget();
     let inside = Ways {
         out: behind,
         again: next,
     };
-    let free = put_statements(lines, place, within, inside, body)?;
+    let free = put_statements(lines, starts, place, within, inside, body)?;
     put_lines(lines, &[Line::Jump(next), Line::Label(behind)])?;
     place.held.forget();
     Ok(free)
@@ -326,6 +336,7 @@ fn put_while(
 #[cycle(statement)]
 fn put_block(
     lines: &mut Vec<Line>,
+    starts: &mut Vec<Start>,
     place: &mut Place,
     next: usize,
     ways: Ways,
@@ -342,7 +353,7 @@ fn put_block(
         ≡ drop (results_in (core.Block (map local_tree locals.now) (body_tree body.now))) (saves_left place.old)) }
 {
     let low = place.enter(locals)?;
-    let free = put_statements(lines, place, next, ways, body)?;
+    let free = put_statements(lines, starts, place, next, ways, body)?;
     place.leave(low);
     Ok(free)
 }
@@ -352,6 +363,7 @@ fn put_block(
 #[cycle(statement)]
 fn put_leavable(
     lines: &mut Vec<Line>,
+    starts: &mut Vec<Start>,
     place: &mut Place,
     next: usize,
     ways: Ways,
@@ -368,7 +380,7 @@ fn put_leavable(
         out: next,
         again: ways.again,
     };
-    let free = put_statements(lines, place, following(next)?, inside, body)?;
+    let free = put_statements(lines, starts, place, following(next)?, inside, body)?;
     put_lines(lines, &[Line::Label(next)])?;
     place.held.forget();
     Ok(free)

@@ -63,7 +63,7 @@ fn home_put_by(place: &Place, temporary: Temporary, statement: &Statement) -> Re
     ensures { result ≡ home_put_by (surroundings place.now).homes temporary.0 (statement_tree statement.now) }
 {
     match statement {
-        Statement::Do(operation) => home_put(place, temporary, *operation),
+        Statement::Do(_, operation) => home_put(place, temporary, *operation),
         _ => Register::ZERO,
     }
 }
@@ -129,7 +129,7 @@ pub fn home_behind(
         return Register::ZERO;
     }
     match statement {
-        Statement::Do(operation) => home_of_operation(place, *operation, behind),
+        Statement::Do(_, operation) => home_of_operation(place, *operation, behind),
         _ => Register::ZERO,
     }
 }
@@ -148,7 +148,7 @@ pub fn put_straight(
         return Ok(());
     }
     match statement {
-        Statement::Do(Operation::Apply(binary, to, left, right)) => {
+        Statement::Do(_, Operation::Apply(binary, to, left, right)) => {
             put_applied(lines, place, *binary, home, *left, *right)?;
             put_kept(lines, place, place.is_saved(), home, *to)
         }

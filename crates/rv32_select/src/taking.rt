@@ -45,7 +45,7 @@ fn home_put_by(homes: &[Register], temporary: Temporary, statement: &Statement) 
     ensures { result ≡ home_put_by (homes.now ∷ []) temporary.0 (statement_tree statement.now) }
 {
     match statement {
-        Statement::Do(operation) => home_put(homes, temporary, *operation),
+        Statement::Do(_, operation) => home_put(homes, temporary, *operation),
         _ => Register::ZERO,
     }
 }

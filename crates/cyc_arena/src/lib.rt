@@ -12,6 +12,8 @@ mod plain;
 mod store;
 mod tables;
 
+pub use arena_laws::StoreRefusal;
 pub use paged::PagedStore;
 pub use plain::PlainStore;
+pub use raw_pages::PagesFault;
 pub use store::BlockStore;

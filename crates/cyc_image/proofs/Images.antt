@@ -3,7 +3,7 @@ use Rattle.std.proofs.Common.{◌≡◌, ◌≢◌, ℕ, ◌+◌, ◌*◌, ◌/�
 use Rattle.std.proofs.lemmas.Bool.{cases_lt}
 use Rattle.std.proofs.lemmas.List.{take-append-drop, get_or-drop, drop-drop, length-append, length-drop, length-take}
 use Rattle.std.proofs.Math.Seq.{take-append_seam, drop-append_seam}
-use Rattle.cyc_image.specs.Format.{Contents, Fits, IsImage, IsShort, IsPastLimit, HasBadEntry, First, Second, magic, u32_bytes, field, laid_out, parts_of, header_of, stack_of, limit_of, entry_field, code_field, data_field, pages_field, stack_field, version_field, code_limit, data_limit, page_limit, stack_page_limit, first_stack_pages, first_block_limit, second_block_limit}
+use Rattle.cyc_image.specs.Format.{Contents, Fits, IsOfVersion, IsImage, IsShort, IsPastLimit, HasBadEntry, First, Second, magic, u32_bytes, field, laid_out, parts_of, header_of, stack_of, limit_of, entry_field, code_field, data_field, pages_field, stack_field, version_field, code_limit, data_limit, page_limit, stack_page_limit, first_stack_pages, first_block_limit, second_block_limit}
 use Rattle.cyc_image.specs.Refusal.{IsAccepted, RefusedAs}
 use Rattle.cyc_image.specs.declared.fault.ImageFault.{ImageFault}
 use Rattle.cyc_image.specs.declared.fault.ImageFault.TheVariants.{Short, Magic, Version, Limit, Entry, Trailing, Memory}
@@ -113,6 +113,13 @@ either_version : (version : ℕ) → ¬ ((version ≢ 1) × (version ≢ 2)) →
 either_version version h = elim (cases_lt version 2) [
   | inl lt ↦ inl (stands version 1 (λ other. h (other, λ e. absurd (omega arith))))
   | inr le ↦ inr (stands version 2 (λ other. h ((λ e. absurd (omega arith)), other)))
+]
+
+-- accepted bytes are of a version
+pub accepted_version : (bytes : List ℕ) → IsAccepted bytes → IsOfVersion (parts_of bytes)
+accepted_version bytes ok = elim (either_version (version_field bytes) ok.same_version) [
+  | inl one ↦ inl ((rw one refl), (rw one refl))
+  | inr two ↦ inr (rw two refl)
 ]
 
 -- the parts of bytes whose header is so long, with such a stack and such a limit

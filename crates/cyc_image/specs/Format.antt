@@ -70,6 +70,10 @@ pub record Fits (parts : Contents) : Type 0 where
   pub entry_aligned : parts.entry % 4 ≡ 0
   pub entry_within : parts.entry < length parts.code
 
+-- Its version: of version 1, where a region's block has at most 4,096 bytes and the stack 256 pages, or of version 2.
+abbrev pub IsOfVersion : Contents → Type 0
+IsOfVersion parts = ((parts.block_limit ≡ first_block_limit) × (parts.stack_pages ≡ first_stack_pages)) ⊎ (parts.block_limit ≡ second_block_limit)
+
 -- the fields one after the other: those of both versions, those that a version has beside them, the code and the data
 abbrev pub laid_out : (version : ℕ) (more : List ℕ) → Contents → List ℕ
 laid_out version more parts =

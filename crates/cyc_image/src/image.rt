@@ -1,11 +1,11 @@
 // An image that was loaded.
 
 ghost use Rattle.std.specs.Prelude.{◌≡◌};
-ghost use Rattle.cyc_image.specs.Format.{Fits};
+ghost use Rattle.cyc_image.specs.Format.{Fits, IsOfVersion};
 
 use std::marker::Model;
 
-/// An image: its parts are within the limits.
+/// An image: its parts are within the limits, and its stack and its longest block are those of its version.
 #[derive(Drop)]
 pub struct Image {
     pub(crate) entry: u32,
@@ -17,7 +17,7 @@ pub struct Image {
 }
 
 impl Model for Image {
-    ghost use Rattle.cyc_image.specs.Format.{Contents, Fits};
+    ghost use Rattle.cyc_image.specs.Format.{Contents, Fits, IsOfVersion};
 
     ghost Value = { Contents };
 
@@ -30,14 +30,14 @@ impl Model for Image {
       block_limit = i.block_limit;
     } };
 
-    ghost invariant = { λ i. Fits record {
+    ghost invariant = { λ i. let parts : Contents = record {
       entry = i.entry;
       code = i.code.items;
       statics = i.statics.items;
       pages = i.pages;
       stack_pages = i.stack_pages;
       block_limit = i.block_limit;
-    } };
+    } in Fits parts × IsOfVersion parts };
 }
 
 impl Image {
@@ -77,6 +77,7 @@ impl Image {
     pub fn stack_pages(&self) -> u32
         ensures stack_pages { result ≡ self.now.stack_pages }
         ensures fits { Fits self.now }
+        ensures version { IsOfVersion self.now }
     {
         self.stack_pages
     }
@@ -85,6 +86,7 @@ impl Image {
     pub fn block_limit(&self) -> u32
         ensures block_limit { result ≡ self.now.block_limit }
         ensures fits { Fits self.now }
+        ensures version { IsOfVersion self.now }
     {
         self.block_limit
     }

@@ -39,6 +39,7 @@ pub fn load(alloc: Global, bytes: &[u8]) -> Result<Image, ImageFault>
 }
 
 /// The parts of the bytes, copied.
+#[tactic(auto, using(crate::proofs::Images::accepted_version))]
 fn image_of(alloc: Global, bytes: &[u8]) -> Result<Image, AllocError>
     requires { IsAccepted bytes.now }
     ensures { IfOk result (λ image. image ≡ parts_of bytes.now) }

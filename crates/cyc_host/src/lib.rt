@@ -17,4 +17,4 @@ mod watch;
 pub use ending::Ending;
 pub use running::{run, run_watched};
 pub use transfer::{GATHERED_BYTES, Gathered, ReadFailed, WriteFailed, read};
-pub use watch::{Seen, Watch};
+pub use watch::{Active, Count, Seen, Watch};

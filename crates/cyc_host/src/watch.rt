@@ -1,4 +1,4 @@
-// What is seen of a run: counts of what it executed, its active calls, and the pages of its arena.
+// What is seen of a run: how often it executed each instruction, its active calls, and the pages of its arena.
 
 use crate::pace::Pace;
 use crate::pages::Pages;
@@ -58,6 +58,42 @@ fn word_at(code: &[u8], address: u32) -> u32 {
     }
 }
 
+/// Nothing seen of this number of words.
+fn none_of(alloc: Global, words: usize) -> Result<Vec<Count>, AllocError> {
+    let none = Count {
+        executed: 0,
+        left: 0,
+        within: 0,
+    };
+    vec![in alloc; none; words]
+}
+
+/// What was seen of the word at an address, if it is of the code.
+fn count_at(counts: &mut [Count], address: u32) -> Option<&mut Count> {
+    let number = address.wrapping_sub(CODE_BASE) as usize / 4;
+    counts.get_mut(number)
+}
+
+/// What was seen of an instruction.
+#[derive(Clone, Copy)]
+pub struct Count {
+    /// How often it was executed.
+    pub executed: u64,
+    /// How often another one than the next word's came behind it.
+    pub left: u64,
+    /// How many instructions were executed in the calls that it made, if it is a call, and that have returned.
+    pub within: u64,
+}
+
+/// An active call.
+#[derive(Clone, Copy)]
+pub struct Active {
+    /// The address of the call.
+    pub at: u32,
+    /// How many instructions were executed up to the call, with itself.
+    pub since: u64,
+}
+
 /// What was seen of a run. Each count stays at the greatest u64.
 #[derive(Drop)]
 pub struct Watch {
@@ -68,7 +104,8 @@ pub struct Watch {
     requests: [u64; REQUESTS],
     highest: u32,
     lowest: u32,
-    active: Vec<u32>,
+    counts: Vec<Count>,
+    active: Vec<Active>,
     unkept: u64,
     pages: Pages,
     last: Seen,
@@ -85,6 +122,7 @@ impl Watch {
             requests: [0; REQUESTS],
             highest: 0,
             lowest: u32::MAX,
+            counts: Vec::new(alloc),
             active: Vec::new(alloc),
             unkept: 0,
             pages: Pages::none(alloc),
@@ -104,6 +142,7 @@ impl Watch {
         watch.sees = true;
         watch.pages = Pages::new(alloc)?;
         watch.code.extend_from_slice(code)?;
+        watch.counts = none_of(alloc, code.len() / 4)?;
         Ok(watch)
     }
 
@@ -135,8 +174,13 @@ impl Watch {
         self.highest.saturating_sub(self.lowest)
     }
 
-    /// The addresses of the active calls, the innermost last. `unkept` more stand inside them.
-    pub fn active(&self) -> &[u32] {
+    /// What was seen of each word of the code, in its order.
+    pub fn counts(&self) -> &[Count] {
+        &self.counts
+    }
+
+    /// The active calls, the innermost last. `unkept` more stand inside them.
+    pub fn active(&self) -> &[Active] {
         &self.active
     }
 
@@ -155,10 +199,32 @@ impl Watch {
         self.last
     }
 
+    /// Counts an instruction, and that it isn't the next word of the one before it, if so.
+    fn count(&mut self, pc: u32) {
+        let before = self.last.pc;
+        if self.steps > 1 && pc != before.wrapping_add(4) {
+            if let Some(count) = count_at(&mut self.counts, before) {
+                count.left = count.left.saturating_add(1);
+            }
+        }
+        if let Some(count) = count_at(&mut self.counts, pc) {
+            count.executed = count.executed.saturating_add(1);
+        }
+    }
+
+    /// Counts what a call took that returns.
+    fn took(&mut self, call: Active) {
+        let steps = self.steps.saturating_sub(call.since);
+        if let Some(count) = count_at(&mut self.counts, call.at) {
+            count.within = count.within.saturating_add(steps);
+        }
+    }
+
     /// Enters a call.
-    fn enter(&mut self, pc: u32) {
+    fn enter(&mut self, at: u32) {
         self.calls = self.calls.saturating_add(1);
-        if self.unkept > 0 || self.active.push(pc).is_err() {
+        let since = self.steps;
+        if self.unkept > 0 || self.active.push(Active { at, since }).is_err() {
             self.unkept = self.unkept.saturating_add(1);
         }
     }
@@ -167,8 +233,8 @@ impl Watch {
     fn leave(&mut self) {
         if self.unkept > 0 {
             self.unkept -= 1;
-        } else {
-            self.active.pop();
+        } else if let Some(call) = self.active.pop() {
+            self.took(call);
         }
     }
 
@@ -187,6 +253,7 @@ impl Watch {
             let last = self.last;
             self.pages.grant(last.number, last.arguments, answer);
         }
+        self.count(seen.pc);
         self.highest = self.highest.max(seen.stack);
         self.lowest = self.lowest.min(seen.stack);
         match seen.word {

@@ -1,7 +1,7 @@
 // The lines that say where a run by the meaning of a source stopped.
 
 use crate::text::{Text, name_of};
-use crate::told::{SHOWN_CALLS, called_at, in_function, limited, push_count, raised_at};
+use crate::told::{called_at, in_function, limited, push_count, raised_at, shown_of};
 use core_eval::{ActiveCall, EvalEnding, Stop};
 use std::alloc::{AllocError, Global};
 
@@ -35,19 +35,33 @@ impl Source<'_> {
     }
 }
 
-/// Appends the lines of the active calls, the innermost first.
+/// Appends the lines of calls.
+fn push_some(
+    alloc: Global,
+    source: Source<'_>,
+    calls: &[ActiveCall],
+    lines: &mut String,
+) -> Result<(), AllocError> {
+    for call in calls {
+        let line = source.call(alloc, *call)?;
+        lines.push_str(line.as_str())?;
+    }
+    Ok(())
+}
+
+/// Appends the lines of the active calls, the innermost first; of many those within and those outside.
 fn push_calls(
     alloc: Global,
     source: Source<'_>,
     calls: &[ActiveCall],
     lines: &mut String,
 ) -> Result<(), AllocError> {
-    for call in calls.iter().take(SHOWN_CALLS) {
-        let line = source.call(alloc, *call)?;
-        lines.push_str(line.as_str())?;
-    }
-    let more = calls.len().saturating_sub(SHOWN_CALLS);
-    push_count(alloc, lines, more as u64)
+    let (first, left_out) = shown_of(calls.len());
+    let within = calls.get(..first).unwrap_or(calls);
+    let others = calls.get(first..).unwrap_or(&[]);
+    push_some(alloc, source, within, lines)?;
+    push_count(alloc, lines, left_out as u64)?;
+    push_some(alloc, source, others.get(left_out..).unwrap_or(&[]), lines)
 }
 
 /// The lines that say where the run of an accepted text by its meaning stopped, as `trace` has them: the position of what raised, or in which

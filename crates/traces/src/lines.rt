@@ -1,10 +1,10 @@
 // The lines that say where a run stopped.
 
 use crate::points::Sight;
-use crate::program::{Active, Traced};
+use crate::program::{Called, Traced};
 use crate::text::name_of;
-use crate::told::{SHOWN_CALLS, called_at, in_function, limited, push_count, raised_at};
-use cyc_host::{Ending, Watch};
+use crate::told::{called_at, in_function, limited, push_count, raised_at, shown_of};
+use cyc_host::{Active, Ending, Watch};
 use cyc_words::Kind;
 use rv32_machine::{KEY_NEW, REGION_ALLOC, REGION_NEW, STACK_REFUSED, UNIQUE_ALLOC};
 use std::alloc::{AllocError, Global};
@@ -35,15 +35,15 @@ struct Run<'a> {
 
 impl<'a> Run<'a> {
     /// The innermost active function of a text, where its call is known.
-    fn innermost(self, source: Source<'a>) -> Option<Active> {
+    fn innermost(self, source: Source<'a>) -> Option<Called> {
         if self.watch.unkept() > 0 {
             return None;
         }
-        source.traced.called(*self.watch.active().last()?)
+        source.traced.called(self.watch.active().last()?.at)
     }
 
-    /// The addresses of the active calls that have a line, the innermost last. The first call of a text is that of `main`, which has none.
-    fn calls(self) -> &'a [u32] {
+    /// The active calls that have a line, the innermost last. The first call of a text is that of `main`, which has none.
+    fn calls(self) -> &'a [Active] {
         let active = self.watch.active();
         if self.source.is_some() {
             active.get(1..).unwrap_or(&[])
@@ -86,7 +86,7 @@ fn raised(alloc: Global, run: Run<'_>, kind: Kind) -> Result<String, AllocError>
     let Some(source) = run.source else {
         return format!(in alloc; "{input}:0x{pc:08x}: {kind}\n");
     };
-    let Some(place) = source.traced.raise(pc) else {
+    let Some(place) = source.traced.place_at(pc) else {
         return Ok(String::new(alloc));
     };
     raised_at(alloc, input, place, kind)
@@ -136,16 +136,29 @@ fn call_of(alloc: Global, run: Run<'_>, address: u32) -> Result<String, AllocErr
     }
 }
 
-/// Appends the lines of the active calls, the innermost first.
-fn push_calls(alloc: Global, run: Run<'_>, lines: &mut String) -> Result<(), AllocError> {
-    push_count(alloc, lines, run.watch.unkept())?;
-    let calls = run.calls();
-    for address in calls.iter().rev().take(SHOWN_CALLS) {
-        let line = call_of(alloc, run, *address)?;
+/// Appends the lines of this number of active calls, the innermost first, without so many of the innermost.
+fn push_some(
+    alloc: Global,
+    run: Run<'_>,
+    passed: usize,
+    count: usize,
+    lines: &mut String,
+) -> Result<(), AllocError> {
+    for call in run.calls().iter().rev().skip(passed).take(count) {
+        let line = call_of(alloc, run, call.at)?;
         lines.push_str(line.as_str())?;
     }
-    let more = calls.len().saturating_sub(SHOWN_CALLS);
-    push_count(alloc, lines, more as u64)
+    Ok(())
+}
+
+/// Appends the lines of the active calls, the innermost first; of many those within and those outside.
+fn push_calls(alloc: Global, run: Run<'_>, lines: &mut String) -> Result<(), AllocError> {
+    push_count(alloc, lines, run.watch.unkept())?;
+    let all = run.calls().len();
+    let (first, left_out) = shown_of(all);
+    push_some(alloc, run, 0, first, lines)?;
+    push_count(alloc, lines, left_out as u64)?;
+    push_some(alloc, run, first.saturating_add(left_out), all, lines)
 }
 
 /// Whether it is told of an ending where it came.

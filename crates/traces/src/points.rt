@@ -95,12 +95,11 @@ fn frame_behind(code: &[u8], address: u32) -> Option<u32> {
     Some(upper.bits().wrapping_mul(4096).wrapping_add(lower))
 }
 
-/// An address of the code at which a function is tested, or a raise or a call is, and how many of its kind stand before it.
+/// An address of the code at which a function is tested, or a raise or a call is.
 #[derive(Clone, Copy)]
 pub struct Point {
     pub address: u32,
     pub sight: Sight,
-    pub number: usize,
 }
 
 impl Point {
@@ -124,52 +123,10 @@ impl Point {
     }
 }
 
-/// Whether two exceptions are one.
-pub fn is_same(one: Kind, other: Kind) -> bool {
-    match one {
-        Kind::NullException => matches!(other, Kind::NullException),
-        Kind::ArrayBounds => matches!(other, Kind::ArrayBounds),
-    }
-}
-
-/// How many functions, raises and calls there are.
-#[derive(Clone, Copy)]
-pub struct Counts {
-    pub functions: usize,
-    pub raises: usize,
-    pub calls: usize,
-}
-
-impl Counts {
-    /// Counts one more, and says how many of its kind there were.
-    fn add(&mut self, sight: Sight) -> usize {
-        match sight {
-            Sight::Test(_) => next(&mut self.functions),
-            Sight::Raise(_) => next(&mut self.raises),
-            Sight::Call(_) => next(&mut self.calls),
-        }
-    }
-
-    /// Whether there are as many of each kind.
-    pub fn is_same(self, other: Counts) -> bool {
-        self.functions == other.functions
-            && self.raises == other.raises
-            && self.calls == other.calls
-    }
-}
-
-/// Counts one more, and says how many there were.
-fn next(count: &mut usize) -> usize {
-    let number = *count;
-    *count = number.saturating_add(1);
-    number
-}
-
 /// The functions, raises and calls of code, in its order.
 #[derive(Drop)]
 pub struct Points {
     pub all: Vec<Point>,
-    pub counts: Counts,
     /// The address behind the code.
     pub end: u32,
 }
@@ -179,11 +136,6 @@ impl Points {
     pub fn of(alloc: Global, code: &[u8]) -> Result<Points, AllocError> {
         let mut points = Points {
             all: Vec::new(alloc),
-            counts: Counts {
-                functions: 0,
-                raises: 0,
-                calls: 0,
-            },
             end: CODE_BASE,
         };
         for _word in code.chunks_exact(4) {
@@ -197,25 +149,9 @@ impl Points {
         let address = self.end;
         self.end = address.wrapping_add(4);
         if let Some(sight) = Sight::at(code, address) {
-            let number = self.counts.add(sight);
-            self.all.push(Point {
-                address,
-                sight,
-                number,
-            })?;
+            self.all.push(Point { address, sight })?;
         }
         Ok(())
-    }
-
-    /// The exceptions that are raised, in the order of the code.
-    pub fn raised(&self, alloc: Global) -> Result<Vec<Kind>, AllocError> {
-        let mut raised = Vec::new(alloc);
-        for point in &self.all {
-            if let Sight::Raise(kind) = point.sight {
-                raised.push(kind)?;
-            }
-        }
-        Ok(raised)
     }
 
     /// The point at an address.

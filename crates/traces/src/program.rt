@@ -1,62 +1,70 @@
-// A text with where its raises and calls are in it and in its code.
+// A text with its code: where in the text each instruction stands.
 
-use crate::points::{Counts, Point, Points, Sight};
-use crate::sites::{Call, Sites};
+use crate::points::{Point, Points, Sight};
 use crate::text::Text;
 use cycc_driver::Place;
 use lower_checks::lower;
-use rv32_select::Raise;
+use rv32_layout::{LayoutFault, Position, positions};
+use rv32_machine::CODE_BASE;
+use rv32_select::select;
 use std::alloc::{AllocError, Global};
 
 /// A function that is active, and where in the text its call stands; `main` is called from nowhere.
 #[derive(Clone, Copy)]
-pub struct Active {
+pub struct Called {
     pub function: usize,
     pub call: Option<Place>,
 }
 
-/// An accepted text with the positions of its raises and calls.
+/// An accepted text with its code: where in the code what stands in the text begins, and the functions, raises and calls of the code.
 #[derive(Drop)]
 pub struct Traced {
     text: Text,
-    main: usize,
-    functions: usize,
-    sites: Sites,
+    positions: Vec<Position>,
     points: Points,
+    /// Where the functions begin, by their numbers.
+    functions: Vec<u32>,
+}
+
+/// Where the functions among points begin.
+fn starts_of(alloc: Global, points: &[Point]) -> Result<Vec<u32>, AllocError> {
+    let mut starts = Vec::new(alloc);
+    for point in points {
+        if point.is_test() {
+            starts.push(point.start())?;
+        }
+    }
+    Ok(starts)
+}
+
+/// Where in its code a text's statements, raises and calls begin; none where the code would be too large.
+fn positions_of(alloc: Global, text: &Text) -> Result<Option<Vec<Position>>, AllocError> {
+    let core = lower(alloc, text.checked())?;
+    let labelled = select(alloc, &core)?;
+    match positions(alloc, &labelled) {
+        Ok(positions) => Ok(Some(positions)),
+        Err(LayoutFault::Memory) => Err(AllocError),
+        Err(LayoutFault::TooLarge) => Ok(None),
+    }
 }
 
 impl Traced {
-    /// A text with its code. None where the text isn't accepted, or the code has other numbers of functions, raises or calls than the program.
+    /// A text with its code. None where the text isn't accepted.
     pub fn of(alloc: Global, text: &[u8], code: &[u8]) -> Result<Option<Traced>, AllocError> {
         let Some(text) = Text::of(alloc, text)? else {
             return Ok(None);
         };
-        let core = lower(alloc, text.checked())?;
-        let points = Points::of(alloc, code)?;
-        let raised = points.raised(alloc)?;
-        let sites = Sites::of(alloc, &core)?;
-        let same = sites.are(&raised);
-        let traced = Traced {
-            main: core.main,
-            functions: core.functions.len(),
-            sites,
-            points,
-            text,
+        let Some(positions) = positions_of(alloc, &text)? else {
+            return Ok(None);
         };
-        Ok(if same && traced.agrees() {
-            Some(traced)
-        } else {
-            None
-        })
-    }
-
-    /// Whether the code has a function and a raise for each of the program, and a call for each, with the one of `main` before them.
-    fn agrees(&self) -> bool {
-        self.points.counts.is_same(Counts {
-            functions: self.functions,
-            raises: self.sites.raises.len(),
-            calls: self.sites.calls.len().saturating_add(1),
-        })
+        let points = Points::of(alloc, code)?;
+        let functions = starts_of(alloc, &points.all)?;
+        Ok(Some(Traced {
+            text,
+            positions,
+            points,
+            functions,
+        }))
     }
 
     /// The functions, raises and calls of the code, in its order.
@@ -64,49 +72,45 @@ impl Traced {
         &self.points.all
     }
 
+    /// Where in the code what stands in the text begins, in its order.
+    pub fn positions(&self) -> &[Position] {
+        &self.positions
+    }
+
+    /// Where in the text a position is.
+    pub fn place(&self, position: Position) -> Place {
+        self.text.place(position.origin)
+    }
+
     /// The address behind the code.
     pub fn end(&self) -> u32 {
         self.points.end
     }
 
-    /// The raise with this number.
-    pub fn site_of_raise(&self, number: usize) -> Option<(Raise, Place)> {
-        let raise = self.sites.raises.get(number)?;
-        Some((*raise, self.text.place(raise.origin)))
+    /// Where in the text the instruction at an address of the code stands; none of what is before the first function, which the text doesn't have.
+    pub fn place_at(&self, address: u32) -> Option<Place> {
+        let offset = address.checked_sub(CODE_BASE)?;
+        let behind = self
+            .positions
+            .partition_point(|position| position.offset <= offset);
+        let position = self.positions.get(behind.checked_sub(1)?)?;
+        Some(self.place(*position))
     }
 
-    /// The call with this number, where 0 is the one of `main`, which the text doesn't have.
-    pub fn site_of_call(&self, number: usize) -> Option<(Call, Place)> {
-        let call = self.sites.calls.get(number.checked_sub(1)?)?;
-        Some((*call, self.text.place(call.origin)))
-    }
-
-    /// Where the raise at an address of the code stands.
-    pub fn raise(&self, address: u32) -> Option<Place> {
-        let point = self.points.at(address)?;
-        let Sight::Raise(_) = point.sight else {
-            return None;
-        };
-        let (_, place) = self.site_of_raise(point.number)?;
-        Some(place)
+    /// The number of the function that begins at an address.
+    pub fn function_at(&self, address: u32) -> Option<usize> {
+        self.functions.binary_search(&address).ok()
     }
 
     /// The function that the call at an address of the code makes active.
-    pub fn called(&self, address: u32) -> Option<Active> {
+    pub fn called(&self, address: u32) -> Option<Called> {
         let point = self.points.at(address)?;
-        let Sight::Call(_) = point.sight else {
+        let Sight::Call(target) = point.sight else {
             return None;
         };
-        if point.number == 0 {
-            return Some(Active {
-                function: self.main,
-                call: None,
-            });
-        }
-        let (call, place) = self.site_of_call(point.number)?;
-        Some(Active {
-            function: call.function,
-            call: Some(place),
+        Some(Called {
+            function: self.function_at(target)?,
+            call: self.place_at(address),
         })
     }
 

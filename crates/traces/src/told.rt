@@ -5,7 +5,19 @@ use cycc_driver::Place;
 use std::alloc::{AllocError, Global};
 
 /// How many active calls are shown where there are more.
-pub const SHOWN_CALLS: usize = 64;
+const SHOWN_CALLS: usize = 64;
+
+/// How many of these are the outermost ones.
+const OUTERMOST: usize = 8;
+
+/// How many of this number of active calls are shown from the innermost on, and how many are left out behind them. The others are shown behind these.
+pub fn shown_of(calls: usize) -> (usize, usize) {
+    if calls <= SHOWN_CALLS {
+        (calls, 0)
+    } else {
+        (SHOWN_CALLS - OUTERMOST, calls - SHOWN_CALLS)
+    }
+}
 
 /// The line of a raise.
 pub fn raised_at(

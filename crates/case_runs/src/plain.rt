@@ -90,6 +90,7 @@ pub fn run_over_plain(
             shows_ending,
             shows_where: false,
             shows_stats: false,
+            shows_counts: false,
             ..
         } => match compile(alloc, source, pages.number(), stack_pages.number()) {
             Ok(bytes) => bytes_run(alloc, &bytes, given, Told::of_run(steps, shows_ending)),
@@ -100,6 +101,7 @@ pub fn run_over_plain(
             shows_ending,
             shows_where: false,
             shows_stats: false,
+            shows_counts: false,
             ..
         } => bytes_run(alloc, source, given, Told::of_exec(steps, shows_ending)),
         _ => Ok(None),

@@ -73,6 +73,7 @@ pub enum Command<'a> {
         shows_why: bool,
         shows_where: bool,
         shows_stats: bool,
+        shows_counts: bool,
     },
     /// Runs a source by its meaning, with `fuel` units of fuel.
     Eval {
@@ -95,6 +96,7 @@ pub enum Command<'a> {
         shows_ending: bool,
         shows_where: bool,
         shows_stats: bool,
+        shows_counts: bool,
     },
     /// Prints an image.
     Dump {

@@ -51,7 +51,7 @@ const OUTPUT: Choice = Choice {
 /// The file of the map.
 const MAP: Choice = Choice {
     name: "map",
-    help: "Writes the addresses of each function, check and call as a text; of existing files only an empty one or a map is replaced",
+    help: "Writes the addresses of each function, statement, check and call as a text; of existing files only an empty one or a map is replaced",
     takes: Takes::OptionalPath("FILE"),
 };
 
@@ -132,6 +132,13 @@ const STATS: Choice = Choice {
     takes: Takes::Nothing,
 };
 
+/// Whether it is told how often each instruction was executed.
+const COUNTS: Choice = Choice {
+    name: "counts",
+    help: "Says how often each instruction was executed, a line each (docs/FAULTS.md); the run is several times slower",
+    takes: Takes::Nothing,
+};
+
 /// The name that is explained.
 const NAME: Choice = Choice {
     name: "name",
@@ -165,7 +172,17 @@ pub const COMMANDS: [Words; 8] = [
         name: "run",
         about: "Compiles a source and runs it",
         below: SOURCE_FAULTS,
-        choices: &[SOURCE, PAGES, STACK_PAGES, STEPS, ENDING, WHY, WHERE, STATS],
+        choices: &[
+            SOURCE,
+            PAGES,
+            STACK_PAGES,
+            STEPS,
+            ENDING,
+            WHY,
+            WHERE,
+            STATS,
+            COUNTS,
+        ],
     },
     Words {
         name: "eval",
@@ -183,7 +200,7 @@ pub const COMMANDS: [Words; 8] = [
         name: "exec",
         about: "Runs an image",
         below: IMAGE_FAULTS,
-        choices: &[IMAGE, STEPS, ENDING, WHERE, STATS],
+        choices: &[IMAGE, STEPS, ENDING, WHERE, STATS, COUNTS],
     },
     Words {
         name: "dump",

@@ -101,6 +101,7 @@ fn bounded<'a>(name: &str, input: &'a str, matches: &ArgMatches<'a>) -> Option<C
             shows_why,
             shows_where: matches.get_flag("where"),
             shows_stats: matches.get_flag("stats"),
+            shows_counts: matches.get_flag("counts"),
         }),
         "eval" => Some(Command::Eval {
             input,
@@ -115,6 +116,7 @@ fn bounded<'a>(name: &str, input: &'a str, matches: &ArgMatches<'a>) -> Option<C
             shows_ending,
             shows_where: matches.get_flag("where"),
             shows_stats: matches.get_flag("stats"),
+            shows_counts: matches.get_flag("counts"),
         }),
         _ => None,
     }

@@ -93,15 +93,18 @@ fn checked(test: u32, failure: Failure) -> Statement {
 fn plain_statement(row: Row) -> Option<Statement> {
     let [first, second, third, _, _] = row.numbers;
     match row.word {
-        Word::Break => Some(Statement::Break),
-        Word::Continue => Some(Statement::Continue),
-        Word::Return => Some(Statement::Return(words_of([first, second, third], row.count))),
+        Word::Break => Some(Statement::Break(Origin(0))),
+        Word::Continue => Some(Statement::Continue(Origin(0))),
+        Word::Return => Some(Statement::Return(
+            words_of([first, second, third], row.count),
+            Origin(0),
+        )),
         Word::Raise(kind) => Some(Statement::Raise(kind, Origin(0))),
         Word::Check(kind) => Some(checked(first, Failure::Always(kind))),
         Word::CheckBy(one, other) => {
             Some(checked(first, Failure::ByTest(Temporary(second), one, other)))
         }
-        _ => Some(Statement::Do(operation_of(row)?)),
+        _ => Some(Statement::Do(Origin(0), operation_of(row)?)),
     }
 }
 

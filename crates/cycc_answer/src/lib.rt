@@ -1,7 +1,7 @@
 //! What `cycc` answers to a command.
 //!
 //! `answer` does all that a command asks for but to read the words and the file and to write OUT: what is written, what is
-//! said on standard error, the exit status, and the bytes for OUT. Stands on `command_line`, `cycc_driver`, `traces` and `explanations`.
+//! said on standard error, the exit status, and the bytes for OUT. Stands on `command_line`, `cycc_driver`, `traces` and `reasons`.
 #![tactic(auto)]
 
 mod answering;

@@ -15,7 +15,7 @@ use std::alloc::{AllocError, Global};
 use std::io::Write;
 
 /// What lines tell of a command: the path of its file, whether a run's ending is told, whether a refusal is told in more than its line and
-/// whether those behind the first are told, and whether it is told where a run stopped and what it took.
+/// whether those behind the first are told, and whether it is told where a run stopped, what it took and how often it executed each instruction.
 #[derive(Clone, Copy)]
 pub struct Told<'a> {
     pub input: &'a str,
@@ -24,6 +24,7 @@ pub struct Told<'a> {
     pub shows_all: bool,
     pub shows_where: bool,
     pub shows_stats: bool,
+    pub shows_counts: bool,
 }
 
 impl<'a> Told<'a> {
@@ -36,6 +37,7 @@ impl<'a> Told<'a> {
             shows_all: false,
             shows_where: false,
             shows_stats: false,
+            shows_counts: false,
         }
     }
 
@@ -66,12 +68,14 @@ impl<'a> Told<'a> {
                 shows_why,
                 shows_where,
                 shows_stats,
+                shows_counts,
                 ..
             } => Told {
                 shows_ending,
                 shows_why,
                 shows_where,
                 shows_stats,
+                shows_counts,
                 ..little
             },
             Command::Eval {
@@ -89,11 +93,13 @@ impl<'a> Told<'a> {
                 shows_ending,
                 shows_where,
                 shows_stats,
+                shows_counts,
                 ..
             } => Told {
                 shows_ending,
                 shows_where,
                 shows_stats,
+                shows_counts,
                 ..little
             },
             Command::Dump { .. } | Command::Explain { .. } => little,
@@ -102,7 +108,7 @@ impl<'a> Told<'a> {
 
     /// Whether a run has to be watched for what is told of it.
     pub fn is_watched(self) -> bool {
-        self.shows_where || self.shows_stats
+        self.shows_where || self.shows_stats || self.shows_counts
     }
 }
 

@@ -8,11 +8,11 @@ ghost use Rattle.cycc_answer.specs.Statuses.{evaluated_status, status_of};
 use crate::lines::{Told, ended, evaluated, say};
 use crate::why::refused_in;
 use core_eval::{EvalEnding, Stop};
-use cyc_host::{Ending, Watch};
+use cyc_host::{Count, Ending, Watch};
 use cyc_words::{Input, Output};
 use cycc_driver::{Limits, execute_watched, stack};
 use rv32_machine::{
-    GETCHAR, KEY_CLOSE, KEY_FREE, KEY_NEW, KEY_OPEN, PUTCHAR, REGION_ALLOC, REGION_FREE,
+    CODE_BASE, GETCHAR, KEY_CLOSE, KEY_FREE, KEY_NEW, KEY_OPEN, PUTCHAR, REGION_ALLOC, REGION_FREE,
     REGION_NEW, UNIQUE_ALLOC, UNIQUE_FREE,
 };
 use std::alloc::{AllocError, Global};
@@ -71,6 +71,38 @@ fn stats_of(alloc: Global, ran: Ran<'_>, watch: &Watch) -> Result<String, AllocE
     Ok(lines)
 }
 
+/// Appends a line of `--counts` for each instruction that was executed: its address, how often it was executed, how often another than the next one came behind
+/// it, and how many instructions were executed in the calls that it made and that have returned.
+fn push_counts(alloc: Global, watch: &Watch, lines: &mut String) -> Result<(), AllocError> {
+    let mut address = CODE_BASE;
+    for count in watch.counts() {
+        let Count {
+            executed,
+            left,
+            within,
+        } = *count;
+        if executed > 0 {
+            let line = format!(in alloc; "count {address:08x} {executed} {left} {within}\n")?;
+            lines.push_str(line.as_str())?;
+        }
+        address = address.wrapping_add(4);
+    }
+    Ok(())
+}
+
+/// The lines of `--counts`: those of the instructions, and for each active call its address, and how many instructions were executed since.
+fn counts_of(alloc: Global, watch: &Watch) -> Result<String, AllocError> {
+    let mut lines = String::new(alloc);
+    push_counts(alloc, watch, &mut lines)?;
+    for call in watch.active() {
+        let at = call.at;
+        let steps = watch.steps().saturating_sub(call.since);
+        let line = format!(in alloc; "active {at:08x} {steps}\n")?;
+        lines.push_str(line.as_str())?;
+    }
+    Ok(lines)
+}
+
 /// What was run: a text, or an image whose machine then stands at this address.
 #[derive(Clone, Copy)]
 pub enum Ran<'a> {
@@ -117,6 +149,10 @@ fn shown_of(
     }
     if told.shows_stats {
         let lines = stats_of(alloc, ran, watch)?;
+        shown.push_str(lines.as_str())?;
+    }
+    if told.shows_counts {
+        let lines = counts_of(alloc, watch)?;
         shown.push_str(lines.as_str())?;
     }
     Ok(shown)

@@ -5,31 +5,9 @@ ghost use Rattle.cycc_answer.specs.Statuses.{refused_status};
 
 use crate::lines::{Told, refused};
 use cycc_driver::CompileFault;
-use explanations::explain;
-use reasons::{further_faults, push_marked, reason};
+use reasons::{further_faults, shown_fault};
 use std::alloc::{AllocError, Global};
 use std::io::Write;
-
-/// Appends what a fault means, in one sentence.
-fn push_meaning(shown: &mut Vec<u8>, name: &str) -> Result<(), AllocError> {
-    if let Some(explanation) = explain(name) {
-        shown.extend_from_slice(explanation.meaning().as_bytes())?;
-        shown.extend_from_slice(b".\n")?;
-    }
-    Ok(())
-}
-
-/// What is shown behind a fault's line; nothing for want of memory.
-fn shown_of(alloc: Global, text: &[u8], fault: CompileFault) -> Result<Vec<u8>, AllocError> {
-    let mut shown = Vec::new(alloc);
-    if let Some(place) = fault.place() {
-        push_marked(&mut shown, text, place)?;
-        push_meaning(&mut shown, fault.name())?;
-        let reason = reason(alloc, text, fault)?;
-        shown.extend_from_slice(&reason)?;
-    }
-    Ok(shown)
-}
 
 /// Says one fault of a source, with more than its line where that is asked for, and answers the status.
 fn refused_alone<E: Write>(
@@ -44,7 +22,7 @@ fn refused_alone<E: Write>(
     if !told.shows_why {
         return refused(alloc, told.input, fault, faults);
     }
-    let shown = shown_of(alloc, text, fault)?;
+    let shown = shown_fault(alloc, text, fault)?;
     let status = refused(alloc, told.input, fault, faults)?;
     let _ = faults.write_all(&shown);
     Ok(status)
@@ -62,7 +40,7 @@ fn push_further(
     let line = format!(in alloc; "{input}:{fault}\n")?;
     shown.extend_from_slice(line.as_bytes())?;
     if told.shows_why {
-        let more = shown_of(alloc, text, fault)?;
+        let more = shown_fault(alloc, text, fault)?;
         shown.extend_from_slice(&more)?;
     }
     Ok(())

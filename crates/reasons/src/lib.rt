@@ -1,7 +1,8 @@
 //! What was found at a fault and what was wanted, in words; and the faults behind the first one.
 //!
 //! `reason` says of a fault what the checker's own judgements tell of it: the nearest known name, the types of the parts that don't agree
-//! with their regions, where a local was given away. `further_faults` answers the faults of the other functions and globals, and
+//! with their regions, where a local was given away. `shown_fault` has all that is shown of a fault
+//! behind its line. `further_faults` answers the faults of the other functions and globals, and
 //! `push_marked` shows a line with a mark below a position. Nothing rests on the words: the fault and its place are `check`'s. No more is
 //! claimed than that each answers, or that no host memory is left. Stands on `token_reasons`, on the checker and on `cycc_driver`.
 #![tactic(auto)]
@@ -21,6 +22,7 @@ mod paired;
 mod placed;
 mod places;
 mod printed;
+mod shown;
 mod suffixed;
 mod told;
 mod unions;
@@ -31,4 +33,5 @@ mod words;
 
 pub use further::further_faults;
 pub use marked::push_marked;
+pub use shown::shown_fault;
 pub use told::reason;

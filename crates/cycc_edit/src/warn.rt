@@ -5,7 +5,7 @@ use command_line::shown;
 use command_line::status::{MEMORY, REFUSED, SUCCESS, USAGE};
 use cyc_lexer::tokens;
 use cycc_driver::{CompileFault, Place, front};
-use reasons::push_marked;
+use reasons::{push_marked, shown_fault};
 use std::alloc::{AllocError, Global};
 use std::io::Write;
 use warnings::{Placed, warnings_of, with_places};
@@ -16,8 +16,8 @@ Usage: cycc check --warn [--deny] [--why] FILE..
 
 Options:
       --warn  Prints warnings on standard error, each as FILE:LINE:COLUMN: warning: NAME: WORDS
-      --deny  Answers status 8 where there is a warning
-      --why   Prints the line of each warning too, and what to write instead
+      --deny  Prints them too, and answers status 8 where there is one
+      --why   Prints the line of each warning too, and what to write instead; of a fault what `check --why` prints
   -h, --help  Print help
 
 A comment `// allow: NAME` at the end of the line or on the line before silences a warning.
@@ -101,14 +101,26 @@ fn out_of_memory(rt: &HostRuntime) -> u8 {
     MEMORY
 }
 
-/// Says why a source is refused, and answers the status.
-fn refuse(rt: &HostRuntime, path: &str, fault: CompileFault) -> u8 {
+/// Says why a source is refused, in more than the fault's line where that is asked for, and answers the status.
+fn refuse(
+    rt: &HostRuntime,
+    path: &str,
+    asked: Asked,
+    text: &[u8],
+    fault: CompileFault,
+) -> Result<u8, AllocError> {
     if fault.place().is_none() {
-        return out_of_memory(rt);
+        return Err(AllocError);
     }
     let path = shown(path);
+    let more = if asked.shows_why {
+        shown_fault(rt.alloc(), text, fault)?
+    } else {
+        Vec::new(rt.alloc())
+    };
     let _ = eprintln!(rt; "{path}:{fault}");
-    REFUSED
+    let _ = rt.stderr().write_all(&more);
+    Ok(REFUSED)
 }
 
 /// Appends a warning's line, and what else is asked for.
@@ -159,7 +171,7 @@ fn warn(rt: &HostRuntime, path: &str, asked: Asked, text: &[u8]) -> Result<u8, A
     let alloc = rt.alloc();
     let checked = match front(alloc, text) {
         Ok(checked) => checked,
-        Err(fault) => return Ok(refuse(rt, path, fault)),
+        Err(fault) => return refuse(rt, path, asked, text, fault),
     };
     let Ok(tokens) = tokens(alloc, text) else {
         return Err(AllocError);

@@ -1,6 +1,7 @@
 // The walk over an expression. A local's value is given away where it is neither looked at nor gone through.
 
 use crate::always::warn_of_comparison;
+use crate::leaks::assign;
 use crate::names::{Named, Sort};
 use crate::raises::warn_of_index;
 use crate::walk::Walk;
@@ -47,13 +48,23 @@ pub(crate) fn pass_value<'p>(walk: &mut Walk<'p>, expression: &'p Expression) {
             look_at_all(walk, others);
         }
         Expression::Assign(place, value) => {
-            look_at(walk, place);
             pass_value(walk, value);
+            pass_place(walk, place, value);
         }
     }
 }
 
-/// Goes over an expression that is tested, followed, assigned to, or an operand.
+/// Goes over a place that is given a value.
+#[cycle(expressions)]
+fn pass_place<'p>(walk: &mut Walk<'p>, place: &'p Expression, value: &'p Expression) {
+    match place {
+        Expression::Variable(name) => assign(walk, name, value),
+        Expression::Grouped(_, inner) => pass_place(walk, inner, value),
+        other => pass_value(walk, other),
+    }
+}
+
+/// Goes over an expression that is tested, followed, or an operand.
 #[cycle(expressions)]
 pub(crate) fn look_at<'p>(walk: &mut Walk<'p>, expression: &'p Expression) {
     match expression {

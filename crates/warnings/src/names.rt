@@ -28,6 +28,8 @@ pub(crate) struct Named<'p> {
     pub is_used: bool,
     /// Whether its value is given away, or its block freed.
     pub is_taken: bool,
+    /// The branch in which it was given a block of its own that it still has where the walk has come to.
+    pub held: Option<u32>,
     /// The one of the same name that it hides, by its number.
     pub hidden: Option<usize>,
 }
@@ -43,6 +45,7 @@ impl<'p> Named<'p> {
             owns: false,
             is_used: false,
             is_taken: false,
+            held: None,
             hidden: None,
         }
     }
@@ -57,6 +60,9 @@ pub(crate) struct Names<'p> {
     members: IndexMap<&'p [u8], ()>,
     /// Those of the blocks around, by their numbers.
     locals: Vec<usize>,
+    /// The innermost branch around, and how many there were: of two the inner one has the greater number.
+    branch: u32,
+    branches: u32,
 }
 
 // Written out, so that a caller's proof sees one call and not the drop of each field.
@@ -67,6 +73,8 @@ impl Drop for Names<'_> {
             visible: _visible,
             members: _members,
             locals: _locals,
+            branch: _,
+            branches: _,
         } = self;
     }
 }
@@ -79,6 +87,8 @@ impl<'p> Names<'p> {
             visible: IndexMap::new(alloc),
             members: IndexMap::new(alloc),
             locals: Vec::new(alloc),
+            branch: 0,
+            branches: 0,
         }
     }
 
@@ -110,9 +120,10 @@ impl<'p> Names<'p> {
         Ok(number)
     }
 
-    /// Declares a local.
+    /// Declares a local, which has a block of its own from the beginning where it owns one.
     pub(crate) fn add_local(&mut self, named: Named<'p>) -> Result<(), AllocError> {
-        let number = self.add(named)?;
+        let held = if named.owns { Some(self.branch) } else { None };
+        let number = self.add(Named { held, ..named })?;
         self.locals.push(number)?;
         Ok(())
     }
@@ -143,8 +154,75 @@ impl<'p> Names<'p> {
         };
         if let Some(named) = self.all.get_mut(number) {
             named.is_used = true;
-            named.is_taken = named.is_taken || takes;
+            if takes {
+                named.is_taken = true;
+                named.held = None;
+            }
         }
+    }
+
+    /// Whether a number is that of a visible local.
+    fn is_local(&self, number: usize) -> bool {
+        for local in self.locals.iter() {
+            if *local == number {
+                return true;
+            }
+        }
+        false
+    }
+
+    /// Notes that a name is given a value, which is a block of its own or not, and answers whether it is a local that still has one.
+    pub(crate) fn assign(&mut self, name: &[u8], owns: bool) -> bool {
+        self.mention(name, false);
+        let Some(number) = self.number_of(name) else {
+            return false;
+        };
+        if !self.is_local(number) {
+            return false;
+        }
+        let branch = self.branch;
+        match self.all.get_mut(number) {
+            Some(named) => {
+                let was_held = named.held.is_some();
+                named.held = if owns { Some(branch) } else { None };
+                named.owns = named.owns || owns;
+                named.is_taken = named.is_taken || (was_held && !owns);
+                was_held
+            }
+            None => false,
+        }
+    }
+
+    /// Enters a branch, which is run or isn't, and answers the one around.
+    pub(crate) fn enter_branch(&mut self) -> u32 {
+        let outer = self.branch;
+        self.branches = self.branches.saturating_add(1);
+        self.branch = self.branches;
+        outer
+    }
+
+    /// Whether a local was given its block in a branch within another one.
+    fn is_held_within(&self, number: usize, outer: u32) -> bool {
+        match self.all.get(number) {
+            Some(named) => match named.held {
+                Some(branch) => outer < branch,
+                None => false,
+            },
+            None => false,
+        }
+    }
+
+    /// Leaves a branch: whether locals have the blocks that they were given there isn't known.
+    pub(crate) fn leave_branch(&mut self, outer: u32) {
+        for index in 0..self.locals.len() {
+            let number = self.locals.get(index).copied().unwrap_or(0);
+            if self.is_held_within(number, outer) {
+                if let Some(named) = self.all.get_mut(number) {
+                    named.held = None;
+                }
+            }
+        }
+        self.branch = outer;
     }
 
     /// Notes that a member is named.

@@ -43,9 +43,13 @@ fn pass_local<'p>(
 fn pass_declaration<'p>(walk: &mut Walk<'p>, declaration: &'p Declaration) {
     match declaration {
         Declaration::Local(of, name, initializer) => pass_local(walk, of, name, initializer),
-        Declaration::Region(_, _, name) | Declaration::NewKey(_, _, name) => {
+        Declaration::Region(_, _, name) => {
             walk.declare_local(Named::new(name, Sort::Variable, None));
         }
+        Declaration::NewKey(_, _, name) => walk.declare_local(Named {
+            owns: true,
+            ..Named::new(name, Sort::Variable, None)
+        }),
         Declaration::Open(_, _, name, key) => {
             walk.names.mention(&key.text, false);
             walk.declare_local(Named::new(name, Sort::Required, None));
@@ -101,6 +105,15 @@ fn pass_plain<'p>(walk: &mut Walk<'p>, statement: &'p Statement) -> End {
     }
 }
 
+/// Goes over a statement that is run or isn't, and says whether a run comes to its end.
+#[cycle(statements)]
+fn pass_branch<'p>(walk: &mut Walk<'p>, statement: &'p Statement) -> End {
+    let outer = walk.names.enter_branch();
+    let end = pass_statement(walk, statement);
+    walk.names.leave_branch(outer);
+    end
+}
+
 /// Goes over a statement, and says whether a run comes to its end.
 #[cycle(statements)]
 fn pass_statement<'p>(walk: &mut Walk<'p>, statement: &'p Statement) -> End {
@@ -108,18 +121,18 @@ fn pass_statement<'p>(walk: &mut Walk<'p>, statement: &'p Statement) -> End {
         Statement::Block(_, items) => pass_block(walk, items),
         Statement::If(_, condition, body) => {
             pass_condition(walk, condition);
-            let _end = pass_statement(walk, body);
+            let _end = pass_branch(walk, body);
             End::Reached
         }
         Statement::IfElse(_, condition, body, otherwise) => {
             pass_condition(walk, condition);
-            let end = pass_statement(walk, body);
-            end.or(pass_statement(walk, otherwise))
+            let end = pass_branch(walk, body);
+            end.or(pass_branch(walk, otherwise))
         }
         Statement::While(_, condition, body) => {
             pass_condition(walk, condition);
             let outer = walk.enter();
-            let _end = pass_statement(walk, body);
+            let _end = pass_branch(walk, body);
             let has_break = walk.leave(outer);
             end_of_loop(condition, has_break)
         }
@@ -162,8 +175,10 @@ fn pass_items<'p>(walk: &mut Walk<'p>, items: &'p [BlockItem]) -> End {
 fn pass_clauses<'p>(walk: &mut Walk<'p>, clauses: &'p [Clause]) {
     'each: for clause in clauses {
         let depth = walk.names.depth();
+        let outer = walk.names.enter_branch();
         pass_pattern(walk, &clause.pattern);
         let _end = pass_items(walk, &clause.body);
+        walk.names.leave_branch(outer);
         walk.names.leave(depth);
     }
 }

@@ -44,10 +44,16 @@ fn declare_global<'p>(walk: &mut Walk<'p>, global: &'p Variable) {
     });
 }
 
-/// Declares a function. `main` is used by each run.
+/// Whether a function is called without a call in the text: `main` by each run, and by `cycc test` those whose names begin with `test_`.
+fn is_called(function: &Function) -> bool {
+    let name = function.name.text.as_slice();
+    name == b"main".as_slice() || name.starts_with(b"test_")
+}
+
+/// Declares a function.
 fn declare_function<'p>(walk: &mut Walk<'p>, function: &'p Function) {
     walk.declare(Named {
-        is_used: function.name.text.as_slice() == b"main".as_slice(),
+        is_used: is_called(function),
         ..Named::new(&function.name, Sort::Function, None)
     });
 }

@@ -48,7 +48,7 @@ export class Editor {
     constructor(root, grammar) {
         const part = (name) => root.querySelector(name);
         Object.assign(this, { root, grammar, field: part("textarea"), layer: part(".colours"), numbers: part(".numbers") });
-        Object.assign(this, { shown: [], marks: [], lines: new Map(), changed: () => {} });
+        Object.assign(this, { shown: [], marks: [], lines: new Map(), lit: new Map(), changed: () => {} });
         this.field.addEventListener("input", () => this.edited());
         this.field.addEventListener("scroll", () => this.scrolled());
         this.field.addEventListener("keydown", (event) => this.key(event));
@@ -63,13 +63,14 @@ export class Editor {
         this.field.value = text;
         this.field.setSelectionRange(0, 0);
         this.field.scrollTop = this.field.scrollLeft = 0;
-        this.marks = [];
-        this.lines = new Map();
         this.edited();
     }
 
+    /** What was said of the text as it was goes. */
     edited() {
         this.marks = [];
+        this.lines = new Map();
+        this.lit = new Map();
         this.draw();
         this.changed();
     }
@@ -103,9 +104,15 @@ export class Editor {
         this.draw();
     }
 
-    /** Sets the lines that are lit, a class for each. */
+    /** Sets the lines at which a run stopped or was, a class for each. */
     setLines(lines) {
         this.lines = lines;
+        this.draw();
+    }
+
+    /** Sets the lines that are lit beside the instructions, a class for each. */
+    light(lines) {
+        this.lit = lines;
         this.draw();
     }
 
@@ -122,7 +129,8 @@ export class Editor {
         let open = null;
         lines.forEach((text, index) => {
             const found = isColoured ? tokensOf(this.grammar, text, open) : { tokens: [], open: null };
-            const marks = this.marksOf(index + 1, text), kind = this.lines.get(index + 1) ?? "";
+            const marks = this.marksOf(index + 1, text);
+            const kind = [this.lines, this.lit].map((it) => it.get(index + 1)).filter(Boolean).join(" ");
             const key = JSON.stringify([text, open !== null, marks, kind]);
             if (this.shown[index] !== key) this.drawLine(index, text, found.tokens, marks, kind);
             this.shown[index] = key;
@@ -135,14 +143,15 @@ export class Editor {
 
     drawLine(index, text, tokens, marks, kind) {
         const made = document.createElement("div");
+        const words = marks.find((it) => it.words), code = words ? span("", "code") : made;
         made.className = `line ${kind}`;
-        for (const it of pieces(text.length, tokens, marks)) made.append(span(text.slice(it.start, it.end), it.kind));
-        if (!text) made.append(span("\u200b", marks[0]?.kind));
-        const words = marks.find((it) => it.words);
+        for (const it of pieces(text.length, tokens, marks)) code.append(span(text.slice(it.start, it.end), it.kind));
+        if (!text) code.append(span("\u200b", marks[0]?.kind));
         if (words) {
             const beside = span(words.words, `beside ${words.kind}`);
             Object.assign(beside.dataset, { line: words.line, column: words.column });
-            made.append(beside);
+            made.classList.add("told");
+            made.append(code, beside);
         }
         const old = this.layer.children[index];
         if (old) old.replaceWith(made);

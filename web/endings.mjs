@@ -28,27 +28,36 @@ export function meaningOf(name) {
     return COUNTS[name] ?? name;
 }
 
-/** The lines of a run with --ending, --where and --stats: the ending, the positions, the counts, and what else there is. */
+/** The lines of a run with --ending, --where and --stats: the ending, the positions, the counts, what had no space, and what else there is. */
 export function partsOf(said) {
-    const found = { ending: "", places: [], more: 0, counts: new Map(), notes: [] };
+    const found = { ending: "", places: [], more: 0, counts: new Map(), lacking: "", notes: [] };
     for (const line of said.split("\n").filter((it) => it)) {
-        const place = /^[^ :]+:(\d+):(\d+): (.*)$/.exec(line), count = /^([a-z_]+) (\d+)$/.exec(line), more = /^\.\. (\d+) calls$/.exec(line);
+        const place = /^[^ :]+:(\d+):(\d+): (.*)$/.exec(line), count = /^([a-z_]+) (\d+|none)$/.exec(line), more = /^\.\. (\d+) calls$/.exec(line);
         if (place) found.places.push({ line: Number(place[1]), column: Number(place[2]), words: place[3] });
         else if (more) found.more = Number(more[1]);
         else if (!found.ending) found.ending = line;
-        else if (count && count[1] in COUNTS) found.counts.set(count[1], Number(count[2]));
+        else if (count && count[1] in COUNTS) found.counts.set(count[1], count[2] === "none" ? null : Number(count[2]));
+        else if (/^(arena|stack): /.test(line)) found.lacking = line;
         else found.notes.push(line);
     }
     return found;
 }
 
+/** What had no space, in a sentence, and what may help. */
+function lackInWords(lacking) {
+    const frame = /^stack: frame of (\d+) bytes in (\S+)$/.exec(lacking), request = /^arena: (\S+)( of \d+ bytes)? in (\S+)$/.exec(lacking);
+    if (frame) return `Stopped: the stack has no space for a frame of ${frame[1]} bytes, which a call of ${frame[2]} needs. More stack pages may help.`;
+    if (request) return `Stopped: the pages are used up. ${request[3]} asked for more, by ${request[1]}${request[2] ?? ""}. More pages may help.`;
+    return "Stopped: the memory is used up. More pages or stack pages may help.";
+}
+
 /** The kind of an ending and what it means, in a sentence. */
-export function inWords(ending) {
+export function inWords({ ending, lacking }) {
     const ended = /^ended (-?\d+)$/.exec(ending);
-    if (ended?.[1] === "0") return { kind: "good", words: "The program ended by itself. main gave 0." };
-    if (ended) return { kind: "plain", words: `The program ended by itself. main gave ${ended[1]}, so the exit status is 1.` };
+    if (ended?.[1] === "0") return { kind: "good", words: "The program ended by itself. main returned 0." };
+    if (ended) return { kind: "plain", words: `The program ended by itself. main returned ${ended[1]}, so the exit status is 1.` };
     if (ending in RAISED) return { kind: "bad", words: `Stopped by a check: ${RAISED[ending]}. Nothing was read or written there.` };
-    if (/^(exhausted|arena|stack)/.test(ending)) return { kind: "warn", words: "Stopped: the memory is used up. More pages or stack pages may help." };
+    if (ending === "exhausted") return { kind: "warn", words: lackInWords(lacking) };
     if (/^step limit/.test(ending)) return { kind: "warn", words: "Stopped: the steps are used up. It may run for ever, or need more steps." };
     if (ending === "stuck" || ending.startsWith("fault")) return { kind: "bad", words: "The machine stopped at a fault." };
     return { kind: "bad", words: ending || "The program said nothing of its end." };

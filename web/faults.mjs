@@ -17,6 +17,13 @@ export function faultsOf(said) {
 }
 
 const HEAP = "`H is the heap, which lasts for the whole run. Where a pointer's type names no region, it may be the heap's.";
+const MARKS = "* is a pointer that may be NULL, @ one that never is, ? one that knows how many elements there are.";
+
+/** What a newcomer may not know of the words of a fault: what `H is, and the marks of pointers. */
+function notesOn(text) {
+    const found = text.includes("`H") ? [HEAP] : [];
+    return /^(Found|Wanted):.*[@?]/m.test(text) ? [...found, MARKS] : found;
+}
 
 /** What is said of two regions, in fewer words: the line of each alone, and what `H is. */
 function briefly(regions) {
@@ -95,7 +102,7 @@ export class Faults {
         button.addEventListener("click", () => this.editor.go(fault.line, fault.column));
         const text = fault.words.filter((it) => it).join("\n");
         made.append(button, this.words(text));
-        if (text.includes("`H")) made.append(note(HEAP));
+        made.append(...notesOn(text).map(note));
         return made;
     }
 

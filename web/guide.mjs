@@ -2,6 +2,29 @@
 import { laidOut } from "./layout.mjs";
 import { inline, made, shown } from "./markdown.mjs";
 
+/** The first words, for who has just come: headings, paragraphs and the places of buttons. They follow the rejected source of the step on regions. */
+const BEGIN = [
+    ["h2", "Begin here"],
+    ["p", "cycc compiles a safe C with regions to RISC-V, and runs it, all in this page: nothing you write leaves your browser."],
+    ["p", "The source is checked as you type. A fault is underlined: its words stand beside the line, and in full in the list below."],
+    ["h3", "What is different from C"],
+    ["p", "A **region** is memory that is freed all at once. ``region<`r> h;`` opens the region `` `r `` to the end of its block, `rnew(h) 3` makes a number "
+        + "in it, and ``int *`r`` is the type of a pointer into it."],
+    ["p", "No pointer leads into freed memory: where one could, the source is rejected."],
+    ["rejected"],
+    ["p", "1. **Why.** The type of `p`, `int *`, names no region. So `p` points into the heap, `` `H ``, which lasts for the whole run. The region `` `r `` "
+        + "ends before that: after its block `*p` would read freed memory. A click on the fault's words goes to its place."],
+    ["p", "2. **Mend it.** In line 2 write `int n = 0;` in place of `p`. In line 5 make a pointer into the region, ``int *`r p = rnew(h) 3;``, and behind it "
+        + "take the number out while the region is there: `n = *p;`. At the end return `n`."],
+    ["p", "3. **Run it**, by the button or Ctrl+Enter: `main` returns 3."],
+    ["mended"],
+    ["h3", "And then"],
+    ["p", "An index out of bounds and a `NULL` that is followed stop a run, and nothing is read or written there. The tab **Memory** shows regions come "
+        + "and go: run the example `requests.cyc`."],
+    ["tutorial"],
+    ["p", "Keys: Ctrl+Enter runs, F8 goes to the next fault, Tab goes on to the next part of the page."],
+];
+
 /** The name of a program that is loaded from a row of a table. */
 function rowButton(words, choose) {
     const it = made("button", { type: "button" }, words);
@@ -35,31 +58,14 @@ export class Guide {
 
     /** The first words, for who has just come. */
     start() {
-        const outlives = this.content.lessons.findIndex((it) => it.rows.some((row) => row.what.includes("Outlives")));
-        const row = this.content.lessons[outlives].rows.find((it) => it.what.includes("Outlives"));
-        const first = made("p", {}, rowButton("Show me a pointer that outlives its region", () => this.try(row.refused, "a source that is rejected")));
-        const second = made("p", {}, rowButton("Show me how it is mended", () => this.try(row.accepted, "the same, accepted")));
-        return [
-            made("h2", {}, "Begin here"),
-            made("p", {}, "cycc compiles a safe C with regions to RISC-V, and runs it. All of it is in this page: nothing you write leaves your browser."),
-            made("p", {}, "The source in the editor is checked as you type. A fault is underlined, and its words stand beside the line and in the list below. "
-                + "Run runs it."),
-            made("h3", {}, "What is different from C"),
-            made("p", {}, "A pointer can't be followed into memory that was freed: such a source is rejected, before it runs."),
-            first,
-            made("p", {}, "A click on the words goes to the fault. The list below the editor has them in full: what was found, what is wanted, "
-                + "and which region has to outlive which."),
-            made("p", {}, ...inline("Here the type `int *` of `p` names no region, so `p` points into the heap, `` `H ``, which lasts for the whole run. "
-                + "The region `` `r `` ends with its block, so what is made in it may not be kept in `p`.", this.links)),
-            made("p", {}, ...inline("Mend it: let `n` be a number in place of `p`. In the block make ``int *`r p = rnew(h) 3;``, and take the number out "
-                + "while the region is there, `n = *p;`. At the end return `n`.", this.links)),
-            second,
-            made("p", {}, "An index out of bounds and a NULL that is followed stop the run, and nothing is read or written there. "
-                + "The tab Memory shows regions come and go."),
-            made("h3", {}, "And then"),
-            made("p", {}, rowButton("The first step of the tutorial", () => this.show("lesson 0"))),
-            made("p", { className: "quiet" }, "Keys: Ctrl+Enter runs, F8 goes to the next fault, Tab goes on to the next part of the page."),
-        ];
+        const row = this.content.lessons.flatMap((it) => it.rows).find((it) => it.what.includes("Outlives"));
+        const buttons = {
+            rejected: ["Show a pointer that is rejected", () => this.try(row.refused, "a source that is rejected")],
+            mended: ["Show it mended", () => this.try(row.accepted, "the same, accepted")],
+            tutorial: ["The first step of the tutorial", () => this.show("lesson 0")],
+        };
+        const shownAs = ([kind, words]) => kind in buttons ? made("p", {}, rowButton(...buttons[kind])) : made(kind, {}, ...inline(words, this.links));
+        return BEGIN.map(shownAs);
     }
 
     /** Loads a short source of a table, which stands there in one line, and may leave an empty main out. */
@@ -75,7 +81,7 @@ export class Guide {
         const told = it.expected ? [made("p", { className: "quiet" }, `Run writes: ${it.expected}`)] : [];
         const rows = it.rows.flatMap((row) => this.row(row));
         const next = index + 1 < this.content.lessons.length ? [rowButton("Next step", () => this.show(`lesson ${index + 1}`))] : [];
-        const table = rows.length ? [made("h3", {}, "What one meets"), ...rows] : [];
+        const table = rows.length ? [made("h3", {}, "Rejected, and mended"), ...rows] : [];
         return [made("h2", {}, it.title), made("p", {}, ...begin), ...told, ...shown(it.text, this.links), ...table, made("p", {}, ...next)];
     }
 

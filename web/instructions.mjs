@@ -37,7 +37,10 @@ export class Instructions {
     }
 
     async show() {
-        if (this.isFresh) return;
+        if (this.isFresh) {
+            this.follow();
+            return;
+        }
         this.isFresh = true;
         this.body.replaceChildren(made("p", { className: "quiet" }, "Compiling."));
         try {
@@ -47,6 +50,11 @@ export class Instructions {
         } catch (error) {
             this.body.replaceChildren(made("p", {}, error.message));
         }
+    }
+
+    /** Leaves the tab: no line of the source stays lit. */
+    leave() {
+        this.editor.light(new Map());
     }
 
     stale() {
@@ -76,15 +84,14 @@ export class Instructions {
     }
 
     row({ address, word, text, own, point }) {
-        const it = made("tr", {}, made("td", {}, address), made("td", { className: "word" }, word), made("td", {}, text));
+        const words = made("td", {}, text);
+        const it = made("tr", {}, made("td", {}, address), made("td", { className: "word" }, word), words);
         const line = point?.line ?? 0;
         if (point) {
-            const words = point.kind === "call" ? `call of ${point.name}, ${point.line}:${point.column}` : `${point.name}, ${point.line}:${point.column}`;
-            const button = made("button", { type: "button", className: "link" }, words);
+            const what = `${point.kind === "call" ? "call of " : ""}${point.name}, line ${point.line}, column ${point.column}`;
+            const button = made("button", { type: "button", className: "link" }, what);
             button.addEventListener("click", () => this.editor.go(point.line, point.column));
-            it.append(made("td", {}, button));
-        } else {
-            it.append(made("td", {}));
+            words.append(button);
         }
         it.addEventListener("mouseenter", () => this.light(line, own));
         this.rows.push({ it, line, own });
@@ -96,7 +103,7 @@ export class Instructions {
         const lines = new Map(), head = own ? lineOfFunction(this.editor.text, own.name) : 0;
         if (head) lines.set(head, "function");
         if (line) lines.set(line, "lit");
-        this.editor.setLines(lines);
+        this.editor.light(lines);
         for (const row of this.rows) row.it.className = line && row.line === line ? "lit" : own && row.own === own ? "function" : "";
     }
 

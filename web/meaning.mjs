@@ -2,6 +2,9 @@
 import { inWords, meaningOf, partsOf } from "./endings.mjs";
 import { made } from "./markdown.mjs";
 
+/** How many instructions a run has to have, so that their speed is told. In a shorter one most of the time is the compiler's. */
+const LEAST_TIMED = 1e6;
+
 /** The table of what a run took. */
 export function showStatistics(root, run) {
     if (!run || run.counts.size === 0) {
@@ -9,13 +12,14 @@ export function showStatistics(root, run) {
         return;
     }
     const row = ([name, count]) => {
-        const cells = [made("td", {}, count.toLocaleString("en")), made("td", {}, made("code", {}, name))];
+        const cells = [made("td", {}, count === null ? "no bound" : count.toLocaleString("en")), made("td", {}, made("code", {}, name))];
         return made("tr", {}, made("th", { scope: "row" }, meaningOf(name)), ...cells);
     };
     const head = made("tr", {}, ...["What", "How many", "Name"].map((it) => made("th", { scope: "col" }, it)));
     const table = made("table", { className: "counts" }, made("thead", {}, head), made("tbody", {}, ...[...run.counts].map(row)));
-    const speed = run.counts.get("instructions") / run.done.seconds / 1e6;
-    const words = `In this browser the run took ${run.done.seconds.toFixed(2)} seconds, with the compiler: ${speed.toFixed(1)} million instructions a second. `
+    const count = run.counts.get("instructions"), speed = count / run.done.seconds / 1e6;
+    const rate = count < LEAST_TIMED ? "" : `: ${speed.toFixed(1)} million instructions a second`;
+    const words = `In this browser the run took ${run.done.seconds.toFixed(2)} seconds, with the compiler${rate}. `
         + "A run that is watched, as here, is several times slower than one that isn't.";
     root.replaceChildren(table, made("p", { className: "quiet" }, words));
 }
@@ -41,7 +45,7 @@ export class Meaning {
 
     /** What the evaluation wrote and ended with, and whether the last run of the same source did the same. */
     show(done, run) {
-        const found = partsOf(done.err), { kind, words } = inWords(found.ending);
+        const found = partsOf(done.err), { kind, words } = inWords(found);
         const ending = made("span", { className: "quiet" }, ` ${found.ending}`);
         const parts = [made("p", { className: `ending ${kind}` }, done.status === 8 ? "The source is rejected." : words, ending)];
         if (run && done.status !== 8) {

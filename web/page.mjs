@@ -132,7 +132,10 @@ async function start() {
     const instructions = new Instructions(part("instructions"), editor, looking, now);
     const meaning = new Meaning(part("meaning"), new Program(cycc), now);
     const picture = new Picture(part("memory"), new Program(cycc), now);
-    tabs(part("tabs"), (panel) => ({ instructions, memory: picture })[panel]?.show());
+    tabs(part("tabs"), (panel) => {
+        if (panel !== "instructions") instructions.leave();
+        ({ instructions, memory: picture })[panel]?.show();
+    });
     running.told = (is) => Object.assign(part("run"), { disabled: is }) && Object.assign(part("stop"), { disabled: !is });
     running.ended = (run) => {
         meaning.last = run;
@@ -141,7 +144,6 @@ async function start() {
     };
     editor.changed = () => {
         part("name").textContent = `${loaded.name}${editor.text === loaded.source ? "" : ", changed"}`;
-        editor.lines = new Map();
         instructions.stale();
         faults.soon();
     };

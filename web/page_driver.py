@@ -25,6 +25,41 @@ ENDLESS = """int main() {
 }
 """
 
+LEAST_CONTRAST = 4.5
+# of all text that is seen the one with the least contrast to what lies under it
+CONTRAST = """(() => {
+    const parts = (text) => { const it = text.match(/[\\d.]+%?/g)?.map(parseFloat) ?? [0, 0, 0, 0]; return it.length < 4 ? [...it, 1] : it; };
+    const over = (top, under) => [0, 1, 2].map((at) => top[at] * top[3] + under[at] * (1 - top[3])).concat(1);
+    const back = (it) => {
+        const found = [];
+        for (let at = it; at; at = at.parentElement) found.push(parts(getComputedStyle(at).backgroundColor));
+        return found.reverse().reduce((under, top) => over(top, under), [255, 255, 255, 1]);
+    };
+    const linear = (v) => (v /= 255) <= 0.04045 ? v / 12.92 : ((v + 0.055) / 1.055) ** 2.4;
+    const light = ([r, g, b]) => 0.2126 * linear(r) + 0.7152 * linear(g) + 0.0722 * linear(b);
+    let least = { ratio: 99 };
+    const walker = document.createTreeWalker(document.body, NodeFilter.SHOW_TEXT);
+    while (walker.nextNode()) {
+        const it = walker.currentNode.parentElement;
+        if (!walker.currentNode.data.trim() || !it.checkVisibility() || it.id === 'source' || it.closest('.skip, .sr, option')) continue;
+        const under = back(it), text = over(parts(getComputedStyle(it).color), under);
+        const [a, b] = [light(text), light(under)].sort((x, y) => y - x), ratio = (a + 0.05) / (b + 0.05);
+        if (ratio < least.ratio) least = { ratio, text: walker.currentNode.data.trim().slice(0, 40), kind: it.tagName + '.' + it.className };
+    }
+    return least;
+})()"""
+# where a column of a line of the source is seen, which no word beside it moves
+PLACE = """((line, column) => {
+    const row = document.querySelectorAll('#editor .line')[line - 1];
+    const walker = document.createTreeWalker(row.querySelector('.code') ?? row, NodeFilter.SHOW_TEXT);
+    let left = column - 1;
+    while (walker.nextNode() && left > walker.currentNode.length) left -= walker.currentNode.length;
+    const range = document.createRange();
+    range.setStart(walker.currentNode, left);
+    const { x, y, height } = range.getBoundingClientRect();
+    return [x, y + height / 2];
+})"""
+
 
 class Page:
     """The page in a browser: what is on it, and what one does to it."""
@@ -58,11 +93,29 @@ class Page:
     def point_at(self, where, words):
         """Clicks with the mouse on the element that has these words, which has to be on top there. The field of the source lies above words beside a line."""
         self.get(f"(window.at = [...document.querySelectorAll({json.dumps(where)})].find(it => it.innerText.includes({json.dumps(words)})), 1)")
-        x, y, width, height = self.get("((it) => [it.x, it.y, it.width, it.height])(window.at.getBoundingClientRect())")
+        x, y, width, height = self.settled("((it) => [it.x, it.y, it.width, it.height])(window.at.getBoundingClientRect())")
         x, y = x + width / 2, y + height / 2
         is_top = self.get(f"((top) => window.at.contains(top) || (window.at.matches('.beside') && top.id === 'source'))(document.elementFromPoint({x}, {y}))")
         assert is_top, f"{words} can't be clicked"
         self.used.click(x, y)
+
+    def settled(self, expression):
+        """The value of an expression when it is the same twice: Firefox scrolls to a new place of the cursor some time after that is set."""
+        old = None
+        while (value := self.get(expression)) != old:
+            old = value
+            self.pause(60)
+        return value
+
+    def point_into(self, line, column):
+        """Clicks with the mouse before a column of a line of the source."""
+        self.used.click(*self.settled(f"{PLACE}({line}, {column})"))
+
+    def select_line(self, line):
+        """Selects a line of the source by the mouse and keys."""
+        self.point_into(line, 1)
+        self.used.press("End")
+        self.used.press("Home", shift=True)
 
     def press_button(self, words):
         self.get(f"([...document.querySelectorAll('button')].find(it => it.innerText.includes({json.dumps(words)})).click(), 1)")
@@ -104,11 +157,20 @@ class Page:
         """Sets the cursor of the source, or selects up to an end."""
         self.get(f"((it) => {{ it.focus(); it.setSelectionRange({start}, {start if end is None else end}); return 1; }})(document.getElementById('source'))")
 
+    def stands_at(self, words, what):
+        """Waits until the cursor of the source stands before these words."""
+        self.until(f"((it) => it.value.slice(it.selectionStart).startsWith({json.dumps(words)}))(document.getElementById('source'))", what, 20)
+
     def value(self):
         return self.get("document.getElementById('source').value")
 
     def tab(self, name):
         self.click(f"#tab_{name}")
+
+    def check_contrast(self, what):
+        """All text that is seen has to stand out from what lies under it."""
+        least = self.get(CONTRAST)
+        assert least["ratio"] >= LEAST_CONTRAST, f"{what}: {least}"
 
     def shot(self, name):
         self.pause()

@@ -20,6 +20,14 @@ KEPT = """int main() {
     return 0;
 }
 """
+# a source that writes without end, and one whose recursion uses up the stack
+FLOOD = """int main() {
+    int n = 0;
+    while (1) { putchar('a' + n % 26); n = n + 1; if (n % 60 == 0) putchar('\\n'); }
+    return 0;
+}
+"""
+RECURSION = "int f(int n) { return f(n + 1) + 1; }\nint main() { return f(0); }\n"
 # moments.mjs: at least so many moments are looked at, or else for so many seconds
 LEAST_MOMENTS, LONGEST_LOOK = 12, 30
 
@@ -47,6 +55,28 @@ def steps_are_a_limit(page):
     page.get("(document.getElementById('steps').value = 4294967295, 1)")
 
 
+def a_flood_leaves_the_page_alive(page):
+    page.source(FLOOD)
+    page.state("Accepted")
+    page.run()
+    page.until("document.querySelector('pre.output').innerText.length >= 100000", "as much output as is shown")
+    page.click("#stop")
+    page.ended("You stopped it")
+    text = page.text("pre.output")
+    assert "more, which isn't shown" in text and len(text) < 110000, f"{len(text)} characters, at the end {text[-40:]}"
+
+
+def a_lack_is_told_in_words(page):
+    page.tab("output")
+    page.source(RECURSION)
+    page.state("Accepted")
+    page.run()
+    page.ended("More stack pages may help")
+    assert "call of f, at line 1, column 23, 64 times" in page.text(".calls"), page.text(".calls")
+    assert page.text("pre.output") == "Nothing was written.", page.text("pre.output")
+    page.shot("exhausted")
+
+
 def meaning_agrees(page):
     page.choose("#example", "examples/queens.cyc")
     page.state("Accepted")
@@ -69,6 +99,8 @@ def instructions_are_lit(page):
     page.until("document.querySelectorAll('table.code tr.lit').length > 0", "the line's instructions are lit")
     assert page.get("[...document.querySelectorAll('table.code tr.lit')].some(it => it.innerText.includes('call of show'))"), "the call is lit"
     page.shot("instructions")
+    page.tab("output")
+    assert page.get("document.querySelectorAll('#editor .line.lit').length") == 0, "no line stays lit"
 
 
 def memory_is_a_picture(page):
@@ -97,7 +129,7 @@ def a_lesson_is_gone_through(page):
     page.press_button("Load examples/tutorial_request.cyc")
     page.state("Accepted")
     page.run()
-    page.ended("main gave 0")
+    page.ended("main returned 0")
     assert page.text("pre.output").split("\n")[0].strip() == "three two one", page.text("pre.output")
     page.press_button("Load the rejected source")
     page.state("1 fault")
@@ -109,43 +141,59 @@ def a_lesson_is_gone_through(page):
 
 
 def an_outlives_is_mended(page):
-    """What a newcomer does: opens the page, looks at the fault, goes to it, and mends it by the keyboard as the words say."""
+    """What a newcomer does by the mouse and keys alone: opens the page, looks at the fault, goes to it, mends it as the page says, and runs it."""
     page.open()
     page.state("Accepted")
-    page.point_at("#guide button", "Show me a pointer that outlives its region")
+    page.point_at("#guide button", "Show a pointer that is rejected")
     page.state("1 fault")
     words = page.text(".beside")
     assert words.startswith("Outlives") and "has to outlive" in words, words
+    told = page.value().split("\n")
+    assert "int *p" in told[1] and "p = rnew" in told[4], "the lines that the page names"
     page.shot("newcomer_fault")
     page.point_at("#faults li button.link", "line 4")
-    assert page.value()[page.get("document.getElementById('source').selectionStart"):].startswith("`r"), "the words lead to the region"
+    page.stands_at("`r", "the words lead to the region")
     page.point_at("#faults li button", "Outlives")
-    assert page.value()[page.get("document.getElementById('source').selectionStart"):].startswith("rnew"), "the click goes to the fault"
+    page.stands_at("rnew", "the click goes to the fault")
     page.shot("newcomer_at_it")
-    for old, new in (("int *p = NULL", "int n = 0"), ("p = rnew(h) 3;", "int *`r p = rnew(h) 3;\nn = *p;"), ("return *p", "return n")):
-        at = page.value().rindex(old)
-        page.cursor(at, at + len(old))
-        page.type(new)
+    page.select_line(2)
+    page.type("    int n = 0;")
+    page.until("document.querySelector('.beside')?.innerText.includes('p is unknown')", "the next fault")
+    page.select_line(5)
+    page.type("        int *`r p = rnew(h) 3;\nn = *p;")
+    page.until("document.querySelector('.beside')?.dataset.line === '8'", "the fault of the last line")
+    page.shot("newcomer_at_last_line")
+    page.point_into(8, 14)
+    for key in ("Backspace", "Backspace", "n"):
+        page.used.press(key)
     page.state("Accepted")
     assert page.get("document.querySelector('.beside')") is None, "the words are gone"
-    page.point_at("#run", "Run")
-    page.ended("main gave 3")
+    page.used.press("Enter", control=True)
+    page.ended("main returned 3")
     page.shot("newcomer_mended")
 
 
-def dark_states(page):
-    page.used.scheme("dark")
-    page.choose("#example", "examples/tutorial_service.cyc")
-    page.state("Accepted")
-    page.run()
-    page.ended("The program ended by itself")
-    page.tab("memory")
-    page.pictured()
-    page.shot("dark_memory")
-    page.tab("output")
-    page.source(RAISE)
-    page.state("Accepted")
-    page.run()
-    page.ended("an index is outside")
-    page.shot("dark_raise")
+def states_are_light_and_dark(page):
+    for scheme in ("light", "dark"):
+        page.used.scheme(scheme)
+        page.choose("#example", "examples/tutorial_service.cyc")
+        page.state("Accepted")
+        page.run()
+        page.ended("The program ended by itself")
+        page.check_contrast(f"{scheme}, ended")
+        page.tab("memory")
+        page.pictured()
+        page.check_contrast(f"{scheme}, memory")
+        page.shot(f"{scheme}_memory")
+        page.tab("instructions")
+        page.until("document.querySelectorAll('table.code tr').length > 50", "the instructions")
+        page.cursor(page.value().index("main("))
+        page.check_contrast(f"{scheme}, instructions")
+        page.tab("output")
+        page.source(RAISE)
+        page.state("Accepted")
+        page.run()
+        page.ended("an index is outside")
+        page.check_contrast(f"{scheme}, raised")
+        page.shot(f"{scheme}_raise")
     page.used.scheme("light")

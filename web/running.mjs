@@ -1,23 +1,25 @@
 // Runs the program: its output as it comes, how it ended, and where.
 import { inWords, partsOf } from "./endings.mjs";
 import { made } from "./markdown.mjs";
+import { Output } from "./output.mjs";
 import { Stopped } from "./program.mjs";
 
-/** The most characters of output that are shown. */
-const SHOWN = 400000;
+/** The places in their order, of which those that are the same and stand one behind the other are one, with their count. */
+function counted(places) {
+    const found = [];
+    for (const it of places) {
+        const last = found.at(-1);
+        if (last && last.line === it.line && last.column === it.column && last.words === it.words) last.count++;
+        else found.push({ ...it, count: 1 });
+    }
+    return found;
+}
 
 export class Running {
     constructor(root, editor, program, options) {
         Object.assign(this, { root, editor, program, options, isRunning: false, told: () => {}, ended: () => {} });
         const part = (name) => root.querySelector(name);
-        Object.assign(this, { banner: part(".ending"), calls: part(".calls"), output: part(".output") });
-    }
-
-    put(bytes) {
-        if (this.output.textContent.length > SHOWN) return;
-        const text = this.decoder.decode(bytes, { stream: true });
-        this.output.append(text);
-        this.output.scrollTop = this.output.scrollHeight;
+        Object.assign(this, { banner: part(".ending"), calls: part(".calls"), output: new Output(part(".output")) });
     }
 
     say(kind, ...words) {
@@ -34,8 +36,7 @@ export class Running {
     }
 
     clear() {
-        this.decoder = new TextDecoder();
-        this.output.replaceChildren();
+        this.output.clear();
         this.calls.replaceChildren();
         this.editor.setLines(new Map());
         this.say("plain", "Running. Stop ends it.");
@@ -49,7 +50,7 @@ export class Running {
         const { files, input, words } = this.options();
         const began = performance.now();
         try {
-            const done = await this.program.ask({ words: ["run", "program.cyc", ...words], files, input }, (bytes) => this.put(bytes));
+            const done = await this.program.ask({ words: ["run", "program.cyc", ...words], files, input }, (bytes) => this.output.put(bytes));
             this.show(done, (performance.now() - began) / 1000);
         } catch (error) {
             this.stopped(error, (performance.now() - began) / 1000);
@@ -63,6 +64,7 @@ export class Running {
     }
 
     stopped(error, seconds) {
+        this.output.end();
         if (error instanceof Stopped) this.say("warn", `You stopped it, after ${seconds.toFixed(1)} seconds.`);
         else this.say("bad", error.message);
         this.ended(null);
@@ -75,10 +77,10 @@ export class Running {
             this.ended(null);
             return;
         }
-        const { kind, words } = inWords(found.ending);
+        const { kind, words } = inWords(found);
         const time = made("span", { className: "quiet" }, ` ${found.ending}, status ${done.status}, ${seconds.toFixed(2)} s`);
         this.say(kind, words, time);
-        if (done.left) this.output.append(`\n.. and ${done.left.toLocaleString("en")} bytes more, which are not shown\n`);
+        this.output.end(done.left);
         this.showPlaces(found, kind);
         this.ended({ ...found, done });
     }
@@ -91,7 +93,7 @@ export class Running {
         for (const it of isRaise ? calls : found.places) lines.set(it.line, "called");
         if (isRaise) lines.set(first.line, "stopped");
         this.editor.setLines(lines);
-        const rows = found.places.map((it, index) => this.place(it, index === 0 && isRaise));
+        const rows = counted(found.places).map((it, index) => this.place(it, index === 0 && isRaise));
         for (const it of found.notes) rows.unshift(made("li", {}, it));
         if (found.more) rows.push(made("li", {}, `and ${found.more} calls more`));
         const head = kind === "bad" ? "Where it stopped, and the calls that led there" : "Where it was";
@@ -99,7 +101,8 @@ export class Running {
     }
 
     place(it, isRaise) {
-        const button = made("button", { type: "button" }, isRaise ? "stopped at " : `${it.words}, at `, `line ${it.line}, column ${it.column}`);
+        const times = it.count > 1 ? `, ${it.count} times` : "", before = isRaise ? "stopped at " : `${it.words}, at `;
+        const button = made("button", { type: "button" }, `${before}line ${it.line}, column ${it.column}${times}`);
         button.addEventListener("click", () => this.editor.go(it.line, it.column));
         return made("li", {}, button);
     }

@@ -5,12 +5,14 @@ ghost use Rattle.cyc_tree.specs.View.{expression_tree};
 ghost use Rattle.source_meaning.specs.Expressions.{is_unique_region};
 ghost use Rattle.source_typing.specs.Making.{array_made, handled, made};
 ghost use Rattle.source_typing.specs.Scope.{Env};
+ghost use Rattle.source_typing.specs.Types.{is_integer, is_makeable};
 ghost use Rattle.check_faults.specs.Verdicts.{short_both, short_of, shortened};
 ghost use Rattle.check_scopes.specs.Knows.{Sees};
 ghost use Rattle.check_operators.specs.Goals.{goal_in};
 ghost use Rattle.check_operators.specs.Values.{value_of};
 ghost use Rattle.check_calls.specs.Enclosings.{enclosing_of};
-ghost use Rattle.check_expressions.specs.Goals.{both_values, enclosed_short, is_refused_alone, short_array, short_goal, with_short_goal};
+ghost use Rattle.check_expressions.specs.Goals.{any_misfits, both_values, enclosed_short, is_short_no_handle, is_short_no_place, is_short_other};
+ghost use Rattle.check_expressions.specs.Goals.{short_array, short_by_parts, short_goal, short_one};
 
 use crate::parts::refused;
 use check_calls::Enclosing;
@@ -56,14 +58,57 @@ pub(crate) fn enclosing_by(goal: &Verdict<Goal>) -> Enclosing
     }
 }
 
-/// Whether what should be a handle is none, and what is made there isn't judged.
-fn is_refused_alone<T>(goal: &Verdict<Goal>, made: &Verdict<T>) -> bool
-    ensures { result ≡ is_refused_alone (short_of goal_in goal.now) (short_of (λ x. x) made.now) }
+/// Whether what should be a handle is none.
+fn is_no_handle(goal: &Verdict<Goal>) -> bool
+    ensures { result ≡ is_short_no_handle (short_of goal_in goal.now) }
 {
-    matches!(
-        (goal, made),
-        (Verdict::Of(Goal::NoHandle), Verdict::NotJudged)
-    )
+    matches!(goal, Verdict::Of(Goal::NoHandle))
+}
+
+/// Whether no array is made there: in the unique region, and by a handle that is none.
+fn is_no_place_of_arrays(goal: &Verdict<Goal>) -> bool
+    ensures { result ≡ is_short_no_place (short_of goal_in goal.now) }
+{
+    matches!(goal, Verdict::Of(Goal::ToUnique | Goal::NoHandle))
+}
+
+/// Whether a value is of a type that isn't made.
+fn is_unmakeable(value: &Verdict<Value>) -> bool
+    ensures { result ≡ is_short_other is_makeable (short_of value_of value.now) }
+{
+    match value {
+        Verdict::Of(value) => !value.of.is_makeable(),
+        _ => false,
+    }
+}
+
+/// Whether a value is no integer.
+fn is_no_integer(value: &Verdict<Value>) -> bool
+    ensures { result ≡ is_short_other is_integer (short_of value_of value.now) }
+{
+    match value {
+        Verdict::Of(value) => !value.of.is_integer(),
+        _ => false,
+    }
+}
+
+/// Whether a part of an array that is known is of no array that is made.
+fn any_misfits(goal: &Verdict<Goal>, count: &Verdict<Value>, element: &Verdict<Value>) -> bool
+    ensures { result ≡ any_misfits (short_of goal_in goal.now) (short_of value_of count.now) (short_of value_of element.now) }
+{
+    is_no_place_of_arrays(goal) || is_no_integer(count) || is_unmakeable(element)
+}
+
+/// What is answered of a making that isn't judged, since a part of it isn't: it is at fault where a part that is known is of no such making.
+fn by_parts<'p>(at: u32, misfits: bool, made: Verdict<Value<'p>>) -> Verdict<Value<'p>>
+    ensures { short_of value_of result ≡ short_by_parts at misfits (short_of value_of made.entry) }
+{
+    match made {
+        Verdict::Of(value) => Verdict::Of(value),
+        Verdict::Wrong(fault) => Verdict::Wrong(fault),
+        Verdict::NotJudged if misfits => refused(at),
+        Verdict::NotJudged => Verdict::NotJudged,
+    }
 }
 
 /// Where a value is made, and what it is.
@@ -83,22 +128,18 @@ fn made_both<'p>(
     }
 }
 
-/// What is made of a value, by where it is made and what it is. What should be a handle and is none is at fault here, whether or not
-/// the value is judged.
-#[tactic(auto, using(crate::proofs::Makings::with_refused, crate::proofs::Makings::with_judged))]
+/// What is made of a value, by where it is made and what it is. A part of these that is known and is of no making is at fault here, whether or
+/// not the other one is judged.
 pub fn made_parts<'p>(
     at: u32,
     goal: Verdict<Goal>,
     value: Verdict<Value<'p>>,
 ) -> Result<Verdict<Value<'p>>, AllocError>
-    ensures { IfOk result (λ v. short_of value_of v
-        ≡ with_short_goal at (short_of goal_in goal) (short_of value_of value.entry) (λ a b. shortened (made at a b))) }
+    ensures { IfOk result (λ v. short_of value_of v ≡ short_one at (short_of goal_in goal) (short_of value_of value.entry)) }
 {
-    if is_refused_alone(&goal, &value) {
-        Ok(refused(at))
-    } else {
-        made_both(at, goal, value)
-    }
+    let misfits = is_no_handle(&goal) || is_unmakeable(&value);
+    let made = made_both(at, goal, value)?;
+    Ok(by_parts(at, misfits, made))
 }
 
 /// Where an array is made, and what its count and element are.
@@ -118,9 +159,8 @@ fn array_both<'p>(
     }
 }
 
-/// An array that is made, by where it is made and what its count and element are. What should be a handle and is none is at fault here,
-/// whether or not these are judged.
-#[tactic(auto, using(crate::proofs::Makings::array_refused))]
+/// An array that is made, by where it is made and what its count and element are. A part of these that is known and is of no such making is
+/// at fault here, whether or not the others are judged.
 pub fn array_parts<'p>(
     at: u32,
     goal: Verdict<Goal>,
@@ -130,10 +170,7 @@ pub fn array_parts<'p>(
     ensures { IfOk result (λ v. short_of value_of v
         ≡ short_array at (short_of goal_in goal) (short_of value_of count.entry) (short_of value_of element.entry)) }
 {
-    let elements = count.paired(element);
-    if is_refused_alone(&goal, &elements) {
-        Ok(refused(at))
-    } else {
-        array_both(at, goal, elements)
-    }
+    let misfits = any_misfits(&goal, &count, &element);
+    let made = array_both(at, goal, count.paired(element))?;
+    Ok(by_parts(at, misfits, made))
 }

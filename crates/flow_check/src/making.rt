@@ -1,11 +1,10 @@
 // Allocations: their verdicts and summaries from those of their parts.
 
 ghost use Rattle.std.specs.Prelude.{◌≡◌, IfOk};
-ghost use Rattle.source_typing.specs.Making.{made};
-ghost use Rattle.check_faults.specs.Verdicts.{short_of, shortened};
+ghost use Rattle.check_faults.specs.Verdicts.{short_of};
 ghost use Rattle.check_operators.specs.Goals.{goal_in};
 ghost use Rattle.check_operators.specs.Values.{value_of};
-ghost use Rattle.check_expressions.specs.Goals.{short_array, with_short_goal};
+ghost use Rattle.check_expressions.specs.Goals.{short_array, short_one};
 ghost use Rattle.flow_summaries.specs.Passages.{in_turn, repeated};
 ghost use Rattle.flow_summaries.specs.Uses.{uses_as_value};
 ghost use Rattle.flow_effects.specs.Passed.{passage_of};
@@ -27,7 +26,7 @@ pub(crate) fn made_one<'p>(
     value: Seen<'p>,
 ) -> Result<Seen<'p>, AllocError>
     ensures { (how : TheUsage) → IfOk result (IsSeen how
-        (with_short_goal at (short_of goal_in goal) (short_of value_of value.entry.judged) (λ a b. shortened (made at a b)))
+        (short_one at (short_of goal_in goal) (short_of value_of value.entry.judged))
         (uses_as_value (in_turn (passage_of handle) (passage_of value.entry.used.passed)))) }
 {
     let judged = made_parts(at, goal, value.judged)?;

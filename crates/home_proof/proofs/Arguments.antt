@@ -202,13 +202,13 @@ module _ (w : World) where
         let z = suffixes_first g (judge g e) es v p in (enough_is g fit e z.0 z.1, suffixes_enough g fit es (judge g e) v p)
     enough_is g fit (Expression.Prefixed at o e) v p = let z = prefix_is g at o e v p in enough_is g fit e z.0 z.1
     enough_is g fit (Expression.New at (One e)) v p =
-        let z = goal_is at (Of (To TheHeap)) (judge g e) (made at) v p in enough_is g fit e z.1 z.3
+        let z = goal_is at (Of (To TheHeap)) (judge g e) v p in enough_is g fit e z.1 z.3
     enough_is g fit (Expression.New at (Array x n e)) v p =
         let z = array_is at (Of (To TheHeap)) (judge g n) (judge (with_counter x g) e) v p in
         (enough_is g fit n z.1 z.4, enough_is (with_counter x g) fit e z.2 z.5)
     enough_is g fit (Expression.NewIn at h (One e)) v p =
         let goal : Verdict Goal = goal_of (is_unique_region h) g (judge g h) in
-        let z = goal_is at goal (judge (inside goal g) e) (made at) v p in (
+        let z = goal_is at goal (judge (inside goal g) e) v p in (
           handle_enough g h (is_unique_region h) z.0 refl z.2 (λ y q. enough_is g fit h y q),
           enough_is (inside goal g) fit e z.1 z.3,
         )

@@ -1,5 +1,5 @@
 -- An expression in which the rules find no fault is the same without those on live regions.
-use Rattle.std.proofs.Common.{ℕ, refl, sym, subst}
+use Rattle.std.proofs.Common.{ℕ, Bool, refl, sym, subst}
 use Rattle.cyc_tree.specs.Tree as tree
 use Rattle.cyc_tree.specs.Tree.{
   Array,
@@ -22,15 +22,16 @@ use Rattle.source_meaning.specs.Expressions.{is_unique_region}
 use Rattle.source_typing.specs.Calls.{called, target, union_made, union_tag}
 use Rattle.source_typing.specs.Expressions.{judge, judge_all, judge_links, judge_made, judge_made_in, judge_suffixes, judge_tests}
 use Rattle.source_typing.specs.Fixing.{more}
-use Rattle.source_typing.specs.Making.{Goal, To, array_made, elements, goal_of, inside, made, with_counter}
+use Rattle.source_typing.specs.Making.{Goal, To, array_made, array_misfits, elements, goal_of, inside, is_other, made, with_counter}
 use Rattle.source_typing.specs.Operators.{applied, counted, prefixed, string, tested_both}
 use Rattle.source_typing.specs.Places.{arrow, assigned, grouped, indexed, member, variable}
 use Rattle.source_typing.specs.Regions.{TheHeap}
 use Rattle.source_typing.specs.Scope.{Env, Value, meant}
+use Rattle.source_typing.specs.Types.{is_makeable}
 use Rattle.source_typing.specs.Verdicts.{Faulty, Of, Unjudged, Verdict, after, both}
 use Rattle.region_types.proofs.EasedForms.{applied_stays, arrow_stays, assigned_stays, called_stays, goal_stays, indexed_stays, member_stays}
 use Rattle.region_types.proofs.EasedForms.{prefixed_stays, union_stays}
-use Rattle.region_types.proofs.EasedPhrases.{Stays, eased, stays_after, stays_both, stays_made, stays_same, wrong_goal}
+use Rattle.region_types.proofs.EasedPhrases.{Stays, eased, stays_after, stays_array, stays_both, stays_made, stays_same, wrong_goal}
 
 -- an expression that stays in each scope
 abbrev StaysEverywhere : Expression → Type 0
@@ -42,34 +43,32 @@ one_in_stays : (e : Expression) → StaysEverywhere e → (g : Env) (at : ℕ) (
 one_in_stays e each g at goal other s = by goal s
   where
     there : (k : Verdict Goal) → Stays (judge_made_in g at k (One e)) (judge_made_in (eased g) at k (One e))
-    there k = stays_made at k (judge (inside k g) e) (judge (eased (inside k g)) e) (made at) (each (inside k g))
+    there k = stays_made at k (judge (inside k g) e) (judge (eased (inside k g)) e) (each (inside k g))
 
     by : (k : Verdict Goal) → Stays k other → Stays (judge_made_in g at k (One e)) (judge_made_in (eased g) at other (One e))
-    by (Faulty f fs) r = wrong_goal at f fs (judge (inside (Faulty f fs) g) e) (made at) (judge_made_in (eased g) at other (One e))
+    by (Faulty f fs) r =
+        let v : Verdict Value = judge (inside (Faulty f fs) g) e in
+        wrong_goal at (is_other is_makeable v) f fs v (made at) (judge_made_in (eased g) at other (One e))
     by Unjudged r = subst (λ k. Stays (judge_made_in g at Unjudged (One e)) (judge_made_in (eased g) at k (One e))) (sym r) (there Unjudged)
     by (Of a) r = subst (λ k. Stays (judge_made_in g at (Of a) (One e)) (judge_made_in (eased g) at k (One e))) (sym r) (there (Of a))
 
 -- and of so many
-elements_stay : (x : tree.Name) (n e : Expression) → StaysEverywhere n → StaysEverywhere e → (f : Env)
-    → Stays (both (judge f n) (judge (with_counter x f) e) elements) (both (judge (eased f) n) (judge (with_counter x (eased f)) e) elements)
-elements_stay x n e count each f =
-    stays_both (judge f n) (judge (eased f) n) (judge (with_counter x f) e) (judge (eased (with_counter x f)) e) elements elements
-    (count f) (each (with_counter x f)) (λ a b. stays_same (elements a b))
-
 array_in_stays : (x : tree.Name) (n e : Expression) → StaysEverywhere n → StaysEverywhere e → (g : Env) (at : ℕ) (goal other : Verdict Goal)
     → Stays goal other → Stays (judge_made_in g at goal (Array x n e)) (judge_made_in (eased g) at other (Array x n e))
 array_in_stays x n e count each g at goal other s = by goal s
   where
-    elements_in : Env → Verdict (Value × Value)
-    elements_in f = both (judge f n) (judge (with_counter x f) e) elements
-
     there : (k : Verdict Goal) → Stays (judge_made_in g at k (Array x n e)) (judge_made_in (eased g) at k (Array x n e))
     there k =
-        stays_made at k (elements_in (inside k g)) (elements_in (eased (inside k g))) (array_made at) (elements_stay x n e count each (inside k g))
+        let f : Env = inside k g in
+        stays_array at k (judge f n) (judge (eased f) n) (judge (with_counter x f) e) (judge (eased (with_counter x f)) e)
+        (count f) (each (with_counter x f))
 
     by : (k : Verdict Goal) → Stays k other → Stays (judge_made_in g at k (Array x n e)) (judge_made_in (eased g) at other (Array x n e))
     by (Faulty f fs) r =
-        wrong_goal at f fs (elements_in (inside (Faulty f fs) g)) (array_made at) (judge_made_in (eased g) at other (Array x n e))
+        let inner : Env = inside (Faulty f fs) g in
+        let v : Verdict Value = judge inner n in
+        let w : Verdict Value = judge (with_counter x inner) e in
+        wrong_goal at (array_misfits (Faulty f fs) v w) f fs (both v w elements) (array_made at) (judge_made_in (eased g) at other (Array x n e))
     by Unjudged r =
         subst (λ k. Stays (judge_made_in g at Unjudged (Array x n e)) (judge_made_in (eased g) at k (Array x n e))) (sym r) (there Unjudged)
     by (Of a) r = subst (λ k. Stays (judge_made_in g at (Of a) (Array x n e)) (judge_made_in (eased g) at k (Array x n e))) (sym r) (there (Of a))
@@ -137,11 +136,10 @@ mutual
       suffixes_stay es g (after v (arrow g f)) (after w (arrow (eased g) f)) (stays_after v w (arrow g f) (arrow (eased g) f) s (λ a. arrow_stays g f a))
 
   made_stays : (new : Made) (g : Env) (at : ℕ) (goal : Verdict Goal) → Stays (judge_made g at goal new) (judge_made (eased g) at goal new)
-  made_stays (One e) g at goal = stays_made at goal (judge g e) (judge (eased g) e) (made at) (judge_stays e g)
+  made_stays (One e) g at goal = stays_made at goal (judge g e) (judge (eased g) e) (judge_stays e g)
   made_stays (Array x n e) g at goal =
-      stays_made at goal (both (judge g n) (judge (with_counter x g) e) elements)
-      (both (judge (eased g) n) (judge (with_counter x (eased g)) e) elements) (array_made at)
-      (elements_stay x n e (λ f. judge_stays n f) (λ f. judge_stays e f) g)
+      stays_array at goal (judge g n) (judge (eased g) n) (judge (with_counter x g) e) (judge (eased (with_counter x g)) e)
+      (judge_stays n g) (judge_stays e (with_counter x g))
 
   made_in_stays : (new : Made) (g : Env) (at : ℕ) (goal other : Verdict Goal) → Stays goal other
       → Stays (judge_made_in g at goal new) (judge_made_in (eased g) at other new)

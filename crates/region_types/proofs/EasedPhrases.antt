@@ -1,7 +1,8 @@
 -- A phrase in which the rules find no fault is the same without those on live regions.
-use Rattle.std.proofs.Common.{◌≡◌, ℕ, true, List, [], ◌∷◌, refl, sym, subst, ap, ap₂}
+use Rattle.std.proofs.Common.{◌≡◌, ℕ, Bool, true, false, List, [], ◌∷◌, refl, sym, subst, ap, ap₂}
+use Rattle.std.specs.Prelude.{◌||◌, ◌++◌}
 use Rattle.source_typing.specs.Faults.{Fault, own_after}
-use Rattle.source_typing.specs.Making.{Goal, NoHandle, To, ToUnique, with_goal}
+use Rattle.source_typing.specs.Making.{Goal, array_made, array_misfits, array_of, by_parts, is_no_handle, made, made_of}
 use Rattle.source_typing.specs.Scope.{Env, Value}
 use Rattle.source_typing.specs.Verdicts.{Faulty, Of, Unjudged, Verdict, after, both, faults_of, unless_faulty}
 
@@ -58,26 +59,53 @@ stays_unless (f ∷ fs) gs v w none s = tt
 
 -- ---- making
 
-wrong_operand : {A : Type 0} (at : ℕ) (goal : Verdict Goal) (f : Fault) (fs : List Fault) (rule : Goal → A → Verdict Value) (w : Verdict Value)
-    → Stays (with_goal at goal (Faulty f fs) rule) w
-wrong_operand at (Faulty g gs) f fs rule w = tt
-wrong_operand at Unjudged f fs rule w = tt
-wrong_operand at (Of NoHandle) f fs rule w = tt
-wrong_operand at (Of (To r)) f fs rule w = tt
-wrong_operand at (Of ToUnique) f fs rule w = tt
+stays_parts : (at : ℕ) (misfits : Bool) (v w : Verdict Value) → Stays v w → Stays (by_parts at misfits v) (by_parts at misfits w)
+stays_parts at misfits (Faulty f fs) w s = tt
+stays_parts at misfits Unjudged w s = stays_of (by_parts at misfits Unjudged) (by_parts at misfits w) (ap (by_parts at misfits) s)
+stays_parts at misfits (Of a) w s = stays_of (by_parts at misfits (Of a)) (by_parts at misfits w) (ap (by_parts at misfits) s)
 
-pub wrong_goal : {A : Type 0} (at : ℕ) (f : Fault) (fs : List Fault) (v : Verdict A) (rule : Goal → A → Verdict Value) (w : Verdict Value)
-    → Stays (with_goal at (Faulty f fs) v rule) w
-wrong_goal at f fs (Faulty g gs) rule w = tt
-wrong_goal at f fs Unjudged rule w = tt
-wrong_goal at f fs (Of a) rule w = tt
+faulty_parts : {A : Type 0} (at : ℕ) (misfits : Bool) (goal : Verdict Goal) (f : Fault) (fs : List Fault) (rule : Goal → A → Verdict Value)
+    (w : Verdict Value) → Stays (by_parts at misfits (both goal (Faulty f fs) rule)) w
+faulty_parts at misfits (Faulty g gs) f fs rule w = tt
+faulty_parts at misfits Unjudged f fs rule w = tt
+faulty_parts at misfits (Of x) f fs rule w = tt
+
+pub wrong_goal : {A : Type 0} (at : ℕ) (misfits : Bool) (f : Fault) (fs : List Fault) (v : Verdict A) (rule : Goal → A → Verdict Value) (w : Verdict Value)
+    → Stays (by_parts at misfits (both (Faulty f fs) v rule)) w
+wrong_goal at misfits f fs (Faulty g gs) rule w = tt
+wrong_goal at misfits f fs Unjudged rule w = tt
+wrong_goal at misfits f fs (Of a) rule w = tt
 
 -- by an operand that stays
-pub stays_made : {A : Type 0} (at : ℕ) (goal : Verdict Goal) (v w : Verdict A) (rule : Goal → A → Verdict Value) → Stays v w
-    → Stays (with_goal at goal v rule) (with_goal at goal w rule)
-stays_made at goal (Faulty f fs) w rule s = wrong_operand at goal f fs rule (with_goal at goal w rule)
-stays_made at goal Unjudged w rule s = stays_of (with_goal at goal Unjudged rule) (with_goal at goal w rule) (ap (λ x. with_goal at goal x rule) s)
-stays_made at goal (Of a) w rule s = stays_of (with_goal at goal (Of a) rule) (with_goal at goal w rule) (ap (λ x. with_goal at goal x rule) s)
+pub stays_made : (at : ℕ) (goal : Verdict Goal) (v w : Verdict Value) → Stays v w → Stays (made_of at goal v) (made_of at goal w)
+stays_made at goal (Faulty f fs) w s = faulty_parts at (is_no_handle goal || false) goal f fs (made at) (made_of at goal w)
+stays_made at goal Unjudged w s = stays_of (made_of at goal Unjudged) (made_of at goal w) (ap (made_of at goal) s)
+stays_made at goal (Of a) w s = stays_of (made_of at goal (Of a)) (made_of at goal w) (ap (made_of at goal) s)
+
+-- by a count and an element that stay
+faulty_element : (at : ℕ) (goal : Verdict Goal) (n : Verdict Value) (f : Fault) (fs : List Fault) (w : Verdict Value)
+    → Stays (array_of at goal n (Faulty f fs)) w
+faulty_element at goal (Faulty c cs) f fs w = faulty_parts at (array_misfits goal (Faulty c cs) (Faulty f fs)) goal c (cs ++ f ∷ fs) (array_made at) w
+faulty_element at goal Unjudged f fs w = faulty_parts at (array_misfits goal Unjudged (Faulty f fs)) goal f fs (array_made at) w
+faulty_element at goal (Of c) f fs w = faulty_parts at (array_misfits goal (Of c) (Faulty f fs)) goal f fs (array_made at) w
+
+faulty_count : (at : ℕ) (goal : Verdict Goal) (f : Fault) (fs : List Fault) (e w : Verdict Value) → Stays (array_of at goal (Faulty f fs) e) w
+faulty_count at goal f fs (Faulty c cs) w = faulty_parts at (array_misfits goal (Faulty f fs) (Faulty c cs)) goal f (fs ++ c ∷ cs) (array_made at) w
+faulty_count at goal f fs Unjudged w = faulty_parts at (array_misfits goal (Faulty f fs) Unjudged) goal f fs (array_made at) w
+faulty_count at goal f fs (Of c) w = faulty_parts at (array_misfits goal (Faulty f fs) (Of c)) goal f fs (array_made at) w
+
+array_same : (at : ℕ) (goal : Verdict Goal) (n m e x : Verdict Value) → m ≡ n → x ≡ e → Stays (array_of at goal n e) (array_of at goal m x)
+array_same at goal n m e x p q = stays_of (array_of at goal n e) (array_of at goal m x) (ap₂ (array_of at goal) p q)
+
+pub stays_array : (at : ℕ) (goal : Verdict Goal) (n m e x : Verdict Value) → Stays n m → Stays e x
+    → Stays (array_of at goal n e) (array_of at goal m x)
+stays_array at goal (Faulty f fs) m e x s t = faulty_count at goal f fs e (array_of at goal m x)
+stays_array at goal Unjudged m (Faulty f fs) x s t = faulty_element at goal Unjudged f fs (array_of at goal m x)
+stays_array at goal Unjudged m Unjudged x s t = array_same at goal Unjudged m Unjudged x s t
+stays_array at goal Unjudged m (Of b) x s t = array_same at goal Unjudged m (Of b) x s t
+stays_array at goal (Of a) m (Faulty f fs) x s t = faulty_element at goal (Of a) f fs (array_of at goal m x)
+stays_array at goal (Of a) m Unjudged x s t = array_same at goal (Of a) m Unjudged x s t
+stays_array at goal (Of a) m (Of b) x s t = array_same at goal (Of a) m (Of b) x s t
 
 -- ---- lists of faults
 

@@ -3,7 +3,7 @@ use Rattle.std.proofs.Common.{◌≡◌, ℕ, Bool, true, false, Option, Some, N
 use Rattle.std.proofs.lemmas.Bool.{eqb-true, and_parts}
 use Rattle.std.proofs.lemmas.Slice.Eq.{bytes_eq-Decides}
 use Rattle.std.specs.Prelude.{bytes_eq, nat_le}
-use Rattle.source_meaning.specs.Shapes.{count_of, Reach, MayBeNull, NeverNull, same_bound, single}
+use Rattle.source_meaning.specs.Shapes.{count_of, MayBeNull, NeverNull, same_bound, single}
 use Rattle.source_typing.specs.Faults.{region_rule, outlives_rule}
 use Rattle.source_typing.specs.Regions.{Region, TheHeap, Level, same_id, Regions}
 use Rattle.source_typing.specs.Types.{StaticType, Int, Unsigned, Char, Void, Null, Thin, Fat, Unique, Handle, Key, Struct, Union, is_integer}

@@ -1,6 +1,6 @@
 -- What a phrase without fault says of its parts.
 use Rattle.std.proofs.Common.{◌≡◌, ℕ, Bool, true, false, List, [], ◌∷◌, refl, sym, subst}
-use Rattle.std.specs.Prelude.{None, Option, Some, not, ◌++◌}
+use Rattle.std.specs.Prelude.{None, Option, Some, not, ◌||◌, ◌++◌}
 use Rattle.cyc_tree.specs.declared.expression.Prefix.{Prefix}
 use Rattle.cyc_tree.specs.Tree as tree
 use Rattle.cyc_tree.specs.Tree.{Expression, Expressions, NoExpressions, MoreExpressions, Links, NoLinks, MoreLinks, Suffixes, NoSuffixes, Index, Dot, Arrow}
@@ -10,9 +10,10 @@ use Rattle.source_typing.specs.Statements.{items_faults}
 use Rattle.source_typing.specs.Tables.{Tables}
 use Rattle.source_typing.specs.Verdicts.{Verdict, Faulty, Unjudged, Of, faults_of, unless_faulty, after, both, if_fits}
 use Rattle.source_typing.specs.Scope.{Env, Value, meant}
+use Rattle.source_typing.specs.Types.{is_makeable}
 use Rattle.source_typing.specs.Places.{assigned, member, arrow, indexed}
 use Rattle.source_typing.specs.Operators.{prefixed, applied, tested_both}
-use Rattle.source_typing.specs.Making.{Goal, To, ToUnique, NoHandle, array_made, elements, with_goal}
+use Rattle.source_typing.specs.Making.{Goal, array_made, array_misfits, array_of, by_parts, elements, is_no_handle, is_other, made, made_of}
 use Rattle.source_typing.specs.Calls.{Target, target, called}
 use Rattle.source_typing.specs.Expressions.{judge, judge_all, judge_tests, judge_links, judge_suffixes}
 
@@ -116,23 +117,26 @@ suffixes_first g v (Dot f es) w p =
 suffixes_first g v (Arrow f es) w p =
     let z : (a : Value) × (after v (arrow g f) ≡ Of a) = suffixes_first g (after v (arrow g f)) es w p in first_of_one v (arrow g f) z.0 z.1
 
+-- what isn't judged is in order for no known part
+pub by_parts_is : (at : ℕ) (misfits : Bool) (v : Verdict Value) (w : Value) → by_parts at misfits v ≡ Of w → v ≡ Of w
+by_parts_is at misfits (Faulty f fs) w e = e
+by_parts_is at true Unjudged w e = absurd cc
+by_parts_is at false Unjudged w e = e
+by_parts_is at misfits (Of v) w e = e
+
 -- a making without fault has a goal and a value
-pub goal_is : {A : Type 0} (at : ℕ) (goal : Verdict Goal) (v : Verdict A) (rule : Goal → A → Verdict Value) (w : Value) → with_goal at goal v rule ≡ Of w
-    → (x : Goal) × (y : A) × (goal ≡ Of x) × (v ≡ Of y) × (rule x y ≡ Of w)
-goal_is at (Of NoHandle) Unjudged rule w e = absurd cc
-goal_is at (Of NoHandle) (Of a) rule w e = both_is (Of NoHandle) (Of a) rule w e
-goal_is at (Of NoHandle) (Faulty f fs) rule w e = absurd cc
-goal_is at (Of (To r)) v rule w e = both_is (Of (To r)) v rule w e
-goal_is at (Of ToUnique) v rule w e = both_is (Of ToUnique) v rule w e
-goal_is at (Faulty f fs) v rule w e = both_is (Faulty f fs) v rule w e
-goal_is at Unjudged v rule w e = both_is Unjudged v rule w e
+pub goal_is : (at : ℕ) (goal : Verdict Goal) (e : Verdict Value) (w : Value) → made_of at goal e ≡ Of w
+    → (x : Goal) × (y : Value) × (goal ≡ Of x) × (e ≡ Of y) × (made at x y ≡ Of w)
+goal_is at goal e w p =
+    both_is goal e (made at) w (by_parts_is at (is_no_handle goal || is_other is_makeable e) (both goal e (made at)) w p)
 
 -- and an array's making also a count
-pub array_is : (at : ℕ) (goal : Verdict Goal) (count e : Verdict Value) (w : Value) → with_goal at goal (both count e elements) (array_made at) ≡ Of w
+pub array_is : (at : ℕ) (goal : Verdict Goal) (count e : Verdict Value) (w : Value) → array_of at goal count e ≡ Of w
     → (x : Goal) × (c : Value) × (a : Value) × (goal ≡ Of x) × (count ≡ Of c) × (e ≡ Of a) × (array_made at x (c, a) ≡ Of w)
 array_is at goal count e w p =
     let z : (x : Goal) × (y : Value × Value) × (goal ≡ Of x) × (both count e elements ≡ Of y) × (array_made at x y ≡ Of w) =
-    goal_is at goal (both count e elements) (array_made at) w p in
+    both_is goal (both count e elements) (array_made at) w
+    (by_parts_is at (array_misfits goal count e) (both goal (both count e elements) (array_made at)) w p) in
     let y : (c : Value) × (a : Value) × (count ≡ Of c) × (e ≡ Of a) × (elements c a ≡ Of z.1) = both_is count e elements z.1 z.3 in
     (z.0, y.0, y.1, z.2, y.2, y.3, subst (λ (p : Value × Value). array_made at z.0 p ≡ Of w) (sym (of_is (y.0, y.1) z.1 y.4)) z.4)
 

@@ -24,6 +24,7 @@ mod ProgramSamples1
 mod ProgramSamples2
 mod MakingSamples1
 mod MakingSamples2
+mod KnownParts
 mod CopySamples1
 mod CopySamples2
 mod BoundSamples

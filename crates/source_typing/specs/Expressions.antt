@@ -7,7 +7,7 @@ use Rattle.source_meaning.specs.Expressions.{is_unique_region}
 use Rattle.source_typing.specs.Calls.{called, target, union_made, union_tag}
 use Rattle.source_typing.specs.Faults.{type_rule}
 use Rattle.source_typing.specs.Fixing.{more}
-use Rattle.source_typing.specs.Making.{Goal, To, array_made, elements, goal_of, inside, made, with_counter, with_goal}
+use Rattle.source_typing.specs.Making.{Goal, To, array_of, goal_of, inside, made_of, with_counter}
 use Rattle.source_typing.specs.Operators.{applied, counted, prefixed, string, tested_both}
 use Rattle.source_typing.specs.Places.{arrow, assigned, grouped, indexed, member, variable}
 use Rattle.source_typing.specs.Regions.{TheHeap}
@@ -60,11 +60,9 @@ abbrev mutual
   judge_suffixes g v (Arrow f others) = judge_suffixes g (after v (arrow g f)) others
 
   pub judge_made : Env → ℕ → Verdict Goal → Made → Verdict Value
-  judge_made g at goal (One e) = with_goal at goal (judge g e) (made at)
-  judge_made g at goal (Array index count e) =
-      with_goal at goal (both (judge g count) (judge (with_counter index g) e) elements) (array_made at)
+  judge_made g at goal (One e) = made_of at goal (judge g e)
+  judge_made g at goal (Array index count e) = array_of at goal (judge g count) (judge (with_counter index g) e)
 
   pub judge_made_in : Env → ℕ → Verdict Goal → Made → Verdict Value
-  judge_made_in g at goal (One e) = with_goal at goal (judge (inside goal g) e) (made at)
-  judge_made_in g at goal (Array index count e) =
-      with_goal at goal (both (judge (inside goal g) count) (judge (with_counter index (inside goal g)) e) elements) (array_made at)
+  judge_made_in g at goal (One e) = made_of at goal (judge (inside goal g) e)
+  judge_made_in g at goal (Array index count e) = array_of at goal (judge (inside goal g) count) (judge (with_counter index (inside goal g)) e)

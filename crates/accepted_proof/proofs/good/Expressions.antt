@@ -242,7 +242,7 @@ mutual
   expression_judged (Expression.New at (One e)) g good = made_there g at (To TheHeap) (judge g e) (expression_judged e g good) tt
   expression_judged (Expression.New at (Array x c e)) g good =
       let inner : Env = with_counter x g in
-      array_there g at (To TheHeap) (both (judge g c) (judge inner e) elements)
+      array_there g at (To TheHeap) (judge g c) (judge inner e)
       (elements_good g (judge g c) (judge inner e) (known_operand g (judge g c) (expression_judged c g good))
       (known_operand inner (judge inner e) (expression_judged e inner (good_counter x g good)))) tt
   expression_judged (Expression.NewIn at handle (One e)) g good =

@@ -5,12 +5,12 @@ use Rattle.source_meaning.specs.Shapes.{NeverNull}
 use Rattle.source_typing.specs.Expressions.{judge, judge_made_in}
 use Rattle.source_typing.specs.Faults.{Fault}
 use Rattle.source_typing.specs.Making.{Goal, NoHandle, To, ToUnique, array_made, array_to, elements, enclosed, goal_of, handled, handled_of, inside, live_goal, made}
-use Rattle.source_typing.specs.Making.{made_to, with_counter, with_goal}
+use Rattle.source_typing.specs.Making.{array_misfits, array_of, by_parts, is_other, made_of, made_to, with_counter}
 use Rattle.source_typing.specs.Regions.{Region}
 use Rattle.source_typing.specs.Scope.{Env, Nowhere, Value, is_live}
 use Rattle.source_typing.specs.Types.{Char, Fat, Handle, Int, Key, Null, StaticType, Struct, Thin, Union, Unique, Unsigned, Void, is_integer, is_makeable}
 use Rattle.source_typing.specs.Verdicts.{Faulty, Of, Unjudged, Verdict, both}
-use Rattle.std.specs.Prelude.{◌&&◌}
+use Rattle.std.specs.Prelude.{not, ◌&&◌}
 use Rattle.std.proofs.lemmas.Bool.{and_parts, false≢true}
 use Rattle.type_proof.specs.Entries.{IsObjectType}
 use Rattle.source_typing.specs.Named.{Below, TypeBelow}
@@ -75,38 +75,47 @@ module _ (g : Env) where
   handled_good at (Union tag rs) h = tt
 
   -- where the handle is none, or at fault, so is the making, whether or not its operand is judged
-  made_nowhere : (at : ℕ) (v : Verdict Value) → Surely (λ w. IsGoodValue g w) (with_goal at (Of NoHandle) v (made at))
+  surely_parts : (at : ℕ) (misfits : Bool) (v : Verdict Value) → Surely (λ w. IsGoodValue g w) v → Surely (λ w. IsGoodValue g w) (by_parts at misfits v)
+  surely_parts at misfits (Faulty f fs) h = tt
+  surely_parts at misfits Unjudged h = absurd h
+  surely_parts at misfits (Of v) h = h
+
+  made_nowhere : (at : ℕ) (v : Verdict Value) → Surely (λ w. IsGoodValue g w) (made_of at (Of NoHandle) v)
   made_nowhere at Unjudged = tt
   made_nowhere at (Faulty f fs) = tt
-  made_nowhere at (Of v) = surely_fits (λ w. IsGoodValue g w) (is_makeable v.type) at v.type (made_to at NoHandle) (λ e. tt)
+  made_nowhere at (Of v) =
+      surely_parts at true (made at NoHandle v)
+      (surely_fits (λ w. IsGoodValue g w) (is_makeable v.type) at v.type (made_to at NoHandle) (λ e. tt))
 
-  array_nowhere : (at : ℕ) (v : Verdict (Value × Value)) → Surely (λ w. IsGoodValue g w) (with_goal at (Of NoHandle) v (array_made at))
+  array_nowhere : (at : ℕ) (v : Verdict (Value × Value)) → Surely (λ w. IsGoodValue g w) (by_parts at true (both (Of NoHandle) v (array_made at)))
   array_nowhere at Unjudged = tt
   array_nowhere at (Faulty f fs) = tt
   array_nowhere at (Of (c, v)) =
-      surely_fits (λ w. IsGoodValue g w) (is_integer c.type && is_makeable v.type) at v.type (array_to at NoHandle) (λ e. tt)
+      surely_parts at true (array_made at NoHandle (c, v))
+      (surely_fits (λ w. IsGoodValue g w) (is_integer c.type && is_makeable v.type) at v.type (array_to at NoHandle) (λ e. tt))
 
-  goal_faulty : {A : Type 0} (at : ℕ) (f : Fault) (fs : List Fault) (v : Verdict A) (rule : Goal → A → Verdict Value)
-      → Surely (λ w. IsGoodValue g w) (with_goal at (Faulty f fs) v rule)
-  goal_faulty at f fs (Faulty c cs) rule = tt
-  goal_faulty at f fs Unjudged rule = tt
-  goal_faulty at f fs (Of v) rule = tt
+  goal_faulty : {A : Type 0} (at : ℕ) (misfits : Bool) (f : Fault) (fs : List Fault) (v : Verdict A) (rule : Goal → A → Verdict Value)
+      → Surely (λ w. IsGoodValue g w) (by_parts at misfits (both (Faulty f fs) v rule))
+  goal_faulty at misfits f fs (Faulty c cs) rule = tt
+  goal_faulty at misfits f fs Unjudged rule = tt
+  goal_faulty at misfits f fs (Of v) rule = tt
 
   pub made_there : (at : ℕ) (x : Goal) (v : Verdict Value) → Surely (λ w. IsGoodValue g w) v → IsKnownGoal x
-      → Surely (λ w. IsGoodValue g w) (with_goal at (Of x) v (made at))
+      → Surely (λ w. IsGoodValue g w) (made_of at (Of x) v)
   made_there at NoHandle v h b = absurd b
   made_there at (To r) (Faulty c cs) h b = tt
   made_there at (To r) Unjudged h b = absurd h
-  made_there at (To r) (Of v) h b = made_below at (To r) v h b
+  made_there at (To r) (Of v) h b = surely_parts at (not (is_makeable v.type)) (made at (To r) v) (made_below at (To r) v h b)
   made_there at ToUnique (Faulty c cs) h b = tt
   made_there at ToUnique Unjudged h b = absurd h
-  made_there at ToUnique (Of v) h b = made_below at ToUnique v h b
+  made_there at ToUnique (Of v) h b = surely_parts at (not (is_makeable v.type)) (made at ToUnique v) (made_below at ToUnique v h b)
 
   -- its operand is judged in the region of the handle
   pub made_good : (at : ℕ) (goal : Verdict Goal) (e : Expression) → Surely (λ x. IsGoal x) goal
       → ((x : Goal) → IsKnownGoal x → Surely (λ w. IsGoodValue g w) (judge (inside (Of x) g) e))
       → Surely (λ w. IsGoodValue g w) (judge_made_in g at goal (One e))
-  made_good at (Faulty f fs) e h k = goal_faulty at f fs (judge (inside (Faulty f fs) g) e) (made at)
+  made_good at (Faulty f fs) e h k =
+      (let v : Verdict Value = judge (inside (Faulty f fs) g) e in goal_faulty at (is_other is_makeable v) f fs v (made at))
   made_good at Unjudged e h k = absurd h
   made_good at (Of (To r)) e h k = made_there at (To r) (judge (inside (Of (To r)) g) e) (k (To r) h) h
   made_good at (Of ToUnique) e h k = made_there at ToUnique (judge (inside (Of ToUnique) g) e) (k ToUnique tt) tt
@@ -134,15 +143,15 @@ module _ (g : Env) where
       by ToUnique b e = tt
       by NoHandle b e = tt
 
-  pub array_there : (at : ℕ) (x : Goal) (v : Verdict (Value × Value)) → Surely (λ p. IsKnownOperand p.1) v → IsKnownGoal x
-      → Surely (λ w. IsGoodValue g w) (with_goal at (Of x) v (array_made at))
-  array_there at NoHandle v h b = absurd b
-  array_there at ToUnique (Faulty c cs) h b = tt
-  array_there at ToUnique Unjudged h b = absurd h
-  array_there at ToUnique (Of (c, v)) h b = array_below at ToUnique c v h b
-  array_there at (To r) (Faulty c cs) h b = tt
-  array_there at (To r) Unjudged h b = absurd h
-  array_there at (To r) (Of (c, v)) h b = array_below at (To r) c v h b
+  array_by : (at : ℕ) (misfits : Bool) (x : Goal) (v : Verdict (Value × Value)) → Surely (λ p. IsKnownOperand p.1) v → IsKnownGoal x
+      → Surely (λ w. IsGoodValue g w) (by_parts at misfits (both (Of x) v (array_made at)))
+  array_by at misfits x (Faulty c cs) h b = tt
+  array_by at misfits x Unjudged h b = absurd h
+  array_by at misfits x (Of (c, v)) h b = surely_parts at misfits (array_made at x (c, v)) (array_below at x c v h b)
+
+  pub array_there : (at : ℕ) (x : Goal) (c e : Verdict Value) → Surely (λ p. IsKnownOperand p.1) (both c e elements) → IsKnownGoal x
+      → Surely (λ w. IsGoodValue g w) (array_of at (Of x) c e)
+  array_there at x c e h b = array_by at (array_misfits (Of x) c e) x (both c e elements) h b
 
   -- count and element are judged in the region of the handle
   pub array_good : (at : ℕ) (goal : Verdict Goal) (x : Name) (c e : Expression) → Surely (λ y. IsGoal y) goal
@@ -151,14 +160,15 @@ module _ (g : Env) where
       → Surely (λ w. IsGoodValue g w) (judge_made_in g at goal (Array x c e))
   array_good at (Faulty f fs) x c e h k =
       let inner : Env = inside (Faulty f fs) g in
-      goal_faulty at f fs (both (judge inner c) (judge (with_counter x inner) e) elements) (array_made at)
+      let misfits : Bool = array_misfits (Faulty f fs) (judge inner c) (judge (with_counter x inner) e) in
+      goal_faulty at misfits f fs (both (judge inner c) (judge (with_counter x inner) e) elements) (array_made at)
   array_good at Unjudged x c e h k = absurd h
   array_good at (Of (To r)) x c e h k =
       let inner : Env = inside (Of (To r)) g in
-      array_there at (To r) (both (judge inner c) (judge (with_counter x inner) e) elements) (k (To r) h) h
+      array_there at (To r) (judge inner c) (judge (with_counter x inner) e) (k (To r) h) h
   array_good at (Of ToUnique) x c e h k =
       let inner : Env = inside (Of ToUnique) g in
-      array_there at ToUnique (both (judge inner c) (judge (with_counter x inner) e) elements) (k ToUnique tt) tt
+      array_there at ToUnique (judge inner c) (judge (with_counter x inner) e) (k ToUnique tt) tt
   array_good at (Of NoHandle) x c e h k =
       let inner : Env = inside (Of NoHandle) g in array_nowhere at (both (judge inner c) (judge (with_counter x inner) e) elements)
 

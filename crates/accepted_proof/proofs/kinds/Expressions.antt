@@ -17,7 +17,7 @@ use Rattle.source_typing.specs.Types.{integer_type}
 use Rattle.source_typing.specs.Verdicts.{Faulty, Of, Unjudged, Verdict, after, both}
 use Rattle.std.specs.Prelude.{Bool, true, false, length, nat_lt}
 use Rattle.accepted_proof.specs.Good.{KnowsKinds, NamesStructs}
-use Rattle.accepted_proof.proofs.kinds.Perhaps.{Perhaps, perhaps_after, perhaps_both, perhaps_first, perhaps_made}
+use Rattle.accepted_proof.proofs.kinds.Perhaps.{Perhaps, perhaps_after, perhaps_array, perhaps_both, perhaps_first, perhaps_made}
 use Rattle.accepted_proof.proofs.kinds.Phrases.{TargetNames, ValueNames, applied_named, array_named, arrow_named, assigned_named, called_named, counted_named}
 use Rattle.accepted_proof.proofs.kinds.Phrases.{indexed_named, made_named, meant_named, member_named, prefixed_named, target_named, tested_named, union_named}
 use Rattle.accepted_proof.proofs.kinds.Phrases.{variable_named}
@@ -110,21 +110,19 @@ module _ (P : List ℕ → Type 0) where
         perhaps_after (λ a. ValueNames P a) (λ a. ValueNames P a) (judge g e) (prefixed g at o) (expression_named e g k)
         (λ a p. prefixed_named P g at o a p)
     expression_named (Expression.New at (One e)) g k =
-        perhaps_made (λ a. ValueNames P a) (λ a. ValueNames P a) at (Of (To TheHeap))
-        (judge g e) (made at) (expression_named e g k) (λ x a p. made_named P at x a p)
+        perhaps_made (λ a. ValueNames P a) (λ a. ValueNames P a) at (Of (To TheHeap)) (judge g e) (expression_named e g k) (λ x a p. made_named P at x a p)
     expression_named (Expression.New at (Array x n e)) g k =
-        perhaps_made (λ (p : Value × Value). ValueNames P p.1) (λ a. ValueNames P a) at (Of (To TheHeap))
-        (both (judge g n) (judge (with_counter x g) e) elements) (array_made at)
+        perhaps_array (λ (p : Value × Value). ValueNames P p.1) (λ a. ValueNames P a) at (Of (To TheHeap)) (judge g n) (judge (with_counter x g) e)
         (elements_named (judge g n) (judge (with_counter x g) e) (expression_named e (with_counter x g) (counter_known P x g k)))
         (λ y p q. array_named P at y p.0 p.1 q)
     expression_named (Expression.NewIn at h (One e)) g k =
         let goal : Verdict Goal = goal_of (is_unique_region h) g (judge g h) in
-        perhaps_made (λ a. ValueNames P a) (λ a. ValueNames P a) at goal (judge (inside goal g) e) (made at)
+        perhaps_made (λ a. ValueNames P a) (λ a. ValueNames P a) at goal (judge (inside goal g) e)
         (expression_named e (inside goal g) (inside_known P goal g k)) (λ x a p. made_named P at x a p)
     expression_named (Expression.NewIn at h (Array x n e)) g k =
         let goal : Verdict Goal = goal_of (is_unique_region h) g (judge g h) in
         let inner : Env = inside goal g in
-        perhaps_made (λ (p : Value × Value). ValueNames P p.1) (λ a. ValueNames P a) at goal (both (judge inner n) (judge (with_counter x inner) e) elements) (array_made at)
+        perhaps_array (λ (p : Value × Value). ValueNames P p.1) (λ a. ValueNames P a) at goal (judge inner n) (judge (with_counter x inner) e)
         (elements_named (judge inner n) (judge (with_counter x inner) e)
         (expression_named e (with_counter x inner) (counter_known P x inner (inside_known P goal g k))))
         (λ y p q. array_named P at y p.0 p.1 q)

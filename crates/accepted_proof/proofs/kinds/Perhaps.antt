@@ -1,8 +1,10 @@
 -- What is known of a phrase where it is in order, and nothing where it is at fault or isn't judged: how a phrase follows its parts.
 use Rattle.std.proofs.Common.{ℕ, Bool, true, false, List, [], ◌∷◌, ◌≡◌, subst}
+use Rattle.std.specs.Prelude.{◌||◌}
 use Rattle.source_typing.specs.Faults.{Fault}
-use Rattle.source_typing.specs.Making.{Goal, NoHandle, To, ToUnique, with_goal}
+use Rattle.source_typing.specs.Making.{Goal, array_made, array_misfits, array_of, by_parts, elements, is_no_handle, is_other, made, made_of}
 use Rattle.source_typing.specs.Scope.{Value}
+use Rattle.source_typing.specs.Types.{is_makeable}
 use Rattle.source_typing.specs.Verdicts.{Faulty, Of, Unjudged, Verdict, after, both, if_fits, other_kind, unless_faulty}
 use Rattle.source_typing.specs.Written.{if_sound}
 
@@ -77,20 +79,26 @@ perhaps_sound P true v h = h
 perhaps_sound P false v h = tt
 
 -- a making, wherever it is
-pub perhaps_made : {A : Type 0} (P : A → Type 0) (Q : Value → Type 0) (at : ℕ) (goal : Verdict Goal) (v : Verdict A) (rule : Goal → A → Verdict Value)
-    → Perhaps P v → ((x : Goal) (a : A) → P a → Perhaps Q (rule x a)) → Perhaps Q (with_goal at goal v rule)
-perhaps_made P Q at (Faulty f fs) (Faulty g gs) rule h k = tt
-perhaps_made P Q at (Faulty f fs) Unjudged rule h k = tt
-perhaps_made P Q at (Faulty f fs) (Of a) rule h k = tt
-perhaps_made P Q at Unjudged (Faulty g gs) rule h k = tt
-perhaps_made P Q at Unjudged Unjudged rule h k = tt
-perhaps_made P Q at Unjudged (Of a) rule h k = tt
-perhaps_made P Q at (Of NoHandle) (Faulty g gs) rule h k = tt
-perhaps_made P Q at (Of NoHandle) Unjudged rule h k = tt
-perhaps_made P Q at (Of NoHandle) (Of a) rule h k = k NoHandle a h
-perhaps_made P Q at (Of ToUnique) (Faulty g gs) rule h k = tt
-perhaps_made P Q at (Of ToUnique) Unjudged rule h k = tt
-perhaps_made P Q at (Of ToUnique) (Of a) rule h k = k ToUnique a h
-perhaps_made P Q at (Of (To r)) (Faulty g gs) rule h k = tt
-perhaps_made P Q at (Of (To r)) Unjudged rule h k = tt
-perhaps_made P Q at (Of (To r)) (Of a) rule h k = k (To r) a h
+perhaps_parts : (Q : Value → Type 0) (at : ℕ) (misfits : Bool) (v : Verdict Value) → Perhaps Q v → Perhaps Q (by_parts at misfits v)
+perhaps_parts Q at misfits (Faulty f fs) h = tt
+perhaps_parts Q at true Unjudged h = tt
+perhaps_parts Q at false Unjudged h = tt
+perhaps_parts Q at misfits (Of v) h = h
+
+there : {A : Type 0} (P : A → Type 0) (Q : Value → Type 0) (at : ℕ) (misfits : Bool) (goal : Verdict Goal) (v : Verdict A) (rule : Goal → A → Verdict Value)
+    → Perhaps P v → ((x : Goal) (a : A) → P a → Perhaps Q (rule x a)) → Perhaps Q (by_parts at misfits (both goal v rule))
+there P Q at misfits goal v rule h k =
+    perhaps_parts Q at misfits (both goal v rule) (perhaps_both (λ x. Unit {0}) P Q goal v rule (always goal) h (λ x a u p. k x a p))
+  where
+    always : (goal : Verdict Goal) → Perhaps (λ (x : Goal). Unit {0}) goal
+    always (Of x) = tt
+    always (Faulty f fs) = tt
+    always Unjudged = tt
+
+pub perhaps_made : (P Q : Value → Type 0) (at : ℕ) (goal : Verdict Goal) (e : Verdict Value) → Perhaps P e
+    → ((x : Goal) (a : Value) → P a → Perhaps Q (made at x a)) → Perhaps Q (made_of at goal e)
+perhaps_made P Q at goal e h k = there P Q at (is_no_handle goal || is_other is_makeable e) goal e (made at) h k
+
+pub perhaps_array : (P : Value × Value → Type 0) (Q : Value → Type 0) (at : ℕ) (goal : Verdict Goal) (count e : Verdict Value)
+    → Perhaps P (both count e elements) → ((x : Goal) (p : Value × Value) → P p → Perhaps Q (array_made at x p)) → Perhaps Q (array_of at goal count e)
+perhaps_array P Q at goal count e h k = there P Q at (array_misfits goal count e) goal (both count e elements) (array_made at) h k

@@ -192,7 +192,7 @@ module _ (w : World) where
         let z = prefix_is g at o e v p in
         prefixed_taken w names g at o e z.0 v (taken_is names g scope e z.0 own z.1) z.2
     taken_is names g scope (Expression.New at (One e)) v own p =
-        let z = goal_is at (Of (To TheHeap)) (judge g e) (made at) v p in
+        let z = goal_is at (Of (To TheHeap)) (judge g e) v p in
         making_taken w names (Expression.New at (One e)) at TheHeap e z.1 v (taken_is names g scope e z.1 own z.3)
         (subst (λ (y : Goal). made at y z.1 ≡ Of v) (sym (of_is (To TheHeap) z.0 z.2)) z.4) (λ y. y) refl (λ y. y)
     taken_is names g scope (Expression.New at (Array x n e)) v own p =
@@ -203,7 +203,7 @@ module _ (w : World) where
         (subst (λ (q : Goal). array_made at q (z.1, z.2) ≡ Of v) (sym (of_is (To TheHeap) z.0 z.3)) z.6) (λ q. q) refl (λ q. q)
     taken_is names g scope (Expression.NewIn at h (One e)) v own p =
         let goal : Verdict Goal = goal_of (is_unique_region h) g (judge g h) in
-        let z = goal_is at goal (judge (inside goal g) e) (made at) v p in
+        let z = goal_is at goal (judge (inside goal g) e) v p in
         made_in_taken w names g scope at h e (is_unique_region h) refl z.0 z.1 v z.2 (λ y q. taken_is names g scope h y own.0 q)
         (taken_is names (inside goal g) (scope_inside w names goal g scope) e z.1 own.1 z.3) z.4
     taken_is names g scope (Expression.NewIn at h (Array x n e)) v own p =

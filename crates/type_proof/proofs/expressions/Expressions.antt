@@ -298,7 +298,7 @@ module _ (n : ℕ) (d : Tables) (f : NameOf → Region) (b : ℕ) (low : ℕ) wh
         strings.1 e) j
     new_sound g scope setting (One x) i at v loudly l o ms fs j =
         let a : (y : Goal) × (a : Value) × (Of (To TheHeap) ≡ Of y) × (judge (within i g) x ≡ Of a) × (rules_of_making.made at y a ≡ Of v) =
-        goal_is at (Of (To TheHeap)) (judge (within i g) x) (rules_of_making.made at) v j in
+        goal_is at (Of (To TheHeap)) (judge (within i g) x) v j in
         denotes_made n d g scope f b low loudly at TheHeap heap_maker nothing a.1 v (use_of (within i g) x) (sense x scope)
         (agrees d scope.world g.tables setting.structs)
         (heap_lives n d g scope f b low) tt
@@ -330,7 +330,7 @@ module _ (n : ℕ) (d : Tables) (f : NameOf → Region) (b : ℕ) (low : ℕ) wh
         o.1 ms.1 strings.1 e) h j
     new_in_sound g scope setting (One x) i at true hv v uh handle loudly l o ms fs e h j =
         let a : (y : Goal) × (a : Value) × (Of ToUnique ≡ Of y) × (judge (within InUnique g) x ≡ Of a) × (rules_of_making.made at y a ≡ Of v) =
-        goal_is at (Of ToUnique) (judge (within InUnique g) x) (rules_of_making.made at) v j in
+        goal_is at (Of ToUnique) (judge (within InUnique g) x) v j in
         denotes_unique n d g scope f b low loudly at uh.look a.1 v (use_of (within InUnique g) x) (sense x scope)
         (agrees d scope.world g.tables setting.structs) (e refl)
         (expression_sound g scope setting x InUnique a.1 (inl loudly) tt o ms fs a.3)

@@ -107,7 +107,7 @@ module _ (n : ℕ) (d : Tables) (g : Env) (scope : Scope) (f : NameOf → Region
   made_in loudly x i at hv v uh handle operand h j =
       let goal : Verdict Goal = after hv (handled (within i g)) in
       let a : (y : Goal) × (a : Value) × (goal ≡ Of y) × (judge (within (enclosed goal) g) x ≡ Of a) × (rules_of_making.made at y a ≡ Of v) =
-      goal_is at goal (judge (within (enclosed goal) g) x) (rules_of_making.made at) v j in
+      goal_is at goal (judge (within (enclosed goal) g) x) v j in
       let p : (q : Value) × (hv ≡ Of q) × (handled (within i g) q ≡ Of a.0) = after_is hv (handled (within i g)) a.0 a.2 in
       let q : Handled (within i g) p.0.type a.0 = handled_is (within i g) p.0.at at p.0.type a.0 a.1 v p.2 a.4 in
       let dh : Denotes n d g scope f b low p.0 uh handle = h p.0 p.1 in

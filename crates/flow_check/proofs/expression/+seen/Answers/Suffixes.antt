@@ -8,14 +8,14 @@ use Rattle.cyc_tree.specs.View.{OneSuffix, expression_tree, made_tree, name_tree
 use Rattle.flow_summaries.specs.Expressions.{uses_made, uses_of}
 use Rattle.flow_summaries.specs.Passages.{copied_if, in_turn, repeated}
 use Rattle.flow_summaries.specs.Uses.{uses_as_place, uses_as_value}
-use Rattle.source_typing.specs.Making.{made, with_counter}
+use Rattle.source_typing.specs.Making.{with_counter}
 use Rattle.source_typing.specs.Places.{indexed}
 use Rattle.check_faults.specs.Verdicts.{short_both, short_of, shortened}
 use Rattle.check_operators.specs.Goals.{goal_in}
 use Rattle.check_operators.specs.Values.{value_of}
 use Rattle.check_expressions.proofs.Forms.{judged}
 use Rattle.check_expressions.proofs.Makings.{made_array as array_short}
-use Rattle.check_expressions.specs.Goals.{short_array, short_made, with_short_goal}
+use Rattle.check_expressions.specs.Goals.{short_array, short_made, short_one}
 use Rattle.check_expressions.specs.Suffixes.{short_suffix, short_suffixes}
 use Rattle.check_expressions.specs.Within.{is_counter}
 use Rattle.flow_effects.specs.Passed.{passage_of}
@@ -99,10 +99,10 @@ made-returns-in_ok-value-in-One t c = λ g how h.
     subst (λ x. SeenAs g usage.Value (expression_tree x) found) c.deref.ensures (c.in_ok-value-in-One.ensures g h) in
     subst (λ m. IfOk c.made_one.result (IsSeen how (short_made g c.args.at to m) (uses_made g m p)))
     (sym (ap (λ m. made_tree m) c.in-One.is ∙ one_tree c.in-One.value))
-    (subst (λ s. IfOk c.made_one.result (IsSeen how (with_short_goal c.args.at to s (λ a b. shortened (made c.args.at a b)))
+    (subst (λ s. IfOk c.made_one.result (IsSeen how (short_one c.args.at to s)
     (uses_as_value (in_turn p (uses_of g (expression_tree e)).value)))) value.judged
     (subst (λ q. IfOk c.made_one.result (IsSeen how
-    (with_short_goal c.args.at to (short_of value_of found.judged) (λ a b. shortened (made c.args.at a b))) (uses_as_value (in_turn p q))))
+    (short_one c.args.at to (short_of value_of found.judged)) (uses_as_value (in_turn p q))))
     value.used.passed (c.made_one.ensures how)))
 
 pub made-returns-in_ok-element-in-Array : goal.made-returns-in_ok-element-in-Array

@@ -114,8 +114,8 @@ pub fn run<S: BlockStore, R: Input, W: Output>(
     run_at(&mut Gliding, machine, reader, writer, steps)
 }
 
-/// Runs a machine as `run` does, and takes in each instruction before it is executed, one step at a time. The watch is of the machine's code, or
-/// sees nothing: then this is `run`.
+/// Runs a machine as `run` does, and takes in each instruction before it is executed, one step at a time, and what the locals hold at the end. The watch
+/// is of the machine's code, or sees none of its instructions: then this is `run`.
 pub fn run_watched<S: BlockStore, R: Input, W: Output>(
     machine: &mut Machine<S>,
     watch: &mut Watch,
@@ -138,5 +138,7 @@ pub fn run_watched<S: BlockStore, R: Input, W: Output>(
     ensures reads { R.fault_count reader.new ≡ reads_failed result (R.fault_count reader.old) }
     ensures writes { W.fault_count writer.new ≡ writes_failed result (W.fault_count writer.old) }
 {
-    run_at(watch, machine, reader, writer, steps)
+    let ending = run_at(watch, machine, reader, writer, steps);
+    watch.end(machine);
+    ending
 }

@@ -2,6 +2,8 @@
 
 use crate::pace::Pace;
 use crate::pages::Pages;
+use crate::seen::{Comparison, HOMES, Seen, first_in, homes_of, second_in};
+use crate::stacks::{Stack, Stacks};
 use cyc_arena::BlockStore;
 use rv32_machine::{CODE_BASE, Machine};
 use std::alloc::{AllocError, Global};
@@ -15,48 +17,23 @@ const RETURN: u32 = 0x0000_8067;
 /// The word of ECALL.
 const REQUEST: u32 = 0x0000_0073;
 
+/// BLTU and BGEU, by the lowest seven bits and the upper two of the function.
+const COMPARISON: u32 = 0x6063;
+
+/// The bits of `COMPARISON`.
+const COMPARISON_BITS: u32 = 0x607f;
+
+/// SW with x2 as its base, by the lowest seven bits, the function and the base.
+const SAVE: u32 = 0x0001_2023;
+
+/// The bits of `SAVE`.
+const SAVE_BITS: u32 = 0x000f_f07f;
+
 /// How many numbers of requests there are.
 const REQUESTS: usize = 14;
 
-/// An instruction, and what the registers held before it was executed.
-#[derive(Clone, Copy)]
-pub struct Seen {
-    /// Its address.
-    pub pc: u32,
-    /// Its word; 0 outside the code.
-    pub word: u32,
-    /// The stack pointer, x2.
-    pub stack: u32,
-    /// The number of a request, x17.
-    pub number: u32,
-    /// The arguments of a request, x10 and x11.
-    pub arguments: (u32, u32),
-}
-
-impl Seen {
-    /// What a machine with this code executes next.
-    fn of<S: BlockStore>(machine: &Machine<S>, code: &[u8]) -> Seen {
-        let pc = machine.pc();
-        Seen {
-            pc,
-            word: word_at(code, pc),
-            stack: machine.reg(2),
-            number: machine.reg(17),
-            arguments: (machine.reg(10), machine.reg(11)),
-        }
-    }
-}
-
-/// The word at an address of the code; 0 outside it.
-fn word_at(code: &[u8], address: u32) -> u32 {
-    let offset = address.wrapping_sub(CODE_BASE) as usize;
-    match code.get(offset..) {
-        Some([first, second, third, fourth, ..]) => {
-            u32::from_le_bytes([*first, *second, *third, *fourth])
-        }
-        _ => 0,
-    }
-}
+/// How many of the words that are passed to a callee are kept.
+const PASSED: usize = 16;
 
 /// Nothing seen of this number of words.
 fn none_of(alloc: Global, words: usize) -> Result<Vec<Count>, AllocError> {
@@ -92,6 +69,10 @@ pub struct Active {
     pub at: u32,
     /// How many instructions were executed up to the call, with itself.
     pub since: u64,
+    /// What the registers in which the caller's locals live held: x8, x9 and x18 to x27.
+    pub homes: [u32; HOMES],
+    /// The first words that the caller passed, in the order of the parameters.
+    pub passed: [u32; PASSED],
 }
 
 /// What was seen of a run. Each count stays at the greatest u64.
@@ -107,8 +88,12 @@ pub struct Watch {
     counts: Vec<Count>,
     active: Vec<Active>,
     unkept: u64,
+    stacks: Stacks,
     pages: Pages,
     last: Seen,
+    compared: Comparison,
+    passed: [u32; PASSED],
+    homes: [u32; HOMES],
 }
 
 impl Watch {
@@ -125,6 +110,7 @@ impl Watch {
             counts: Vec::new(alloc),
             active: Vec::new(alloc),
             unkept: 0,
+            stacks: Stacks::none(alloc),
             pages: Pages::none(alloc),
             last: Seen {
                 pc: CODE_BASE,
@@ -133,6 +119,13 @@ impl Watch {
                 number: 0,
                 arguments: (0, 0),
             },
+            compared: Comparison {
+                pc: 0,
+                left: 0,
+                right: 0,
+            },
+            passed: [0; PASSED],
+            homes: [0; HOMES],
         }
     }
 
@@ -141,6 +134,7 @@ impl Watch {
         let mut watch = Watch::idle(alloc);
         watch.sees = true;
         watch.pages = Pages::new(alloc)?;
+        watch.stacks = Stacks::new(alloc)?;
         watch.code.extend_from_slice(code)?;
         watch.counts = none_of(alloc, code.len() / 4)?;
         Ok(watch)
@@ -189,6 +183,12 @@ impl Watch {
         self.unkept
     }
 
+    /// The stacks of calls, each behind the one around its innermost call, which has its number in this order. Where no host memory was left for one,
+    /// its instructions are counted for the stack around it.
+    pub fn stacks(&self) -> &[Stack] {
+        self.stacks.all()
+    }
+
     /// The most pages of the arena that were taken at once, by the requests before the last instruction.
     pub fn most_pages(&self) -> u32 {
         self.pages.most()
@@ -197,6 +197,16 @@ impl Watch {
     /// The last instruction.
     pub fn last(&self) -> Seen {
         self.last
+    }
+
+    /// The last branch on unsigned numbers.
+    pub fn compared(&self) -> Comparison {
+        self.compared
+    }
+
+    /// What the registers in which locals live held when the run ended: x8, x9 and x18 to x27.
+    pub fn homes(&self) -> &[u32] {
+        &self.homes
     }
 
     /// Counts an instruction, and that it isn't the next word of the one before it, if so.
@@ -221,16 +231,32 @@ impl Watch {
     }
 
     /// Enters a call.
-    fn enter(&mut self, at: u32) {
+    fn enter(&mut self, at: u32, homes: [u32; HOMES]) {
         self.calls = self.calls.saturating_add(1);
-        let since = self.steps;
-        if self.unkept > 0 || self.active.push(Active { at, since }).is_err() {
+        self.stacks.enter(at);
+        let call = Active {
+            at,
+            since: self.steps,
+            homes,
+            passed: self.passed,
+        };
+        if self.unkept > 0 || self.active.push(call).is_err() {
             self.unkept = self.unkept.saturating_add(1);
+        }
+    }
+
+    /// Keeps a word that is stored in the frame, if it may be one that is passed: these stand behind the frame's first word.
+    fn save(&mut self, word: u32, value: u32) {
+        let offset = ((word >> 25) << 5) | ((word >> 7) & 31);
+        let number = (offset / 4) as usize;
+        if let Some(slot) = self.passed.get_mut(number.wrapping_sub(1)) {
+            *slot = value;
         }
     }
 
     /// Leaves the innermost active call.
     fn leave(&mut self) {
+        self.stacks.leave();
         if self.unkept > 0 {
             self.unkept -= 1;
         } else if let Some(call) = self.active.pop() {
@@ -254,15 +280,37 @@ impl Watch {
             self.pages.grant(last.number, last.arguments, answer);
         }
         self.count(seen.pc);
+        self.stacks.count();
         self.highest = self.highest.max(seen.stack);
         self.lowest = self.lowest.min(seen.stack);
         match seen.word {
             RETURN => self.leave(),
             REQUEST => self.request(seen.number),
-            word if word & 0xfff == CALL => self.enter(seen.pc),
             _ => {}
         }
         self.last = seen;
+    }
+
+    /// Takes in what the registers hold before an instruction: those that a branch on unsigned numbers compares, a word that is stored in the frame, and
+    /// the locals of a caller.
+    fn look<S: BlockStore>(&mut self, machine: &Machine<S>) {
+        let Seen { pc, word, .. } = self.last;
+        if word & COMPARISON_BITS == COMPARISON {
+            self.compared = Comparison {
+                pc,
+                left: first_in(machine, word),
+                right: second_in(machine, word),
+            };
+        } else if word & SAVE_BITS == SAVE {
+            self.save(word, second_in(machine, word));
+        } else if word & 0xfff == CALL {
+            self.enter(pc, homes_of(machine));
+        }
+    }
+
+    /// Takes in what the locals hold in registers when the run has ended.
+    pub(crate) fn end<S: BlockStore>(&mut self, machine: &Machine<S>) {
+        self.homes = homes_of(machine);
     }
 }
 
@@ -274,6 +322,7 @@ impl Pace for Watch {
         }
         let seen = Seen::of(machine, &self.code);
         self.see(seen);
+        self.look(machine);
         0
     }
 }

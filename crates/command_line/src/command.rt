@@ -72,6 +72,7 @@ pub enum Command<'a> {
         shows_ending: bool,
         shows_why: bool,
         shows_where: bool,
+        shows_values: bool,
         shows_stats: bool,
         shows_counts: bool,
     },

@@ -132,6 +132,13 @@ const STATS: Choice = Choice {
     takes: Takes::Nothing,
 };
 
+/// Whether it is told what the active calls held.
+const VALUES: Choice = Choice {
+    name: "values",
+    help: "Says with --where also what index was out of bounds, what each active call was passed, and what its locals in registers hold",
+    takes: Takes::Nothing,
+};
+
 /// Whether it is told how often each instruction was executed.
 const COUNTS: Choice = Choice {
     name: "counts",
@@ -180,6 +187,7 @@ pub const COMMANDS: [Words; 8] = [
             ENDING,
             WHY,
             WHERE,
+            VALUES,
             STATS,
             COUNTS,
         ],

@@ -61,6 +61,15 @@ pub fn shown(word: &str) -> &str {
     word.trim_end_matches(NO_TEXT)
 }
 
+/// What is said behind a word that can't be a file's name since it is no UTF-8; nothing of another word.
+pub fn why_no_name(word: &str) -> &str {
+    if word.ends_with(NO_TEXT) {
+        ": its name is no UTF-8"
+    } else {
+        ""
+    }
+}
+
 /// Help, or what is wrong with the words, as it is shown.
 pub fn shown_error(alloc: Global, error: &Error) -> Result<String, AllocError> {
     let text = format!(in alloc; "{error}")?;

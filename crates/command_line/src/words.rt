@@ -100,6 +100,7 @@ fn bounded<'a>(name: &str, input: &'a str, matches: &ArgMatches<'a>) -> Option<C
             shows_ending,
             shows_why,
             shows_where: matches.get_flag("where"),
+            shows_values: matches.get_flag("values"),
             shows_stats: matches.get_flag("stats"),
             shows_counts: matches.get_flag("counts"),
         }),

@@ -48,6 +48,25 @@ module _ (status r_old r_new w_old w_new : ℕ) where
   evaluation eval.WriteFault shown = write_failed shown
   evaluation eval.HostMemory shown = none_failed (λ six. omega arith)
 
+-- the status of a run is none of a refusal
+not_ended : (status : ℕ) (number : ℤ) → status ≡ ended_status number → status ≢ 8
+not_ended status (pos zero) shown = λ eight. omega arith
+not_ended status (pos (suc n)) shown = λ eight. omega arith
+not_ended status (negsuc n) shown = λ eight. omega arith
+
+not_refused : (status : ℕ) (why : Ending) → status ≡ status_of why → status ≢ 8
+not_refused status (ending.Ended number) shown = not_ended status number shown
+not_refused status (ending.Raised kind) shown = λ eight. omega arith
+not_refused status ending.Exhausted shown = λ eight. omega arith
+not_refused status ending.StepLimit shown = λ eight. omega arith
+not_refused status (ending.Fault fault) shown = λ eight. omega arith
+not_refused status ending.ReadFault shown = λ eight. omega arith
+not_refused status ending.WriteFault shown = λ eight. omega arith
+not_refused status ending.HostMemory shown = λ eight. omega arith
+
+pub if_refused : {E : Type 0} (A : Type 0) (result : Result ℕ E) (why : Ending) → IfOk result (λ status. status ≡ status_of why) → IfOk result (λ status. status ≡ 8 → A)
+if_refused A result why shown = IfOk-weaker result _ _ (λ status s eight. absurd (not_refused status why s eight)) shown
+
 module _ {E : Type 0} (result : Result ℕ E) (r_old r_new w_old w_new : ℕ) where
   -- of a machine's run
   pub of_run : (why : Ending) → IfOk result (λ status. status ≡ status_of why) → r_new ≡ reads_failed why r_old → w_new ≡ writes_failed why w_old

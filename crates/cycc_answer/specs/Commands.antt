@@ -10,7 +10,7 @@ use Rattle.cycc_answer.specs.Answers.{IsChecked, IsCompiled, IsRun, IsEval, IsSt
 abbrev pub longest : Command → ℕ
 longest (command.Check input shows_why shows_all) = text_limit
 longest (command.Compile input output map pages stack_pages shows_why) = text_limit
-longest (command.Run input pages stack_pages steps shows_ending shows_why shows_where shows_stats shows_counts) = text_limit
+longest (command.Run input pages stack_pages steps shows_ending shows_why shows_where shows_values shows_stats shows_counts) = text_limit
 longest (command.Eval input fuel shows_ending shows_why shows_where) = text_limit
 longest (command.Stack input shows_why shows_all) = text_limit
 longest (command.Exec input steps shows_ending shows_where shows_stats shows_counts) = header_length + code_limit + data_limit
@@ -23,7 +23,7 @@ IsAnswered (command.Check input shows_why shows_all) file reader_old reader_new 
     (bytes ≡ None) × IsChecked file writer_old writer_new status
 IsAnswered (command.Compile input output map pages stack_pages shows_why) file reader_old reader_new writer_old writer_new bytes status =
     IsCompiled file pages stack_pages bytes status
-IsAnswered (command.Run input pages stack_pages steps shows_ending shows_why shows_where shows_stats shows_counts) file reader_old reader_new writer_old writer_new bytes status =
+IsAnswered (command.Run input pages stack_pages steps shows_ending shows_why shows_where shows_values shows_stats shows_counts) file reader_old reader_new writer_old writer_new bytes status =
     (bytes ≡ None) × IsRun file pages stack_pages steps reader_old reader_new writer_old writer_new status
 IsAnswered (command.Eval input fuel shows_ending shows_why shows_where) file reader_old reader_new writer_old writer_new bytes status =
     (bytes ≡ None) × IsEval file fuel reader_old reader_new writer_old writer_new status

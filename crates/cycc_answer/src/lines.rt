@@ -15,7 +15,8 @@ use std::alloc::{AllocError, Global};
 use std::io::Write;
 
 /// What lines tell of a command: the path of its file, whether a run's ending is told, whether a refusal is told in more than its line and
-/// whether those behind the first are told, and whether it is told where a run stopped, what it took and how often it executed each instruction.
+/// whether those behind the first are told, and whether it is told where a run stopped, what its calls held, what it took and how often it executed
+/// each instruction.
 #[derive(Clone, Copy)]
 pub struct Told<'a> {
     pub input: &'a str,
@@ -23,6 +24,7 @@ pub struct Told<'a> {
     pub shows_why: bool,
     pub shows_all: bool,
     pub shows_where: bool,
+    pub shows_values: bool,
     pub shows_stats: bool,
     pub shows_counts: bool,
 }
@@ -36,6 +38,7 @@ impl<'a> Told<'a> {
             shows_why: false,
             shows_all: false,
             shows_where: false,
+            shows_values: false,
             shows_stats: false,
             shows_counts: false,
         }
@@ -67,13 +70,15 @@ impl<'a> Told<'a> {
                 shows_ending,
                 shows_why,
                 shows_where,
+                shows_values,
                 shows_stats,
                 shows_counts,
                 ..
             } => Told {
                 shows_ending,
                 shows_why,
-                shows_where,
+                shows_where: shows_where || shows_values,
+                shows_values,
                 shows_stats,
                 shows_counts,
                 ..little

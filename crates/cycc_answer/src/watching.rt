@@ -8,7 +8,7 @@ ghost use Rattle.cycc_answer.specs.Statuses.{evaluated_status, status_of};
 use crate::lines::{Told, ended, evaluated, say};
 use crate::why::refused_in;
 use core_eval::{EvalEnding, Stop};
-use cyc_host::{Count, Ending, Watch};
+use cyc_host::{Count, Ending, Stack, Watch};
 use cyc_words::{Input, Output};
 use cycc_driver::{Limits, execute_watched, stack};
 use rv32_machine::{
@@ -90,7 +90,23 @@ fn push_counts(alloc: Global, watch: &Watch, lines: &mut String) -> Result<(), A
     Ok(())
 }
 
-/// The lines of `--counts`: those of the instructions, and for each active call its address, and how many instructions were executed since.
+/// Appends a line of `--counts` for each stack of calls: its number, that of the stack around its innermost call, the call's address, and how many instructions
+/// were executed with just these calls active.
+fn push_stacks(alloc: Global, watch: &Watch, lines: &mut String) -> Result<(), AllocError> {
+    for (number, stack) in watch.stacks().iter().enumerate() {
+        let Stack {
+            around,
+            at,
+            executed,
+        } = *stack;
+        let line = format!(in alloc; "stack {number} {around} {at:08x} {executed}\n")?;
+        lines.push_str(line.as_str())?;
+    }
+    Ok(())
+}
+
+/// The lines of `--counts`: those of the instructions, for each active call its address, and how many instructions were executed since, and those of the
+/// stacks of calls.
 fn counts_of(alloc: Global, watch: &Watch) -> Result<String, AllocError> {
     let mut lines = String::new(alloc);
     push_counts(alloc, watch, &mut lines)?;
@@ -100,6 +116,7 @@ fn counts_of(alloc: Global, watch: &Watch) -> Result<String, AllocError> {
         let line = format!(in alloc; "active {at:08x} {steps}\n")?;
         lines.push_str(line.as_str())?;
     }
+    push_stacks(alloc, watch, &mut lines)?;
     Ok(lines)
 }
 
@@ -129,7 +146,7 @@ fn where_of(
     watch: &Watch,
 ) -> Result<String, AllocError> {
     match ran {
-        Ran::Text(text) => trace(alloc, told.input, text, watch, ending),
+        Ran::Text(text) => trace(alloc, told.input, text, watch, ending, told.shows_values),
         Ran::Image(pc) => image_trace(alloc, told.input, watch, pc, ending),
     }
 }

@@ -6,8 +6,8 @@
 
 use command_line::status::{FILE_FAULT, MEMORY, SUCCESS, usage_status};
 use command_line::{
-    Command, command_of, is_replaceable, is_same_entry, is_same_file, shown, shown_error, words_of,
-    write_whole,
+    Command, command_of, is_replaceable, is_same_entry, is_same_file, shown, shown_error,
+    why_no_name, words_of, write_whole,
 };
 use cyc_words::Counted;
 use cycc_answer::{longest_file, printed};
@@ -38,8 +38,9 @@ fn out_of_memory(rt: &HostRuntime) -> u8 {
 
 /// Says that a file can't be read or written, and answers the status.
 fn refused(rt: &HostRuntime, what: &str, path: &str) -> u8 {
+    let why = why_no_name(path);
     let path = shown(path);
-    let _ = eprintln!(rt; "cannot {what} {path}");
+    let _ = eprintln!(rt; "cannot {what} {path}{why}");
     FILE_FAULT
 }
 

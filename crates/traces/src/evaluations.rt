@@ -24,7 +24,7 @@ impl Source<'_> {
     fn stop(self, alloc: Global, ending: EvalEnding, stop: &Stop) -> Result<String, AllocError> {
         match ending {
             EvalEnding::Raised(kind) => {
-                raised_at(alloc, self.input, self.text.place(stop.at), kind)
+                raised_at(alloc, self.input, self.text.place(stop.at), kind, "")
             }
             EvalEnding::Running => {
                 let inside = in_function(alloc, name_of(self.names, stop.function))?;

@@ -4,16 +4,19 @@ use crate::points::Sight;
 use crate::program::{Called, Traced};
 use crate::text::name_of;
 use crate::told::{called_at, in_function, limited, push_count, raised_at, shown_of};
+use crate::values::{Frame, compared_of, values_of};
 use cyc_host::{Active, Ending, Watch};
 use cyc_words::Kind;
 use rv32_machine::{KEY_NEW, REGION_ALLOC, REGION_NEW, STACK_REFUSED, UNIQUE_ALLOC};
 use std::alloc::{AllocError, Global};
 
-/// A text that was run, and the names of its functions.
+/// A text that was run, the names of its functions, and whether it is told what the active calls held.
 #[derive(Clone, Copy)]
 struct Source<'a> {
+    text: &'a [u8],
     traced: &'a Traced,
     names: &'a [&'a str],
+    shows_values: bool,
 }
 
 impl<'a> Source<'a> {
@@ -40,6 +43,50 @@ impl<'a> Run<'a> {
             return None;
         }
         source.traced.called(self.watch.active().last()?.at)
+    }
+
+    /// The line of what the function that this call made active held, where it had come to this address of the code.
+    fn values(
+        self,
+        alloc: Global,
+        call: &Active,
+        homes: &[u32],
+        address: u32,
+    ) -> Result<String, AllocError> {
+        let none = Ok(String::new(alloc));
+        let Some(source) = self.source else {
+            return none;
+        };
+        let Some(called) = source.traced.called(call.at) else {
+            return none;
+        };
+        // no name is in scope in code that the text doesn't have, which refuses a frame
+        let at = source.traced.offset_at(address).unwrap_or(0);
+        let frame = Frame {
+            function: called.function,
+            passed: &call.passed,
+            homes,
+            at,
+        };
+        values_of(alloc, source.traced, source.text, source.names, frame)
+    }
+
+    /// The line of what the innermost active function held, where that is told and its call is known.
+    fn innermost_values(self, alloc: Global) -> Result<String, AllocError> {
+        match self.watch.active().last() {
+            Some(call) if self.shows_values() && self.watch.unkept() == 0 => {
+                self.values(alloc, call, self.watch.homes(), self.pc)
+            }
+            _ => Ok(String::new(alloc)),
+        }
+    }
+
+    /// Whether it is told what the active calls held.
+    fn shows_values(self) -> bool {
+        match self.source {
+            Some(source) => source.shows_values,
+            None => false,
+        }
     }
 
     /// The active calls that have a line, the innermost last. The first call of a text is that of `main`, which has none.
@@ -89,7 +136,12 @@ fn raised(alloc: Global, run: Run<'_>, kind: Kind) -> Result<String, AllocError>
     let Some(place) = source.traced.place_at(pc) else {
         return Ok(String::new(alloc));
     };
-    raised_at(alloc, input, place, kind)
+    let values = if source.shows_values {
+        compared_of(alloc, run.watch, kind)?
+    } else {
+        String::new(alloc)
+    };
+    raised_at(alloc, input, place, kind, values.as_str())
 }
 
 /// The first line: where a raise is, what had no space, or where the steps ended. Of another ending there is none.
@@ -136,6 +188,19 @@ fn call_of(alloc: Global, run: Run<'_>, address: u32) -> Result<String, AllocErr
     }
 }
 
+/// The line of what the function held that makes this call, by the call that made it active; none where that isn't told.
+fn caller_of(
+    alloc: Global,
+    run: Run<'_>,
+    number: usize,
+    call: &Active,
+) -> Result<String, AllocError> {
+    match run.watch.active().get(number) {
+        Some(outer) if run.shows_values() => run.values(alloc, outer, &call.homes, call.at),
+        _ => Ok(String::new(alloc)),
+    }
+}
+
 /// Appends the lines of this number of active calls, the innermost first, without so many of the innermost.
 fn push_some(
     alloc: Global,
@@ -144,9 +209,14 @@ fn push_some(
     count: usize,
     lines: &mut String,
 ) -> Result<(), AllocError> {
+    let mut number = run.calls().len().saturating_sub(passed);
     for call in run.calls().iter().rev().skip(passed).take(count) {
+        // in a text the first active call, that of `main`, has no line, so the call before this one has this one's number
+        number = number.saturating_sub(1);
         let line = call_of(alloc, run, call.at)?;
         lines.push_str(line.as_str())?;
+        let values = caller_of(alloc, run, number, call)?;
+        lines.push_str(values.as_str())?;
     }
     Ok(())
 }
@@ -185,18 +255,22 @@ fn lines_of<'a>(
         source,
     };
     let mut lines = stop_of(alloc, run, ending)?;
+    let values = run.innermost_values(alloc)?;
+    lines.push_str(values.as_str())?;
     push_calls(alloc, run, &mut lines)?;
     Ok(lines)
 }
 
 /// The lines that say where the run of an accepted text stopped: the position of what raised, what had no space, or in which function the
-/// steps ended; and behind it the active functions, the innermost first, each with the position of its call. Of another ending nothing.
+/// steps ended; and behind it the active functions, the innermost first, each with the position of its call. Of another ending nothing. If values
+/// are asked for: also the index that was out of bounds, and behind each function's line what it was passed and what its locals in registers held.
 pub fn trace(
     alloc: Global,
     input: &str,
     text: &[u8],
     watch: &Watch,
     ending: Ending,
+    shows_values: bool,
 ) -> Result<String, AllocError> {
     if !is_told(ending) {
         return Ok(String::new(alloc));
@@ -206,8 +280,10 @@ pub fn trace(
     };
     let names = traced.names(alloc)?;
     let source = Source {
+        text,
         traced: &traced,
         names: &names,
+        shows_values,
     };
     lines_of(alloc, input, watch, watch.last().pc, Some(source), ending)
 }

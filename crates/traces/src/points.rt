@@ -60,7 +60,7 @@ impl Sight {
 }
 
 /// The instruction at an address of the code.
-fn instruction_at(code: &[u8], address: u32) -> Option<Instr> {
+pub fn instruction_at(code: &[u8], address: u32) -> Option<Instr> {
     let offset = address.checked_sub(CODE_BASE)? as usize;
     let (bytes, _) = code.get(offset..)?.split_first_chunk::<4>()?;
     decode(u32::from_le_bytes(*bytes))

@@ -2,11 +2,12 @@
 
 use crate::points::{Point, Points, Sight};
 use crate::text::Text;
+use cyc_tree::Function;
 use cycc_driver::Place;
 use lower_checks::lower;
 use rv32_layout::{LayoutFault, Position, positions};
 use rv32_machine::CODE_BASE;
-use rv32_select::select;
+use rv32_select::{Labelled, select};
 use std::alloc::{AllocError, Global};
 
 /// A function that is active, and where in the text its call stands; `main` is called from nowhere.
@@ -20,6 +21,7 @@ pub struct Called {
 #[derive(Drop)]
 pub struct Traced {
     text: Text,
+    labelled: Labelled,
     positions: Vec<Position>,
     points: Points,
     /// Where the functions begin, by their numbers.
@@ -38,10 +40,8 @@ fn starts_of(alloc: Global, points: &[Point]) -> Result<Vec<u32>, AllocError> {
 }
 
 /// Where in its code a text's statements, raises and calls begin; none where the code would be too large.
-fn positions_of(alloc: Global, text: &Text) -> Result<Option<Vec<Position>>, AllocError> {
-    let core = lower(alloc, text.checked())?;
-    let labelled = select(alloc, &core)?;
-    match positions(alloc, &labelled) {
+fn positions_of(alloc: Global, labelled: &Labelled) -> Result<Option<Vec<Position>>, AllocError> {
+    match positions(alloc, labelled) {
         Ok(positions) => Ok(Some(positions)),
         Err(LayoutFault::Memory) => Err(AllocError),
         Err(LayoutFault::TooLarge) => Ok(None),
@@ -54,13 +54,16 @@ impl Traced {
         let Some(text) = Text::of(alloc, text)? else {
             return Ok(None);
         };
-        let Some(positions) = positions_of(alloc, &text)? else {
+        let core = lower(alloc, text.checked())?;
+        let labelled = select(alloc, &core)?;
+        let Some(positions) = positions_of(alloc, &labelled)? else {
             return Ok(None);
         };
         let points = Points::of(alloc, code)?;
         let functions = starts_of(alloc, &points.all)?;
         Ok(Some(Traced {
             text,
+            labelled,
             positions,
             points,
             functions,
@@ -89,12 +92,31 @@ impl Traced {
 
     /// Where in the text the instruction at an address of the code stands; none of what is before the first function, which the text doesn't have.
     pub fn place_at(&self, address: u32) -> Option<Place> {
+        Some(self.place(self.position_at(address)?))
+    }
+
+    /// The last position at an address of the code or before it.
+    fn position_at(&self, address: u32) -> Option<Position> {
         let offset = address.checked_sub(CODE_BASE)?;
         let behind = self
             .positions
             .partition_point(|position| position.offset <= offset);
-        let position = self.positions.get(behind.checked_sub(1)?)?;
-        Some(self.place(*position))
+        self.positions.get(behind.checked_sub(1)?).copied()
+    }
+
+    /// The offset in the text of the instruction at an address of the code; none of what is before the first function.
+    pub fn offset_at(&self, address: u32) -> Option<u32> {
+        Some(self.position_at(address)?.origin.0)
+    }
+
+    /// The function with a number.
+    pub fn function(&self, number: usize) -> Option<&Function> {
+        self.text.function(number)
+    }
+
+    /// The registers of a function's names, in the order of the text; 0 of one that has none.
+    pub fn homes(&self, function: usize) -> &[u8] {
+        self.labelled.homes(function)
     }
 
     /// The number of the function that begins at an address.

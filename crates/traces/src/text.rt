@@ -3,7 +3,7 @@
 use crate::positions::Positions;
 use accepted_programs::Checked;
 use cyc_core::Origin;
-use cyc_tree::Item;
+use cyc_tree::{Function, Item};
 use cycc_driver::{CompileFault, Place, front};
 use std::alloc::{AllocError, Global};
 
@@ -36,6 +36,20 @@ impl Text {
     /// The position of an offset.
     pub fn place(&self, origin: Origin) -> Place {
         self.positions.place(origin)
+    }
+
+    /// The function with a number.
+    pub fn function(&self, number: usize) -> Option<&Function> {
+        let mut left = number;
+        for item in self.checked.program().items() {
+            if let Item::Function(declared) = item {
+                if left == 0 {
+                    return Some(declared);
+                }
+                left -= 1;
+            }
+        }
+        None
     }
 
     /// The names of the functions, by their numbers.

@@ -19,16 +19,17 @@ pub fn shown_of(calls: usize) -> (usize, usize) {
     }
 }
 
-/// The line of a raise.
+/// The line of a raise, with what is said of the values behind the exception's name.
 pub fn raised_at(
     alloc: Global,
     input: &str,
     place: Place,
     kind: Kind,
+    values: &str,
 ) -> Result<String, AllocError> {
     let line = place.line;
     let column = place.column;
-    format!(in alloc; "{input}:{line}:{column}: {kind}\n")
+    format!(in alloc; "{input}:{line}:{column}: {kind}{values}\n")
 }
 
 /// The line of a call of a function.

@@ -7,7 +7,7 @@ use Rattle.rv32_machine.specs.Arrays.{IsStart, arrays, state_of}
 use Rattle.rv32_machine.specs.Served.{lacks}
 use Rattle.cycc_answer.specs.Answers.{IsExec}
 use Rattle.cycc_answer.specs.Statuses.{status_of}
-use Rattle.cycc_answer.proofs.Counts.{of_run}
+use Rattle.cycc_answer.proofs.Counts.{if_refused, of_run}
 use Rattle.cycc_answer.proofs.images.exec.Goals as goal
 
 pub returns-clause-run : goal.returns-clause-run
@@ -38,3 +38,6 @@ returns-clause-run g c =
 pub returns-clause-devices : goal.returns-clause-devices
 returns-clause-devices g c =
     of_run c.told_of.result _ _ _ _ c.run_watched-ending.result c.told_of.ensures c.run_watched-ending.ensures.reads c.run_watched-ending.ensures.writes
+
+pub returns-clause-untouched : goal.returns-clause-untouched
+returns-clause-untouched g c = if_refused _ c.told_of.result c.run_watched-ending.result c.told_of.ensures

@@ -2,7 +2,7 @@ use Rattle.std.proofs.Common.{◌≡◌, ℕ, inl}
 use Rattle.std.proofs.lemmas.Result.{IfOk-weaker}
 use Rattle.cycc_answer.specs.Statuses.{status_of}
 use Rattle.cycc_answer.specs.Answers.{IsRun}
-use Rattle.cycc_answer.proofs.Counts.{of_run}
+use Rattle.cycc_answer.proofs.Counts.{if_refused, of_run}
 use Rattle.cycc_answer.proofs.watching.ran_watched.Goals as goal
 
 pub returns-in-Ok-clause-run : goal.returns-in-Ok-clause-run
@@ -16,3 +16,6 @@ returns-in-Ok-clause-run g c =
 pub returns-in-Ok-clause-devices : goal.returns-in-Ok-clause-devices
 returns-in-Ok-clause-devices g c =
     of_run c.told_of.result _ _ _ _ c.in-Ok.watched.ending c.told_of.ensures c.in-Ok.ensures.reads c.in-Ok.ensures.writes
+
+pub returns-in-Ok-clause-untouched : goal.returns-in-Ok-clause-untouched
+returns-in-Ok-clause-untouched g c = if_refused _ c.told_of.result c.in-Ok.watched.ending c.told_of.ensures

@@ -20,6 +20,10 @@ Range = collections.namedtuple("Range", "address line")
 Function = collections.namedtuple("Function", "name first last line")
 Call = collections.namedtuple("Call", "at callee")
 Branch = collections.namedtuple("Branch", "at line taken passed")
+# a stack of calls: the number of the one around its innermost call, that call, and the instructions that were executed with just these calls
+Stack = collections.namedtuple("Stack", "around at executed")
+# how many functions of a stack are shown
+MOST_SHOWN = 100
 
 
 def words_of(image):
@@ -49,7 +53,7 @@ class Profile:
         self.functions, self.ranges, self.calls, self.checked = [], [], {}, set()
         self.read_map(rows)
         self.starts = [it.address for it in self.ranges]
-        self.counts, self.unfinished = {}, collections.Counter()
+        self.counts, self.unfinished, self.stacks = {}, collections.Counter(), []
         self.read_counts(counted)
 
     def read_map(self, rows):
@@ -71,6 +75,9 @@ class Profile:
             kind, address, *numbers = row.split(" ")
             if kind == "count":
                 self.counts[int(address, 16)] = Count(*map(int, numbers))
+            elif kind == "stack":
+                around, at, executed = numbers
+                self.stacks.append(Stack(int(around), int(at, 16), int(executed)))
             else:
                 self.unfinished[int(address, 16)] += int(numbers[0])
 
@@ -174,6 +181,20 @@ def callgrind(profile, parts, command):
                 rows += [f"cfl={os.path.abspath(path)}", f"cfn={callee}", f"calls={times} {head}", f"{place(line)[1]} {within}"]
             rows.append("")
     return "\n".join(rows) + "\n"
+
+
+def folded(profile):
+    """The executed instructions of each stack of calls, a line each, as flamegraph.pl and speedscope read it. A function that calls itself stands once in a
+    row, and of a stack the outermost functions are shown."""
+    shown, found = [], {}
+    for stack in profile.stacks:
+        names = ("(start)",)
+        if shown:
+            around, name = shown[stack.around], profile.calls[stack.at].callee if stack.at in profile.calls else "main"
+            names = around if name == around[-1] or len(around) == MOST_SHOWN else (*around, name)
+        shown.append(names)
+        found[names] = found.get(names, 0) + stack.executed
+    return "".join(f"{';'.join(names)} {count}\n" for names, count in found.items() if count)
 
 
 def summary(profile):

@@ -84,10 +84,18 @@ function edits(change) {
   return all;
 }
 
+function action(it) {
+  const found = new vscode.CodeAction(it.title, vscode.CodeActionKind.QuickFix);
+  found.diagnostics = it.diagnostics.map(diagnostic);
+  found.edit = edits(it.edit);
+  return found;
+}
+
 /** What VS Code asks, and how the answers look there. */
 function providers(server) {
   const about = (document) => ({ textDocument: { uri: document.uri.toString() } });
-  const at = (document, position) => ({ ...about(document), position: { line: position.line, character: position.character } });
+  const plain = (position) => ({ line: position.line, character: position.character });
+  const at = (document, position) => ({ ...about(document), position: plain(position) });
   const ask = async (name, params, made) => {
     const found = await server.ask(`textDocument/${name}`, params);
     return found && made(found);
@@ -98,6 +106,7 @@ function providers(server) {
     hover: { provideHover: (d, p) => ask('hover', at(d, p), text) },
     definition: { provideDefinition: (d, p) => ask('definition', at(d, p), location) },
     references: { provideReferences: (d, p, context) => ask('references', { ...at(d, p), context }, list(location)) },
+    actions: { provideCodeActions: (d, r) => ask('codeAction', { ...about(d), range: { start: plain(r.start), end: plain(r.end) }, context: { diagnostics: [] } }, list(action)) },
     rename: { provideRenameEdits: (d, p, newName) => ask('rename', { ...at(d, p), newName }, edits) },
     completion: { provideCompletionItems: (d, p) => ask('completion', at(d, p), list(completion)) },
     layout: { provideDocumentFormattingEdits: (d) => ask('formatting', { ...about(d), options: {} }, list((it) => new vscode.TextEdit(range(it.range), it.newText))) },
@@ -114,6 +123,7 @@ function register(context, server) {
     languages.registerDefinitionProvider(LANGUAGE, made.definition),
     languages.registerReferenceProvider(LANGUAGE, made.references),
     languages.registerRenameProvider(LANGUAGE, made.rename),
+    languages.registerCodeActionsProvider(LANGUAGE, made.actions),
     languages.registerCompletionItemProvider(LANGUAGE, made.completion, '.', '>', '`'),
     languages.registerDocumentSymbolProvider(LANGUAGE, made.symbols),
     languages.registerDocumentFormattingEditProvider(LANGUAGE, made.layout),
@@ -137,7 +147,13 @@ function follow(context, server) {
     if (document.languageId !== LANGUAGE.language) return;
     server.notify('textDocument/didClose', { textDocument: named(document) });
   };
-  context.subscriptions.push(workspace.onDidOpenTextDocument(opened), workspace.onDidChangeTextDocument(changed), workspace.onDidCloseTextDocument(closed));
+  const saved = (document) => server.notify('textDocument/didSave', { textDocument: named(document) });
+  context.subscriptions.push(
+    workspace.onDidOpenTextDocument(opened),
+    workspace.onDidChangeTextDocument(changed),
+    workspace.onDidSaveTextDocument(saved),
+    workspace.onDidCloseTextDocument(closed),
+  );
   workspace.textDocuments.forEach(opened);
 }
 

@@ -16,6 +16,7 @@ local function attach(buffer)
   key('gd', vim.lsp.buf.definition)
   key('gr', vim.lsp.buf.references)
   key('<F2>', vim.lsp.buf.rename)
+  key('<F4>', vim.lsp.buf.code_action)
   key('gq', vim.lsp.buf.format or vim.lsp.buf.formatting)
   vim.bo[buffer].omnifunc = 'v:lua.vim.lsp.omnifunc'
 end

@@ -23,9 +23,12 @@
 (wait "no fault appeared" (lambda () (= 1 (length (flymake-diagnostics)))))
 (unless (string-match "Name" (flymake-diagnostic-text (car (flymake-diagnostics)))) (fail "the fault is another one"))
 
-(place 5 11)
-(delete-char 5)
-(insert "total")
+(place 5 12)
+(let ((offered (jsonrpc-request (eglot-current-server) :textDocument/codeAction
+                 (list :textDocument (eglot--TextDocumentIdentifier) :range (list :start (eglot--pos-to-lsp-position) :end (eglot--pos-to-lsp-position))
+                       :context (list :diagnostics [])))))
+  (unless (and (= 1 (length offered)) (equal "Write `total`" (plist-get (elt offered 0) :title))) (fail "cure: none was offered"))
+  (eglot--apply-workspace-edit (plist-get (elt offered 0) :edit)))
 (eglot--signal-textDocument/didChange)
 (wait "the fault did not go" (lambda () (null (flymake-diagnostics))))
 
@@ -45,5 +48,5 @@
 (eglot-format-buffer)
 (unless (string-match "^}" (buffer-string)) (fail "layout: the text did not change"))
 (set-buffer-modified-p nil)
-(message "emacs: faults, definition, hover, rename, completion and layout were seen")
+(message "emacs: faults, cure, definition, hover, rename, completion and layout were seen")
 (kill-emacs 0)

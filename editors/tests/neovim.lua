@@ -20,7 +20,10 @@ vim.cmd('edit ' .. vim.fn.fnameescape(os.getenv('FILE')))
 wait('no server was started', function() return #vim.lsp.get_active_clients() > 0 and vim.lsp.get_active_clients()[1].initialized end)
 wait('no fault appeared', function() return #faults() == 1 and faults()[1].code == 'Name' and faults()[1].lnum == 5 end)
 
-vim.api.nvim_buf_set_text(0, 5, 11, 5, 16, { 'total' })
+put(6, 12)
+local offered = asked('codeAction', { range = vim.lsp.util.make_range_params(0, 'utf-16').range, context = { diagnostics = {} } })
+if not (#offered == 1 and offered[1].title == 'Write `total`') then fail('cure: none was offered') end
+vim.lsp.util.apply_workspace_edit(offered[1].edit, 'utf-16')
 wait('the fault did not go', function() return #faults() == 0 end)
 
 put(6, 12)
@@ -39,5 +42,5 @@ if #asked('documentSymbol') ~= 3 then fail('symbols: not three') end
 local layout = vim.lsp.buf.format or vim.lsp.buf.formatting_sync
 layout()
 wait('layout: the text did not change', function() return text():find('\n}', 1, true) end)
-print('neovim: faults, definition, hover, rename, completion, symbols and layout were seen')
+print('neovim: faults, cure, definition, hover, rename, completion, symbols and layout were seen')
 vim.cmd('qall!')

@@ -26,6 +26,8 @@ const vscode = {
   TextEdit: class { constructor(where, newText) { Object.assign(this, { newText }); } },
   WorkspaceEdit: Edits,
   DiagnosticSeverity: { Error: 0 },
+  CodeAction: class { constructor(title) { this.title = title; } },
+  CodeActionKind: { QuickFix: 'quickfix' },
   Uri: { parse: (it) => it },
   window: { showErrorMessage: (words) => { throw new Error(words); } },
   languages: {
@@ -34,6 +36,7 @@ const vscode = {
     registerDefinitionProvider: remember('definition'),
     registerReferenceProvider: remember('references'),
     registerRenameProvider: remember('rename'),
+    registerCodeActionsProvider: remember('actions'),
     registerCompletionItemProvider: remember('completion'),
     registerDocumentSymbolProvider: remember('symbols'),
     registerFoldingRangeProvider: remember('folds'),
@@ -43,6 +46,7 @@ const vscode = {
     getConfiguration: () => ({ get: () => process.env.CYCC }),
     onDidOpenTextDocument: listen('open'),
     onDidChangeTextDocument: listen('change'),
+    onDidSaveTextDocument: listen('save'),
     onDidCloseTextDocument: listen('close'),
     textDocuments: [document],
   },
@@ -65,6 +69,9 @@ async function main() {
   await until('no fault appeared', () => faults().length === 1 && faults()[0].code === 'Name');
   document.version = 2;
   const range = { start: { line: 5, character: 11 }, end: { line: 5, character: 16 } };
+  const [offered] = await made.actions.provideCodeActions(document, range);
+  assert.strictEqual(offered.title, 'Write `total`');
+  assert.deepStrictEqual(offered.edit.list.map((it) => it.newText), ['total']);
   listeners.change({ document, contentChanges: [{ range, text: 'total' }] });
   await until('the fault did not go', () => faults().length === 0);
   const at = { line: 5, character: 12 };
@@ -78,9 +85,10 @@ async function main() {
   assert.strictEqual((await made.folds.provideFoldingRanges(document)).length, 1);
   const [laid] = await made.layout.provideDocumentFormattingEdits(document);
   assert.match(laid.newText, /;\n\}\n$/);
+  listeners.save(document);
   listeners.close(document);
   await client.deactivate();
-  console.log('vscode: faults, definition, hover, rename, references, completion, symbols, folding and layout were seen');
+  console.log('vscode: faults, definition, hover, cure, rename, references, completion, symbols, folding and layout were seen');
 }
 
 main().then(() => process.exit(0), (error) => { console.error(`vscode: ${error.message}`); process.exit(1); });

@@ -1,7 +1,7 @@
 // Files, whole or as they were.
 
-use command_line::shown;
 use command_line::status::{FILE_FAULT, MEMORY, SUCCESS};
+use command_line::{shown, why_no_name};
 use std::fs::{File, Permissions};
 use std::io::{Read, Write};
 use std::{fs, io, process};
@@ -26,8 +26,9 @@ pub(crate) fn file_fault(rt: &HostRuntime, what: &str, path: &str, error: &io::E
         let _ = eprintln!(rt; "out of memory");
         return MEMORY;
     }
+    let why = why_no_name(path);
     let path = shown(path);
-    let _ = eprintln!(rt; "cannot {what} {path}");
+    let _ = eprintln!(rt; "cannot {what} {path}{why}");
     FILE_FAULT
 }
 

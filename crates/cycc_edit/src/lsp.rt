@@ -1,14 +1,18 @@
 // The language server over the standard streams: it ends when it is told to, or when nothing more comes.
 
+use crate::files::bytes_of;
 use crate::frames_read::{Arrived, Received};
 use command_line::status::{ENDED, FILE_FAULT, MEMORY, SUCCESS};
 use editor_protocol::Message;
 use language_server::Server;
-use std::io;
 use std::io::{Read, Write};
+use std::{io, str};
 
 /// How many bytes are read at once.
 const PART: usize = 8192;
+
+/// The most files that are read behind one message.
+const MOST_FILES: u32 = 10_000;
 
 /// Writes messages.
 fn write_all(rt: &HostRuntime, messages: &[Message]) -> io::Result<()> {
@@ -20,13 +24,48 @@ fn write_all(rt: &HostRuntime, messages: &[Message]) -> io::Result<()> {
     out.flush()
 }
 
+/// The path of the file that a key names; none of what is no file.
+fn path_of(key: &[u8]) -> Option<&str> {
+    match key.strip_prefix(b"file://")? {
+        [b'/', ..] => {}
+        _ => return None,
+    }
+    str::from_utf8(key.strip_prefix(b"file://")?).ok()
+}
+
+/// The bytes of the file that a key names; none, where it can't be read.
+fn file_of(rt: &HostRuntime, key: &[u8]) -> io::Result<Option<Vec<u8>>> {
+    let Some(path) = path_of(key) else {
+        return Ok(None);
+    };
+    match bytes_of(rt, path) {
+        Ok(bytes) => Ok(Some(bytes)),
+        Err(error) if error.kind() == io::ErrorKind::OutOfMemory => Err(error),
+        Err(_) => Ok(None),
+    }
+}
+
+/// Gives the server the files that it wants.
+fn supply_all(rt: &HostRuntime, server: &mut Server) -> io::Result<()> {
+    for _ in 0..MOST_FILES {
+        let Some(key) = server.wanted()? else {
+            break;
+        };
+        let bytes = file_of(rt, key.as_slice())?;
+        let messages = server.supply(key, bytes)?;
+        write_all(rt, messages.as_slice())?;
+    }
+    Ok(())
+}
+
 /// Answers what arrived.
 fn answer(rt: &HostRuntime, server: &mut Server, arrived: Arrived) -> io::Result<()> {
     let messages = match arrived {
         Arrived::Body(body) => server.serve(body.as_slice())?,
         Arrived::Fault(code) => server.refuse(code)?,
     };
-    write_all(rt, messages.as_slice())
+    write_all(rt, messages.as_slice())?;
+    supply_all(rt, server)
 }
 
 /// Answers all that arrived whole. Each step takes at least one byte.

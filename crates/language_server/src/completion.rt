@@ -77,7 +77,7 @@ fn is_behind_dot(page: &Page<'_>, index: usize) -> bool {
 
 /// Whether a backquote stands right before an offset.
 fn is_behind_backquote(page: &Page<'_>, offset: usize) -> bool {
-    let text = page.document.text.as_slice();
+    let text = page.source.text.as_slice();
     match offset.checked_sub(1) {
         Some(before) => matches!(text.get(before), Some(b'`')),
         None => false,

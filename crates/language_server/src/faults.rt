@@ -1,12 +1,10 @@
 // The faults of a text, as an editor shows them.
 
-ghost use Rattle.std.specs.Prelude.{IfOk};
-ghost use Rattle.language_server.specs.Messages.{IsNotification};
-
 use crate::pages::{Span, push_range, span_of};
+use crate::sources::Source;
 use cyc_lexer::Token;
 use cycc_driver::{CompileFault, Place, check};
-use editor_protocol::{JsonText, Message, line_begin};
+use editor_protocol::{JsonText, line_begin};
 use explanations::explain;
 use reasons::{further_faults, reason};
 use std::alloc::{AllocError, Global};
@@ -37,7 +35,7 @@ fn offset_of(text: &[u8], place: Place) -> u32 {
 }
 
 /// The offsets of the token at a place; where there is none, of a byte.
-fn span_at(text: &[u8], tokens: &[Token<'_>], place: Place) -> Span {
+pub(crate) fn span_at(text: &[u8], tokens: &[Token<'_>], place: Place) -> Span {
     let begin = offset_of(text, place);
     for token in tokens {
         if token.at == begin {
@@ -71,77 +69,80 @@ fn push_words(
     json.raw("\"")
 }
 
-/// Adds a fault as a diagnostic.
+/// Adds a fault of a source as a diagnostic, at these offsets, which are in a part.
+pub(crate) fn push_diagnostic(
+    json: &mut JsonText,
+    alloc: Global,
+    source: &Source,
+    span: Span,
+    fault: CompileFault,
+) -> Result<(), AllocError> {
+    json.raw("{\"range\":")?;
+    push_range(json, source, span)?;
+    json.raw(",\"severity\":1,\"source\":\"cycc\",\"code\":\"")?;
+    json.raw(fault.name())?;
+    json.raw("\",\"message\":")?;
+    push_words(json, alloc, source.text.as_slice(), fault)?;
+    json.raw("}")
+}
+
+/// Adds a fault to a list of diagnostics, where it is in the part of an index.
 fn push_fault(
     json: &mut JsonText,
     alloc: Global,
-    text: &[u8],
+    source: &Source,
     tokens: &[Token<'_>],
+    index: usize,
     fault: CompileFault,
 ) -> Result<(), AllocError> {
     let Some(place) = fault.place() else {
         return Ok(());
     };
-    json.item()?;
-    json.raw("{\"range\":")?;
-    push_range(json, text, span_at(text, tokens, place))?;
-    json.raw(",\"severity\":1,\"source\":\"cycc\",\"code\":\"")?;
-    json.raw(fault.name())?;
-    json.raw("\",\"message\":")?;
-    push_words(json, alloc, text, fault)?;
-    json.raw("}")
-}
-
-/// Adds faults as a list of diagnostics.
-fn push_faults(
-    json: &mut JsonText,
-    alloc: Global,
-    text: &[u8],
-    faults: &[CompileFault],
-) -> Result<(), AllocError> {
-    let tokens = pieces(alloc, text)?;
-    json.begin()?;
-    for fault in faults {
-        push_fault(json, alloc, text, tokens.as_slice(), *fault)?;
+    let span = span_at(source.text.as_slice(), tokens, place);
+    if source.index_at(span.begin as usize) != index {
+        return Ok(());
     }
-    json.end()
+    json.item()?;
+    push_diagnostic(json, alloc, source, span, fault)
 }
 
-/// The parameters of the notification of a text's faults.
-fn params_of(
-    alloc: Global,
-    uri: &str,
-    version: Option<i64>,
-    text: &[u8],
-    faults: &[CompileFault],
-) -> Result<Vec<u8>, AllocError> {
-    let mut json = JsonText::new(alloc);
+/// Adds the name and the version of a text.
+fn push_text(json: &mut JsonText, uri: &[u8], version: Option<i64>) -> Result<(), AllocError> {
     json.raw("{\"uri\":")?;
-    json.string(uri.as_bytes())?;
+    json.string(uri)?;
     if let Some(version) = version {
         json.raw(",\"version\":")?;
         json.number(version)?;
     }
-    json.raw(",\"diagnostics\":")?;
-    push_faults(&mut json, alloc, text, faults)?;
-    json.raw("}")?;
+    json.raw(",\"diagnostics\":")
+}
+
+/// The parameters of the notification that a text has no faults. Fails only where no host memory is left, as all of these.
+pub(crate) fn faultless(alloc: Global, uri: &[u8]) -> Result<Vec<u8>, AllocError> {
+    let mut json = JsonText::new(alloc);
+    push_text(&mut json, uri, None)?;
+    json.raw("[]}")?;
     Ok(json.into_bytes())
 }
 
-/// The notification of a text's faults. Fails only where no host memory is left.
-pub(crate) fn published(
+/// The parameters of the notification of the faults that a source has in the part of an index.
+pub(crate) fn params_of(
     alloc: Global,
-    uri: &str,
     version: Option<i64>,
-    text: &[u8],
+    source: &Source,
+    tokens: &[Token<'_>],
+    index: usize,
     faults: &[CompileFault],
-) -> Result<Message, AllocError>
-    ensures { IfOk result IsNotification }
-{
-    Ok(Message::Notification {
-        method: "textDocument/publishDiagnostics",
-        params: params_of(alloc, uri, version, text, faults)?,
-    })
+) -> Result<Vec<u8>, AllocError> {
+    let mut json = JsonText::new(alloc);
+    push_text(&mut json, source.uri_at(index), version)?;
+    json.begin()?;
+    for fault in faults {
+        push_fault(&mut json, alloc, source, tokens, index, *fault)?;
+    }
+    json.end()?;
+    json.raw("}")?;
+    Ok(json.into_bytes())
 }
 
 /// The explanation of the fault at an offset of a text.

@@ -19,10 +19,11 @@ pub enum Method {
     References,
     Rename,
     Completion,
+    Actions,
 }
 
 /// The requests, by their names.
-static METHODS: [(Method, &[u8]); 10] = [
+static METHODS: [(Method, &[u8]); 11] = [
     (Method::Initialize, b"initialize"),
     (Method::Shutdown, b"shutdown"),
     (Method::Symbols, b"textDocument/documentSymbol"),
@@ -33,6 +34,7 @@ static METHODS: [(Method, &[u8]); 10] = [
     (Method::References, b"textDocument/references"),
     (Method::Rename, b"textDocument/rename"),
     (Method::Completion, b"textDocument/completion"),
+    (Method::Actions, b"textDocument/codeAction"),
 ];
 
 /// The notification that ends a session.

@@ -3,6 +3,7 @@
 use crate::faults::explained_at;
 use crate::pages::{Page, Span};
 use editor_protocol::JsonText;
+use reasons::known_at;
 use std::alloc::AllocError;
 use token_names::{declaration_of, shown, uses_of};
 
@@ -28,13 +29,34 @@ fn push_declaration(
     Ok(true)
 }
 
+/// Adds what the checker knows of the name of an index: the type, the size, what a call instantiates, and which locals are held; answers whether
+/// that is anything.
+fn push_known(json: &mut JsonText, page: &Page<'_>, index: usize) -> Result<bool, AllocError> {
+    let text = page.source.text.as_slice();
+    let known = known_at(page.alloc, text, page.span_at(index).begin)?;
+    if known.is_empty() {
+        return Ok(false);
+    }
+    json.raw("\\n```text\\n")?;
+    json.inside(known.as_slice())?;
+    json.raw("```\\n")?;
+    Ok(true)
+}
+
+/// Adds what is known of the name of an index; answers whether that is anything.
+fn push_named(json: &mut JsonText, page: &Page<'_>, index: usize) -> Result<bool, AllocError> {
+    let is_declared = push_declaration(json, page, index)?;
+    let is_known = push_known(json, page, index)?;
+    Ok(is_declared || is_known)
+}
+
 /// Adds the explanation of the fault at an offset; answers whether there is one.
 fn push_explanation(
     json: &mut JsonText,
     page: &Page<'_>,
     offset: usize,
 ) -> Result<bool, AllocError> {
-    let text = page.document.text.as_slice();
+    let text = page.source.text.as_slice();
     let faults = page.document.faults.as_slice();
     let Some(explanation) = explained_at(text, page.tokens, faults, offset) else {
         return Ok(false);
@@ -45,12 +67,12 @@ fn push_explanation(
     Ok(true)
 }
 
-/// What is said of an offset: the declaration of the name there, and the explanation of the fault.
+/// What is said of an offset: the declaration of the name there, what the checker knows of it, and the explanation of the fault.
 pub(crate) fn hover(page: &Page<'_>, offset: usize) -> Result<Vec<u8>, AllocError> {
     let mut json = JsonText::new(page.alloc);
     json.raw("{\"contents\":{\"kind\":\"markdown\",\"value\":\"")?;
     let is_named = match page.name_at(offset) {
-        Some(index) => push_declaration(&mut json, page, index)?,
+        Some(index) => push_named(&mut json, page, index)?,
         None => false,
     };
     let is_fault = push_explanation(&mut json, page, offset)?;
@@ -113,7 +135,37 @@ fn push_edit(
     json.raw("}")
 }
 
-/// The edits that give the name at an offset another one.
+/// Whether one of these tokens is in a part.
+fn has_use(page: &Page<'_>, uses: &[usize], part: usize) -> bool {
+    for index in uses {
+        if page.part_of(*index) == part {
+            return true;
+        }
+    }
+    false
+}
+
+/// Adds the edits that give the names of these tokens in a part another name.
+fn push_edits(
+    json: &mut JsonText,
+    page: &Page<'_>,
+    uses: &[usize],
+    part: usize,
+    name: &[u8],
+) -> Result<(), AllocError> {
+    json.item()?;
+    json.string(page.source.uri_at(part))?;
+    json.raw(":")?;
+    json.begin()?;
+    for index in uses {
+        if page.part_of(*index) == part {
+            push_edit(json, page, *index, name)?;
+        }
+    }
+    json.end()
+}
+
+/// The edits that give the name at an offset another one, in each part of the source.
 pub(crate) fn renamed(page: &Page<'_>, offset: usize, name: &[u8]) -> Result<Vec<u8>, AllocError> {
     let Some(declaration) = declared_at(page, offset) else {
         return Vec::from_slice(page.alloc, NOTHING);
@@ -121,13 +173,11 @@ pub(crate) fn renamed(page: &Page<'_>, offset: usize, name: &[u8]) -> Result<Vec
     let uses = uses_of(page.alloc, page.tokens, declaration)?;
     let mut json = JsonText::new(page.alloc);
     json.raw("{\"changes\":{")?;
-    json.string(page.document.uri.as_bytes())?;
-    json.raw(":")?;
-    json.begin()?;
-    for index in uses.iter() {
-        push_edit(&mut json, page, *index, name)?;
+    for part in 0..page.source.parts.len() {
+        if has_use(page, uses.as_slice(), part) {
+            push_edits(&mut json, page, uses.as_slice(), part, name)?;
+        }
     }
-    json.end()?;
     json.raw("}}")?;
     Ok(json.into_bytes())
 }

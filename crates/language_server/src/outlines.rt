@@ -30,7 +30,7 @@ fn push_symbol(
     let role = role_of(page.tokens, name).unwrap_or(Role::Global);
     json.number(symbol_kind(role))?;
     json.raw(",\"range\":")?;
-    push_range(json, page.document.text.as_slice(), span)?;
+    push_range(json, page.source, span)?;
     json.raw(",\"selectionRange\":")?;
     page.push_token(json, name)
 }
@@ -96,7 +96,7 @@ pub(crate) fn folding(page: &Page<'_>) -> Result<Vec<u8>, AllocError> {
     for fold in folds.iter() {
         push_fold(
             &mut json,
-            page.document.text.as_slice(),
+            page.source.text.as_slice(),
             fold.open,
             fold.close,
         )?;

@@ -1,15 +1,17 @@
-// A text with its tokens, as requests look at it.
+// A text with its source and the tokens of that, as requests look at it.
 
 use crate::documents::Document;
+use crate::sources::Source;
 use cyc_lexer::{Token, TokenKind};
 use editor_protocol::{JsonText, position_at};
 use std::alloc::{AllocError, Global};
 
-/// A text with its tokens.
+/// An open text with its source and the tokens of that.
 #[derive(Drop)]
 pub(crate) struct Page<'d> {
     pub alloc: Global,
     pub document: &'d Document,
+    pub source: &'d Source,
     pub tokens: &'d [Token<'d>],
 }
 
@@ -44,12 +46,19 @@ fn push_position(json: &mut JsonText, text: &[u8], offset: u32) -> Result<(), Al
     json.raw("}")
 }
 
-/// Adds a range as a value of JSON.
-pub(crate) fn push_range(json: &mut JsonText, text: &[u8], span: Span) -> Result<(), AllocError> {
+/// Adds a range of a source as a value of JSON, as one of the part in which it begins.
+pub(crate) fn push_range(
+    json: &mut JsonText,
+    source: &Source,
+    span: Span,
+) -> Result<(), AllocError> {
+    let index = source.index_at(span.begin as usize);
+    let text = source.text_at(index);
+    let before = u32::try_from(source.begin_at(index)).unwrap_or(u32::MAX);
     json.raw("{\"start\":")?;
-    push_position(json, text, span.begin)?;
+    push_position(json, text, span.begin.saturating_sub(before))?;
     json.raw(",\"end\":")?;
-    push_position(json, text, span.end)?;
+    push_position(json, text, span.end.saturating_sub(before))?;
     json.raw("}")
 }
 
@@ -73,26 +82,31 @@ impl Page<'_> {
         }
     }
 
-    /// What the text has between two offsets.
+    /// What the source has between two offsets.
     pub(crate) fn written(&self, span: Span) -> &[u8] {
-        let text = self.document.text.as_slice();
+        let text = self.source.text.as_slice();
         text.get(span.begin as usize..span.end as usize)
             .unwrap_or(text)
     }
 
-    /// Adds the range of the token of an index.
-    pub(crate) fn push_token(&self, json: &mut JsonText, index: usize) -> Result<(), AllocError> {
-        push_range(json, self.document.text.as_slice(), self.span_at(index))
+    /// The index of the part that has the token of an index.
+    pub(crate) fn part_of(&self, index: usize) -> usize {
+        self.source.index_at(self.span_at(index).begin as usize)
     }
 
-    /// Adds the name of the text and the range of the token of an index.
+    /// Adds the range of the token of an index.
+    pub(crate) fn push_token(&self, json: &mut JsonText, index: usize) -> Result<(), AllocError> {
+        push_range(json, self.source, self.span_at(index))
+    }
+
+    /// Adds the name of the text that has the token of an index, and its range there.
     pub(crate) fn push_location(
         &self,
         json: &mut JsonText,
         index: usize,
     ) -> Result<(), AllocError> {
         json.raw("{\"uri\":")?;
-        json.string(self.document.uri.as_bytes())?;
+        json.string(self.source.uri_at(self.part_of(index)))?;
         json.raw(",\"range\":")?;
         self.push_token(json, index)?;
         json.raw("}")

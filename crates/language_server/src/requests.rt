@@ -1,5 +1,6 @@
 // What requests are answered.
 
+use crate::actions::actions;
 use crate::changes::position_of;
 use crate::completion::completions;
 use crate::documents::{Document, document_of, uri_in};
@@ -8,6 +9,7 @@ use crate::methods::Method;
 use crate::names::{definition, hover, may_be_named, references, renamed};
 use crate::outlines::{folding, symbols};
 use crate::pages::Page;
+use crate::sources::{Source, Texts};
 use editor_protocol::offset_at;
 use serde_json::Value;
 use std::alloc::{AllocError, Global};
@@ -15,17 +17,18 @@ use token_names::pieces;
 
 /// What the server can do.
 const CAPABILITIES: &str =
-    r#"{"capabilities":{"positionEncoding":"utf-16","textDocumentSync":{"openClose":true,"change":2},"hoverProvider":true,"definitionProvider":true,"referencesProvider":true,"renameProvider":true,"documentSymbolProvider":true,"foldingRangeProvider":true,"documentFormattingProvider":true,"completionProvider":{"triggerCharacters":[".",">","`"]}},"serverInfo":{"name":"cycc"}}"#;
+    r#"{"capabilities":{"positionEncoding":"utf-16","textDocumentSync":{"openClose":true,"change":2,"save":true},"hoverProvider":true,"definitionProvider":true,"referencesProvider":true,"renameProvider":true,"documentSymbolProvider":true,"foldingRangeProvider":true,"documentFormattingProvider":true,"codeActionProvider":{"codeActionKinds":["quickfix"]},"completionProvider":{"triggerCharacters":[".",">","`"]}},"serverInfo":{"name":"cycc"}}"#;
 
 /// A text of JSON as bytes of its own.
 fn written(alloc: Global, text: &str) -> Result<Option<Vec<u8>>, AllocError> {
     Ok(Some(Vec::from_slice(alloc, text.as_bytes())?))
 }
 
-/// The offset that a message asks about.
-fn offset_in(body: &Value, text: &[u8]) -> Option<usize> {
+/// The offset in a source that a message asks about.
+fn offset_in(body: &Value, source: &Source) -> Option<usize> {
     let position = body.pointer("/params/position").and_then(position_of)?;
-    Some(offset_at(text, position))
+    let within = offset_at(source.text_at(source.own), position);
+    Some(source.begin_at(source.own).saturating_add(within))
 }
 
 /// Whether the declaration is asked for among the uses.
@@ -47,7 +50,7 @@ fn renamed_in(page: &Page<'_>, offset: usize, body: &Value) -> Result<Option<Vec
 
 /// The answer to a request about a position.
 fn found_at(page: &Page<'_>, method: Method, body: &Value) -> Result<Option<Vec<u8>>, AllocError> {
-    let Some(offset) = offset_in(body, page.document.text.as_slice()) else {
+    let Some(offset) = offset_in(body, page.source) else {
         return Ok(None);
     };
     match method {
@@ -65,27 +68,37 @@ fn found_on(page: &Page<'_>, method: Method, body: &Value) -> Result<Option<Vec<
         Method::Symbols => Ok(Some(symbols(page)?)),
         Method::Folds => Ok(Some(folding(page)?)),
         Method::Layout => Ok(Some(layout(page)?)),
+        Method::Actions => actions(page, body),
         _ => found_at(page, method, body),
+    }
+}
+
+/// What a request looks at: the text alone, or all of its source.
+fn source_for(texts: Texts<'_>, document: &Document, method: Method) -> Result<Source, AllocError> {
+    match method {
+        Method::Symbols | Method::Folds | Method::Layout => Source::alone(texts.alloc, document),
+        _ => texts.source_of(document),
     }
 }
 
 /// The answer to a request about one of these texts; none, where it isn't among them.
 fn found_among(
-    alloc: Global,
-    texts: &[Document],
+    texts: Texts<'_>,
     method: Method,
     body: &Value,
 ) -> Result<Option<Vec<u8>>, AllocError> {
     let Some(uri) = uri_in(body) else {
         return Ok(None);
     };
-    let Some(document) = document_of(texts, uri) else {
+    let Some(document) = document_of(texts.open, uri) else {
         return Ok(None);
     };
-    let tokens = pieces(alloc, document.text.as_slice())?;
+    let source = source_for(texts, document, method)?;
+    let tokens = pieces(texts.alloc, source.text.as_slice())?;
     let page = Page {
-        alloc,
+        alloc: texts.alloc,
         document,
+        source: &source,
         tokens: tokens.as_slice(),
     };
     found_on(&page, method, body)
@@ -93,14 +106,13 @@ fn found_among(
 
 /// The answer to a request, a text of JSON; none, where its parameters are wrong. Fails only where no host memory is left.
 pub(crate) fn found_in(
-    alloc: Global,
-    texts: &[Document],
+    texts: Texts<'_>,
     method: Method,
     body: &Value,
 ) -> Result<Option<Vec<u8>>, AllocError> {
     match method {
-        Method::Initialize => written(alloc, CAPABILITIES),
-        Method::Shutdown => written(alloc, "null"),
-        _ => found_among(alloc, texts, method, body),
+        Method::Initialize => written(texts.alloc, CAPABILITIES),
+        Method::Shutdown => written(texts.alloc, "null"),
+        _ => found_among(texts, method, body),
     }
 }

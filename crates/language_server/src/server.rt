@@ -4,19 +4,26 @@ ghost use Rattle.std.specs.Prelude.{◌≡◌, [], ◌∷◌, All, IfOk, OnErr};
 ghost use Rattle.language_server.specs.Messages.{IsNotification};
 
 use crate::changes::changed;
-use crate::documents::{Document, document_of, index_of, is_later, uri_in, version_in};
-use crate::faults::{faults_of, published};
+use crate::documents::{
+    Document, File, copies, document_of, is_later, uri_in, version_in, with_text, without_file,
+    without_text,
+};
+use crate::faults::faultless;
+use crate::keys::key_of;
 use crate::methods::{Method, Phase, admission, method_of, phase_behind, phase_told};
 use crate::requests::found_in;
+use crate::sources::Texts;
+use crate::told::{check_due, closed, make_due, notifications};
 use editor_protocol::{Code, Incoming, Message, Outcome, read};
 use serde_json::Value;
 use std::alloc::{AllocError, Global};
 
-/// The state of a session: how far it is, and the texts that are open.
+/// The state of a session: how far it is, the texts that are open, and the files that are known beside them.
 pub struct Server {
     pub alloc: Global,
     pub phase: Phase,
     pub texts: Vec<Document>,
+    pub files: Vec<File>,
 }
 
 // Written out, so that a caller's proof sees one call and not the drop of each field.
@@ -26,6 +33,7 @@ impl Drop for Server {
             alloc: _,
             phase: _,
             texts: _texts,
+            files: _files,
         } = self;
     }
 }
@@ -51,6 +59,16 @@ impl Server {
             alloc,
             phase: Phase::Fresh,
             texts: Vec::new(alloc),
+            files: Vec::new(alloc),
+        }
+    }
+
+    /// The texts that are open, and the files that are known beside them.
+    fn known(&self) -> Texts<'_> {
+        Texts {
+            alloc: self.alloc,
+            open: self.texts.as_slice(),
+            files: self.files.as_slice(),
         }
     }
 
@@ -64,7 +82,7 @@ impl Server {
 
     /// What a request that may be made is answered.
     fn found(&self, method: Method, body: &Value) -> Result<Outcome, AllocError> {
-        match found_in(self.alloc, self.texts.as_slice(), method, body)? {
+        match found_in(self.known(), method, body)? {
             Some(text) => Ok(Outcome::Found(text)),
             None => Ok(Outcome::Refused(Code::InvalidParams)),
         }
@@ -93,7 +111,40 @@ impl Server {
         Ok(messages)
     }
 
-    /// Keeps a text in place of the one of its name, and tells its faults.
+    /// Puts texts in place of those that are open, and tells the faults of those that are due, behind what is told already.
+    fn settle(
+        &mut self,
+        texts: Vec<Document>,
+        told: Vec<Vec<u8>>,
+    ) -> Result<Vec<Message>, AllocError>
+        ensures told { IfOk result (λ messages. All IsNotification messages.items) }
+        ensures phase { self.new.phase ≡ self.old.phase }
+        ensures failed { OnErr result (self.new.texts.items ≡ self.old.texts.items) }
+    {
+        let mut open = texts;
+        let mut told = told;
+        check_due(self.alloc, &mut open, self.files.as_slice(), &mut told)?;
+        let messages = notifications(self.alloc, told.as_slice())?;
+        self.texts = open;
+        Ok(messages)
+    }
+
+    /// The same, where a text has changed: what it is a part of is due.
+    fn settle_anew(
+        &mut self,
+        texts: Vec<Document>,
+        told: Vec<Vec<u8>>,
+    ) -> Result<Vec<Message>, AllocError>
+        ensures told { IfOk result (λ messages. All IsNotification messages.items) }
+        ensures phase { self.new.phase ≡ self.old.phase }
+        ensures failed { OnErr result (self.new.texts.items ≡ self.old.texts.items) }
+    {
+        let mut open = texts;
+        make_due(self.alloc, &mut open, self.files.as_slice())?;
+        self.settle(open, told)
+    }
+
+    /// Keeps a text in place of the one of its name, and tells the faults.
     fn keep(
         &mut self,
         uri: &str,
@@ -104,20 +155,20 @@ impl Server {
         ensures phase { self.new.phase ≡ self.old.phase }
         ensures failed { OnErr result (self.new.texts.items ≡ self.old.texts.items) }
     {
-        let faults = faults_of(self.alloc, text.as_slice())?;
-        let message = published(self.alloc, uri, version, text.as_slice(), faults.as_slice())?;
-        let messages = one(self.alloc, message)?;
-        let document = Document {
-            uri: String::from_str(self.alloc, uri)?,
-            version,
-            text,
-            faults,
-        };
-        match index_of(self.texts.as_slice(), uri) {
-            Some(index) => self.texts[index] = document,
-            None => self.texts.push(document)?,
-        }
-        Ok(messages)
+        let document = Document::new(self.alloc, uri, version, text)?;
+        let texts = with_text(self.alloc, self.texts.as_slice(), document)?;
+        self.settle_anew(texts, Vec::new(self.alloc))
+    }
+
+    /// Forgets the file of a text's name.
+    fn forget(&mut self, uri: &str) -> Result<(), AllocError>
+        ensures phase { self.new.phase ≡ self.old.phase }
+        ensures same { self.new.texts ≡ self.old.texts }
+    {
+        let key = key_of(self.alloc, uri.as_bytes())?;
+        let files = without_file(self.alloc, self.files.as_slice(), key.as_slice())?;
+        self.files = files;
+        Ok(())
     }
 
     /// A text is opened.
@@ -133,6 +184,7 @@ impl Server {
             return Ok(Vec::new(self.alloc));
         };
         let text = Vec::from_slice(self.alloc, text.as_bytes())?;
+        self.forget(uri)?;
         self.keep(uri, version_in(body), text)
     }
 
@@ -159,6 +211,16 @@ impl Server {
         }
     }
 
+    /// What is told where the text of a name is closed.
+    fn told_at_end(&self, uri: &str) -> Result<Vec<Vec<u8>>, AllocError> {
+        if let Some(document) = document_of(self.texts.as_slice(), uri) {
+            return closed(self.known(), document);
+        }
+        let mut told = Vec::new(self.alloc);
+        told.push(faultless(self.alloc, uri.as_bytes())?)?;
+        Ok(told)
+    }
+
     /// A text is closed, and its faults go.
     fn close(&mut self, body: &Value) -> Result<Vec<Message>, AllocError>
         ensures told { IfOk result (λ messages. All IsNotification messages.items) }
@@ -168,12 +230,47 @@ impl Server {
         let Some(uri) = uri_in(body) else {
             return Ok(Vec::new(self.alloc));
         };
-        let message = published(self.alloc, uri, None, &[], &[])?;
-        let messages = one(self.alloc, message)?;
-        if let Some(index) = index_of(self.texts.as_slice(), uri) {
-            let _closed = self.texts.remove(index);
+        let told = self.told_at_end(uri)?;
+        let texts = without_text(self.alloc, self.texts.as_slice(), uri)?;
+        self.settle_anew(texts, told)
+    }
+
+    /// A file was saved: all files are looked at anew.
+    fn save(&mut self) -> Result<Vec<Message>, AllocError>
+        ensures told { IfOk result (λ messages. All IsNotification messages.items) }
+        ensures phase { self.new.phase ≡ self.old.phase }
+        ensures failed { OnErr result (self.new.texts.items ≡ self.old.texts.items) }
+    {
+        self.files = Vec::new(self.alloc);
+        let texts = copies(self.alloc, self.texts.as_slice())?;
+        self.settle_anew(texts, Vec::new(self.alloc))
+    }
+
+    /// The key of a file that has to be known, which is its name without escapes: `supply` gives it. Fails only where no host memory is left.
+    pub fn wanted(&self) -> Result<Option<Vec<u8>>, AllocError> {
+        let texts = self.known();
+        for document in texts.open {
+            if let Some(key) = texts.wanted_for(document)? {
+                return Ok(Some(key));
+            }
         }
-        Ok(messages)
+        Ok(None)
+    }
+
+    /// Takes the bytes of a file that was wanted, or that it isn't there, and tells the faults of the texts that waited for it. Fails only where
+    /// no host memory is left, and the texts are then as they were.
+    pub fn supply(
+        &mut self,
+        key: Vec<u8>,
+        bytes: Option<Vec<u8>>,
+    ) -> Result<Vec<Message>, AllocError>
+        ensures told { IfOk result (λ messages. All IsNotification messages.items) }
+        ensures phase { self.new.phase ≡ self.old.phase }
+        ensures failed { OnErr result (self.new.texts.items ≡ self.old.texts.items) }
+    {
+        self.files.push(File { key, bytes })?;
+        let texts = copies(self.alloc, self.texts.as_slice())?;
+        self.settle(texts, Vec::new(self.alloc))
     }
 
     /// Does what a notification says while the server is initialized. One that is unknown says nothing.
@@ -186,6 +283,7 @@ impl Server {
             "textDocument/didOpen" => self.open(body),
             "textDocument/didChange" => self.change(body),
             "textDocument/didClose" => self.close(body),
+            "textDocument/didSave" | "workspace/didChangeWatchedFiles" => self.save(),
             _ => Ok(Vec::new(self.alloc)),
         }
     }

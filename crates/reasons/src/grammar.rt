@@ -84,6 +84,7 @@ fn say_missing(
 ) -> Result<(), AllocError> {
     match end_before(tokens, index) {
         Some(end) if words.line(end) < words.line(at) => {
+            words.mend(end, end, b";")?;
             words.say("A `;` may be missing at ")?;
             words.position(end)?;
             words.say(":\n")?;

@@ -58,8 +58,10 @@ fn say_parameter(words: &mut Words<'_>, member: &Member) -> Result<(), AllocErro
     };
     say_found(words, member)?;
     words.say("Wanted: a scalar. Take a pointer: ")?;
+    let from = words.len();
     say_pointer(words, of)?;
     words.name(&member.name.text)?;
+    words.mend_as_said(member.of.at, end_of(&member.name), from)?;
     words.say("\n")
 }
 

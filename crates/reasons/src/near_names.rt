@@ -107,7 +107,12 @@ fn say_unknown(words: &mut Words<'_>, name: &[u8], of_member: bool) -> Result<()
 }
 
 /// Says that a name isn't known, and which one is near, where one is.
-fn say_near(words: &mut Words<'_>, near: Nearest<'_>, of_member: bool) -> Result<(), AllocError> {
+fn say_near(
+    words: &mut Words<'_>,
+    near: Nearest<'_>,
+    at: u32,
+    of_member: bool,
+) -> Result<(), AllocError> {
     say_unknown(words, near.unknown, of_member)?;
     let Some(name) = near.name else {
         return Ok(());
@@ -118,7 +123,9 @@ fn say_near(words: &mut Words<'_>, near: Nearest<'_>, of_member: bool) -> Result
         "A known name near to it: "
     })?;
     words.name(name)?;
-    words.say(".\n")
+    words.say(".\n")?;
+    let length = u32::try_from(near.unknown.len()).unwrap_or(u32::MAX);
+    words.mend(at, at.saturating_add(length), name)
 }
 
 /// The name of the item that is declared at an offset.
@@ -158,9 +165,9 @@ pub(crate) fn say_name<'p>(
     };
     let near = Nearest::to(token.text);
     match kind_at(tokens, index) {
-        Kind::Member => say_near(words, near_item(alloc, near, items, true)?, true),
+        Kind::Member => say_near(words, near_item(alloc, near, items, true)?, at, true),
         Kind::Tag => say_tag(words, alloc, items, near, at),
-        Kind::Value => say_value(words, alloc, tokens, items, scope, near, index),
+        Kind::Value => say_value(words, alloc, tokens, items, scope, near, at, index),
     }
 }
 
@@ -183,11 +190,12 @@ fn say_value<'p>(
     items: &[Item],
     scope: Option<&Scope<'_, '_>>,
     near: Nearest<'p>,
+    at: u32,
     index: usize,
 ) -> Result<(), AllocError> {
     match scope {
         Some(scope) if scope.meaning(near.unknown).is_none() => {
-            say_near(words, near_value(alloc, near, tokens, scope)?, false)
+            say_near(words, near_value(alloc, near, tokens, scope)?, at, false)
         }
         _ => say_declared(words, tokens, items, near.unknown, index),
     }
@@ -226,5 +234,5 @@ fn say_tag<'p>(
     if let Some(name) = item_at_name(items, at) {
         return say_second_item(words, items, name);
     }
-    say_near(words, near_item(alloc, near, items, false)?, false)
+    say_near(words, near_item(alloc, near, items, false)?, at, false)
 }

@@ -45,7 +45,30 @@ fn wanted_of(suffix: &Suffix, of: &CType<'_>) -> &'static str {
     }
 }
 
+/// Whether a type is a pointer to a struct.
+fn leads_to_struct(of: &CType<'_>) -> bool {
+    of.layers.len() == 1 && matches!(of.base, BaseType::Struct(_, _))
+}
+
+/// Whether a type is a struct.
+fn is_struct(of: &CType<'_>) -> bool {
+    of.layers.is_empty() && matches!(of.base, BaseType::Struct(_, _))
+}
+
 impl<'m, 'w, 'g, 'p> Told<'m, 'w, 'g, 'p> {
+    /// Tells the edit of the sign before a member, where the other one is wanted.
+    fn mend_sign(&mut self, before: &CType<'p>, suffix: &Suffix) -> Result<(), AllocError> {
+        match suffix {
+            Suffix::Dot(name) if leads_to_struct(before) => {
+                self.words.mend_before(name.at, b".", b"->")
+            }
+            Suffix::Arrow(name) if is_struct(before) => {
+                self.words.mend_before(name.at, b"->", b".")
+            }
+            _ => Ok(()),
+        }
+    }
+
     /// What a suffix gives. Fails only where no host memory is left, as all of these.
     fn suffixed(
         &self,
@@ -65,7 +88,8 @@ impl<'m, 'w, 'g, 'p> Told<'m, 'w, 'g, 'p> {
     /// Says what was found before a suffix, and what was wanted.
     fn say_suffix(&mut self, before: &CType<'p>, suffix: &Suffix) -> Result<(), AllocError> {
         say_typed(self.words, &self.walk.labels, "Found:  ", before)?;
-        self.words.say(wanted_of(suffix, before))
+        self.words.say(wanted_of(suffix, before))?;
+        self.mend_sign(before, suffix)
     }
 
     /// Says of the first wrong suffix behind an expression what was found and wanted.

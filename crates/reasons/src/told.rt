@@ -1,5 +1,6 @@
 // What is said of a fault.
 
+use crate::cures::Cure;
 use crate::grammar::say_grammar;
 use crate::heads::say_head;
 use crate::lexical::say_bytes;
@@ -83,6 +84,7 @@ fn say_inside<'p>(
         words,
         walk,
         head,
+        function,
         items,
         alloc: site.alloc,
         at: site.at,
@@ -197,11 +199,24 @@ fn say_at(
     }
 }
 
-/// What is known of a fault of a text, in lines of words: none, where nothing is. Fails only where no host memory is left.
-pub fn reason(alloc: Global, text: &[u8], fault: CompileFault) -> Result<Vec<u8>, AllocError> {
+/// The words on a fault of a text, and the edits that they tell.
+fn said<'a>(alloc: Global, text: &'a [u8], fault: CompileFault) -> Result<Words<'a>, AllocError> {
     let mut words = Words::new(alloc, text);
     if let Some(place) = fault.place() {
         say_at(&mut words, alloc, text, offset_of(text, place), fault)?;
     }
+    Ok(words)
+}
+
+/// What is known of a fault of a text, in lines of words: none, where nothing is. Fails only where no host memory is left.
+pub fn reason(alloc: Global, text: &[u8], fault: CompileFault) -> Result<Vec<u8>, AllocError> {
+    let words = said(alloc, text, fault)?;
     Ok(words.into_bytes())
+}
+
+/// The edits that the words of `reason` tell, which mend a fault together: none, where it isn't known what does. Fails only where no host
+/// memory is left.
+pub fn cure(alloc: Global, text: &[u8], fault: CompileFault) -> Result<Cure, AllocError> {
+    let words = said(alloc, text, fault)?;
+    Ok(words.into_cure())
 }

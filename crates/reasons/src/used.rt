@@ -2,16 +2,17 @@
 
 use crate::labels::{Labels, layer_region};
 use crate::nodes::Look;
-use crate::order::{Apart, regions_apart, say_cure, say_order, say_returned_cure};
+use crate::order::{Apart, regions_apart, say_order};
 use crate::paired::wanted_of;
 use crate::printed::say_type;
+use crate::redeclared::{say_cure, say_returned_cure};
 use crate::walk::{Here, Walk};
 use crate::words::Words;
 use check_expressions::{applied_parts, judge};
 use check_faults::Verdict;
 use check_heads::{Head, known_type};
 use check_operators::Value;
-use cyc_tree::{Expression, Item, Link, Name, Operator, RegionName, TypeName};
+use cyc_tree::{Expression, Function, Item, Link, Name, Operator, RegionName, TypeName};
 use cyc_types::{CType, RegionId};
 use std::alloc::{AllocError, Global};
 
@@ -21,6 +22,8 @@ pub(crate) struct Told<'m, 'w, 'g, 'p> {
     pub(crate) words: &'m mut Words<'w>,
     pub(crate) walk: Walk<'g, 'p>,
     pub(crate) head: Head<'p>,
+    /// The function around the fault, whose head it is.
+    pub(crate) function: &'p Function,
     pub(crate) items: &'p [Item],
     pub(crate) alloc: Global,
     /// The offset of the fault.
@@ -68,7 +71,13 @@ impl<'m, 'w, 'g, 'p> Told<'m, 'w, 'g, 'p> {
     /// Says of two regions in which order they have to be, and how parameters are to be declared for it.
     fn say_apart(&mut self, apart: Apart) -> Result<(), AllocError> {
         say_order(self.words, &self.walk.labels, apart)?;
-        say_cure(self.words, &self.walk.labels, &self.head, apart)
+        self.say_parameters(apart)
+    }
+
+    /// Says how parameters are to be declared whose regions don't agree.
+    fn say_parameters(&mut self, apart: Apart) -> Result<(), AllocError> {
+        let written = self.function.parameters.as_slice();
+        say_cure(self.words, &self.walk.labels, &self.head, written, apart)
     }
 
     /// Says in which region a value has to be, and that it isn't.
@@ -143,7 +152,7 @@ impl<'m, 'w, 'g, 'p> Told<'m, 'w, 'g, 'p> {
             return self.words.say(wanted_of(operator, &one, &other));
         }
         match regions_apart(&self.walk.scope, &one, &other)? {
-            Some(apart) => say_cure(self.words, &self.walk.labels, &self.head, apart),
+            Some(apart) => self.say_parameters(apart),
             None => Ok(()),
         }
     }
@@ -267,10 +276,16 @@ impl<'m, 'w, 'g, 'p> Told<'m, 'w, 'g, 'p> {
     /// Says of two regions, of a value that is returned and of the result, in which order they have to be.
     fn say_returned_apart(&mut self, apart: Apart) -> Result<(), AllocError> {
         say_order(self.words, &self.walk.labels, apart)?;
-        if say_returned_cure(self.words, &self.walk.labels, &self.head, apart)? {
+        if say_returned_cure(
+            self.words,
+            &self.walk.labels,
+            &self.head,
+            self.function,
+            apart,
+        )? {
             return Ok(());
         }
-        say_cure(self.words, &self.walk.labels, &self.head, apart)
+        self.say_parameters(apart)
     }
 
     /// Says of a condition what was found.

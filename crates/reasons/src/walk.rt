@@ -37,7 +37,11 @@ pub(crate) struct Walk<'g, 'p> {
     pub(crate) known: RegionNames<'p>,
     pub(crate) labels: Labels<'p>,
     pub(crate) here: Here<'p>,
+    /// Where the innermost item of a block begins that the position is in.
+    pub(crate) item: Option<u32>,
     at: u32,
+    /// Whether a declaration is passed whose name is at the position.
+    passes: bool,
     alloc: Global,
 }
 
@@ -49,7 +53,9 @@ impl Drop for Walk<'_, '_> {
             known: _known,
             labels: _labels,
             here: _,
+            item: _,
             at: _,
+            passes: _,
             alloc: _,
         } = self;
     }
@@ -113,10 +119,19 @@ impl<'g, 'p> Walk<'g, 'p> {
     }
 
     /// Comes to a declaration.
-    fn reach(&mut self, declaration: &'p Declaration) {
+    fn reach(
+        &mut self,
+        context: Context<'_, 'p>,
+        outer: usize,
+        declaration: &'p Declaration,
+    ) -> Result<(), AllocError> {
         if let Declaration::Local(of, name, Initializer::Value(value)) = declaration {
             self.here = Here::Begins(of, name, value);
         }
+        if self.passes && declaration.local().at == self.at {
+            return self.pass(context, outer, declaration);
+        }
+        Ok(())
     }
 }
 
@@ -203,8 +218,9 @@ fn into_items<'p>(
                 walk.pass(context, outer, declaration)?;
             }
         } else if left == 1 {
+            walk.item = Some(place_of(item));
             match item {
-                BlockItem::Declare(declaration) => walk.reach(declaration),
+                BlockItem::Declare(declaration) => walk.reach(context, outer, declaration)?,
                 BlockItem::Execute(statement) => into_statement(walk, context, statement)?,
             }
         }
@@ -290,9 +306,31 @@ fn begin<'g, 'p>(
         known: variables_of(alloc, names, function)?,
         labels,
         here: Here::Nothing,
+        item: None,
         at,
+        passes: false,
         alloc,
     })
+}
+
+/// Goes on within the body of a function, which has this head and is the item with this index.
+fn into_body<'p>(
+    walk: &mut Walk<'_, 'p>,
+    head: &Head<'p>,
+    item: u32,
+    function: &'p Function,
+) -> Result<(), AllocError> {
+    let context = Context {
+        result: known_type(&head.result),
+        frame: RegionId::Level(head.variables.count()),
+        item,
+        in_loop: false,
+        in_switch: false,
+    };
+    for parameter in head.parameters.iter() {
+        declare_parameter(&mut walk.scope, context, parameter)?;
+    }
+    into_items(walk, context, 0, &function.body)
 }
 
 /// The way to an offset in the body of a function, which has this head and is the item with this index.
@@ -305,16 +343,21 @@ pub(crate) fn walk_to<'g, 'p>(
     at: u32,
 ) -> Result<Walk<'g, 'p>, AllocError> {
     let mut walk = begin(alloc, names, head, function, at)?;
-    let context = Context {
-        result: known_type(&head.result),
-        frame: RegionId::Level(head.variables.count()),
-        item,
-        in_loop: false,
-        in_switch: false,
-    };
-    for parameter in head.parameters.iter() {
-        declare_parameter(&mut walk.scope, context, parameter)?;
-    }
-    into_items(&mut walk, context, 0, &function.body)?;
+    into_body(&mut walk, head, item, function)?;
+    Ok(walk)
+}
+
+/// The same, with what a declaration declares whose name is at the offset.
+pub(crate) fn walk_behind<'g, 'p>(
+    alloc: Global,
+    names: Names<'g, 'p>,
+    head: &Head<'p>,
+    item: u32,
+    function: &'p Function,
+    at: u32,
+) -> Result<Walk<'g, 'p>, AllocError> {
+    let mut walk = begin(alloc, names, head, function, at)?;
+    walk.passes = true;
+    into_body(&mut walk, head, item, function)?;
     Ok(walk)
 }

@@ -1,5 +1,6 @@
 // Words on a text.
 
+use crate::cures::Cure;
 use crate::marked::push_marked;
 use cyc_lexer::place_of;
 use cycc_driver::Place;
@@ -8,11 +9,12 @@ use std::alloc::{AllocError, Global};
 /// The most bytes of a text that are shown in a line of words.
 const MOST_SHOWN: usize = 100;
 
-/// Words on a text, as they are written so far.
+/// Words on a text, as they are written so far, and the edits that they tell.
 pub(crate) struct Words<'a> {
     alloc: Global,
     text: &'a [u8],
     out: Vec<u8>,
+    cure: Cure,
 }
 
 // Written out, so that a caller's proof sees one call and not the drop of each field.
@@ -22,6 +24,7 @@ impl Drop for Words<'_> {
             alloc: _,
             text: _,
             out: _out,
+            cure: _cure,
         } = self;
     }
 }
@@ -33,6 +36,7 @@ impl<'a> Words<'a> {
             alloc,
             text,
             out: Vec::new(alloc),
+            cure: Cure::none(alloc),
         }
     }
 
@@ -42,8 +46,62 @@ impl<'a> Words<'a> {
             alloc: _,
             text: _,
             out,
+            cure: _cure,
         } = self;
         out
+    }
+
+    /// All edits.
+    pub(crate) fn into_cure(self) -> Cure {
+        let Words {
+            alloc: _,
+            text: _,
+            out: _out,
+            cure,
+        } = self;
+        cure
+    }
+
+    /// How many bytes of words there are.
+    pub(crate) fn len(&self) -> usize {
+        self.out.len()
+    }
+
+    /// Tells an edit by its new text. Fails only where no host memory is left, as all that tell one.
+    pub(crate) fn mend(&mut self, begin: u32, end: u32, text: &[u8]) -> Result<(), AllocError> {
+        self.cure.add(begin, end, text)
+    }
+
+    /// Tells an edit whose new text are the last words, from so many bytes on.
+    pub(crate) fn mend_as_said(
+        &mut self,
+        begin: u32,
+        end: u32,
+        from: usize,
+    ) -> Result<(), AllocError> {
+        let text = self.out.get(from..).unwrap_or(&[]);
+        self.cure.add(begin, end, text)
+    }
+
+    /// Tells the edit of a sign that stands before an offset, with no more than white space between.
+    pub(crate) fn mend_before(
+        &mut self,
+        at: u32,
+        old: &[u8],
+        new: &[u8],
+    ) -> Result<(), AllocError> {
+        let before = self.text.get(..at as usize).unwrap_or(&[]);
+        let Some(rest) = before.trim_ascii_end().strip_suffix(old) else {
+            return Ok(());
+        };
+        let begin = u32::try_from(rest.len()).unwrap_or(u32::MAX);
+        let length = u32::try_from(old.len()).unwrap_or(u32::MAX);
+        self.cure.add(begin, begin.saturating_add(length), new)
+    }
+
+    /// Tells no edit: one that goes with those that were told isn't known.
+    pub(crate) fn mend_nothing(&mut self) {
+        self.cure.give_up();
     }
 
     /// Adds words. Fails only where no host memory is left, as all that add some.
@@ -61,6 +119,13 @@ impl<'a> Words<'a> {
     pub(crate) fn number(&mut self, number: u32) -> Result<(), AllocError> {
         let digits = format!(in self.alloc; "{number}")?;
         self.say(digits.as_str())
+    }
+
+    /// Adds a number of bytes, as a size.
+    pub(crate) fn size(&mut self, bytes: u32) -> Result<(), AllocError> {
+        self.say("Size: ")?;
+        self.number(bytes)?;
+        self.say(if bytes == 1 { " byte\n" } else { " bytes\n" })
     }
 
     /// Adds the line and the column of an offset.

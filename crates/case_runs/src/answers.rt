@@ -11,7 +11,6 @@ use cyc_words::Counted;
 use cycc_answer::{answer, ended, refused};
 use cycc_driver::CompileFault;
 use std::alloc::{AllocError, Global};
-use std::io;
 
 /// What a command answers: its status, what it writes on standard output and says on standard error, the pages of an image, and its reads and writes.
 #[derive(Drop)]
@@ -88,11 +87,12 @@ fn answered(
 /// What `cycc` answers to the words of its command line.
 fn cycc(
     alloc: Global,
-    words: &[&str],
+    command: &str,
     source: &[u8],
     given: Given<'_>,
 ) -> Result<Found, AllocError> {
-    match command_of(alloc, words) {
+    let words: Vec<&str> = command.split(' ').collect(alloc)?;
+    match command_of(alloc, &words) {
         Ok(command) => answered(alloc, &command, source, given),
         Err(error) => Ok(Found::nothing(alloc, usage_status(&error))),
     }
@@ -115,17 +115,14 @@ pub fn answer_to(
     command: &str,
     source: &[u8],
     given: Given<'_>,
-) -> io::Result<Found> {
+) -> Result<Found, AllocError> {
     match command {
-        "tokens" => Ok(rules::tokens_found(alloc, source)?),
-        "parse" => Ok(rules::program_found(alloc, source)?),
-        "judge" => Ok(rules::faults_found(alloc, source)?),
-        "homes" => Ok(homes_found(alloc, source)?),
-        "lacking" => Ok(lacking_found(alloc)?),
-        _ => {
-            let words: Vec<&str> = command.split(' ').collect(alloc)?;
-            Ok(cycc(alloc, &words, source, given)?)
-        }
+        "tokens" => rules::tokens_found(alloc, source),
+        "parse" => rules::program_found(alloc, source),
+        "judge" => rules::fault_found(alloc, source),
+        "homes" => homes_found(alloc, source),
+        "lacking" => lacking_found(alloc),
+        _ => cycc(alloc, command, source, given),
     }
 }
 

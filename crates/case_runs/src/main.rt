@@ -2,7 +2,7 @@
 //!
 //! The words of its command line are the files, in the folder that it runs in: the folder `data`, whose files docs/TESTS.md
 //! describes. A case gives a source, commands on it, and what each of them has to answer: what `cycc` answers, by `cycc_answer`,
-//! the tokens, the grammar or the rules of the whole language alone, or where locals live. Behind a first word `store` they say which calls of a store
+//! the tokens, the grammar or some rules of the language alone, or where locals live. Behind a first word `store` they say which calls of a store
 //! are made instead, or which image runs over it, to be timed by `bench/run`.
 #![tactic(auto)]
 

@@ -11,32 +11,12 @@ use cycc_driver::compile;
 use rv32_machine::Machine;
 use std::alloc::{AllocError, Global};
 
-/// How far an image is run, and what is told of it: its ending, and where it ended.
+/// How far an image is run, and what is told of it: its ending, and where it ended, which is told of no source.
 #[derive(Clone, Copy)]
 struct Told {
     steps: u64,
     shows_ending: bool,
     shows_place: bool,
-}
-
-impl Told {
-    /// What is told of a source's run.
-    fn of_run(steps: u64, shows_ending: bool) -> Told {
-        Told {
-            steps,
-            shows_ending,
-            shows_place: false,
-        }
-    }
-
-    /// What is told of an image's run: its place too.
-    fn of_exec(steps: u64, shows_ending: bool) -> Told {
-        Told {
-            steps,
-            shows_ending,
-            shows_place: true,
-        }
-    }
 }
 
 /// How the run of an image ends, and what it writes.
@@ -89,11 +69,19 @@ pub fn run_over_plain(
             steps,
             shows_ending,
             shows_where: false,
+            shows_values: false,
             shows_stats: false,
             shows_counts: false,
             ..
         } => match compile(alloc, source, pages.number(), stack_pages.number()) {
-            Ok(bytes) => bytes_run(alloc, &bytes, given, Told::of_run(steps, shows_ending)),
+            Ok(bytes) => {
+                let told = Told {
+                    steps,
+                    shows_ending,
+                    shows_place: false,
+                };
+                bytes_run(alloc, &bytes, given, told)
+            }
             Err(_) => Ok(None),
         },
         Command::Exec {
@@ -103,7 +91,14 @@ pub fn run_over_plain(
             shows_stats: false,
             shows_counts: false,
             ..
-        } => bytes_run(alloc, source, given, Told::of_exec(steps, shows_ending)),
+        } => {
+            let told = Told {
+                steps,
+                shows_ending,
+                shows_place: true,
+            };
+            bytes_run(alloc, source, given, told)
+        }
         _ => Ok(None),
     }
 }

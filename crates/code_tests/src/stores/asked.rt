@@ -19,32 +19,57 @@ pub trait Asked {
     fn put(&mut self, at: u32, byte: u8) -> bool;
 }
 
-/// A store's refusal.
-fn of_store(why: StoreRefusal) -> &'static str {
-    match why {
-        StoreRefusal::Full => "Full",
-        StoreRefusal::BadHandle => "BadHandle",
-        StoreRefusal::NotABlock => "NotABlock",
-        StoreRefusal::BadKey => "BadKey",
-        StoreRefusal::Open => "Open",
-        StoreRefusal::NotOpen => "NotOpen",
-        StoreRefusal::Memory => "Memory",
+/// A refusal, which has a name.
+trait Named {
+    /// Its name.
+    fn name(self) -> &'static str;
+}
+
+impl Named for StoreRefusal {
+    fn name(self) -> &'static str {
+        match self {
+            StoreRefusal::Full => "Full",
+            StoreRefusal::BadHandle => "BadHandle",
+            StoreRefusal::NotABlock => "NotABlock",
+            StoreRefusal::BadKey => "BadKey",
+            StoreRefusal::Open => "Open",
+            StoreRefusal::NotOpen => "NotOpen",
+            StoreRefusal::Memory => "Memory",
+        }
     }
 }
 
-/// What a store says with a number.
-fn numbered(said: Result<u32, StoreRefusal>) -> Said {
+impl Named for Refusal {
+    fn name(self) -> &'static str {
+        match self {
+            Refusal::Full => "Full",
+            Refusal::BadHandle => "BadHandle",
+        }
+    }
+}
+
+impl Named for UniqueRefusal {
+    fn name(self) -> &'static str {
+        match self {
+            UniqueRefusal::Full => "Full",
+            UniqueRefusal::NotABlock => "NotABlock",
+        }
+    }
+}
+
+/// What is said with a number.
+fn numbered<E: Named + Drop>(said: Result<u32, E>) -> Said {
     match said {
         Ok(number) => Ok(number),
-        Err(why) => Err(of_store(why)),
+        Err(why) => Err(why.name()),
     }
 }
 
-/// What a store says without one.
-fn done(said: Result<(), StoreRefusal>) -> Said {
+/// What is said without one.
+fn done<E: Named + Drop>(said: Result<(), E>) -> Said {
     match said {
         Ok(()) => Ok(0),
-        Err(why) => Err(of_store(why)),
+        Err(why) => Err(why.name()),
     }
 }
 
@@ -113,14 +138,6 @@ impl Asked for PagedStore<UniqueBlocks> {
     }
 }
 
-/// A region's refusal.
-fn of_region(why: Refusal) -> &'static str {
-    match why {
-        Refusal::Full => "Full",
-        Refusal::BadHandle => "BadHandle",
-    }
-}
-
 /// What is said to a call that makes a region.
 fn region_made(said: Option<Handle>) -> Said {
     match said {
@@ -129,29 +146,13 @@ fn region_made(said: Option<Handle>) -> Said {
     }
 }
 
-/// What is said to a call that asks for a region's block.
-fn region_placed(said: Result<u32, Refusal>) -> Said {
-    match said {
-        Ok(at) => Ok(at),
-        Err(why) => Err(of_region(why)),
-    }
-}
-
-/// What is said to a call that frees a region.
-fn region_freed(said: Result<(), Refusal>) -> Said {
-    match said {
-        Ok(()) => Ok(0),
-        Err(why) => Err(of_region(why)),
-    }
-}
-
 /// A call on regions.
 fn ask_regions<R: Regions>(regions: &mut R, call: Call, base: u32, number: u32) -> Said {
     let (handle, at) = (Handle(base), base.wrapping_add(number));
     match call {
         Call::RegionNew => region_made(regions.region_new()),
-        Call::RegionAlloc => region_placed(regions.region_alloc(handle, number)),
-        Call::RegionFree => region_freed(regions.region_free(handle)),
+        Call::RegionAlloc => numbered(regions.region_alloc(handle, number)),
+        Call::RegionFree => done(regions.region_free(handle)),
         Call::Tag => given(regions.tag(handle)),
         Call::SetTag => Ok(u32::from(regions.set_tag(handle, number))),
         Call::Free => Ok(regions.free_pages()),
@@ -165,35 +166,11 @@ fn ask_regions<R: Regions>(regions: &mut R, call: Call, base: u32, number: u32) 
     }
 }
 
-/// A unique block's refusal.
-fn of_block(why: UniqueRefusal) -> &'static str {
-    match why {
-        UniqueRefusal::Full => "Full",
-        UniqueRefusal::NotABlock => "NotABlock",
-    }
-}
-
-/// What is said to a call that asks for a unique block.
-fn block_placed(said: Result<u32, UniqueRefusal>) -> Said {
-    match said {
-        Ok(at) => Ok(at),
-        Err(why) => Err(of_block(why)),
-    }
-}
-
-/// What is said to a call that frees a unique block.
-fn block_freed(said: Result<(), UniqueRefusal>) -> Said {
-    match said {
-        Ok(()) => Ok(0),
-        Err(why) => Err(of_block(why)),
-    }
-}
-
 impl Asked for UniqueBlocks {
     fn ask(&mut self, call: Call, base: u32, number: u32) -> Said {
         match call {
-            Call::UniqueAlloc => block_placed(self.unique_alloc(number)),
-            Call::UniqueFree => block_freed(self.unique_free(base.wrapping_add(number))),
+            Call::UniqueAlloc => numbered(self.unique_alloc(number)),
+            Call::UniqueFree => done(self.unique_free(base.wrapping_add(number))),
             _ => ask_regions(self, call, base, number),
         }
     }

@@ -17,8 +17,8 @@ import threading
 import time
 
 KEYS = {"Enter": (13, "\ue007", "\r"), "Tab": (9, "\ue004", ""), "Backspace": (8, "\ue003", ""), "F8": (119, "\ue038", ""), "ArrowRight": (39, "\ue014", ""),
-        "ArrowLeft": (37, "\ue012", ""), "End": (35, "\ue010", ""), "Home": (36, "\ue011", ""), "ArrowUp": (38, "\ue013", ""), " ": (32, " ", " "),
-        "Control": (17, "\ue009", "")}
+        "ArrowLeft": (37, "\ue012", ""), "End": (35, "\ue010", ""), "Home": (36, "\ue011", ""), "ArrowUp": (38, "\ue013", ""), "ArrowDown": (40, "\ue015", ""),
+        " ": (32, " ", " "), "Control": (17, "\ue009", "")}
 
 
 class Broken(Exception):

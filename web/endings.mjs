@@ -28,13 +28,13 @@ export function meaningOf(name) {
     return COUNTS[name] ?? name;
 }
 
-/** The lines of a run with --ending, --where and --stats: the ending, the positions, the counts, what had no space, and what else there is. */
+/** The lines of a run with --ending, --where and --stats: the ending, the positions and how many are left out between them, the counts, and what else there is. */
 export function partsOf(said) {
-    const found = { ending: "", places: [], more: 0, counts: new Map(), lacking: "", notes: [] };
+    const found = { ending: "", places: [], between: null, counts: new Map(), lacking: "", notes: [] };
     for (const line of said.split("\n").filter((it) => it)) {
         const place = /^[^ :]+:(\d+):(\d+): (.*)$/.exec(line), count = /^([a-z_]+) (\d+|none)$/.exec(line), more = /^\.\. (\d+) calls$/.exec(line);
         if (place) found.places.push({ line: Number(place[1]), column: Number(place[2]), words: place[3] });
-        else if (more) found.more = Number(more[1]);
+        else if (more) found.between = { at: found.places.length, count: Number(more[1]) };
         else if (!found.ending) found.ending = line;
         else if (count && count[1] in COUNTS) found.counts.set(count[1], count[2] === "none" ? null : Number(count[2]));
         else if (/^(arena|stack): /.test(line)) found.lacking = line;

@@ -1,39 +1,41 @@
-// The instructions of the image, function by function, beside the lines of the source that the map of compile names.
+// The instructions of the image, function by function and statement by statement, and what of them the cursor's line of the source is made of.
+import { compiled, headOf, stretchesOf } from "./map.mjs";
 import { made } from "./markdown.mjs";
 
-/** The lines of a map: functions with their addresses, and the checks and calls by their addresses. */
-export function mapOf(text) {
-    const functions = [], points = new Map();
-    for (const line of text.split("\n")) {
-        const [kind, first, second, ...rest] = line.split(" ");
-        if (kind === "function") functions.push({ first: parseInt(first, 16), last: parseInt(second, 16), frame: Number(rest[1]), name: rest[2] });
-        else if (kind === "raise" || kind === "call") {
-            const [row, column] = second.split(":").map(Number);
-            points.set(parseInt(first, 16), { kind, line: row, column, name: rest[0] });
-        }
-    }
-    return { functions, points };
+/** How many milliseconds after the last key a list that is seen is made anew. */
+const PAUSE = 400;
+
+/** The instructions of a dump: their addresses, words and texts. */
+function instructionsOf(lines) {
+    return lines.map((line) => {
+        const [, address, word, text] = /^(\w+) (\w+) (.*)$/.exec(line) ?? [];
+        return { at: parseInt(address, 16), address, word, text };
+    });
 }
 
-/** Compiles the source: the image's bytes and its map, or what is said against it. */
-export async function compiled(program, options) {
-    const { files, limits } = options();
-    const done = await program.ask({ words: ["compile", "program.cyc", "program.img", "--map", "program.map", ...limits], files });
-    if (done.status !== 0) return { said: done.err };
-    return { image: done.files["program.img"], map: mapOf(new TextDecoder().decode(done.files["program.map"])) };
-}
-
-/** The line at which a function of a name begins: the first line that declares it, from its first column on. */
-function lineOfFunction(source, name) {
-    const lines = source.split("\n");
-    const head = new RegExp(`^[A-Za-z_@].*\\b${name}\\s*\\(`);
-    return lines.findIndex((it) => head.test(it)) + 1;
+/** The functions of a map, each with the line at which it begins. */
+function headed(source, { functions, statements }) {
+    return functions.map((it) => {
+        const first = [...statements].find(([at]) => it.first <= at && at <= it.last);
+        return Object.assign(it, { head: headOf(source, it.name, first?.[1].line ?? Infinity) });
+    });
 }
 
 export class Instructions {
     constructor(root, editor, program, options) {
-        Object.assign(this, { root, editor, program, options, body: root.querySelector(".listing"), rows: [], isFresh: false });
-        document.addEventListener("selectionchange", () => this.follow());
+        Object.assign(this, { root, editor, program, options, body: root.querySelector(".listing"), isFresh: false, timer: 0 });
+        this.empty();
+        const rowAt = (event) => this.rows.find((it) => it.it === event.target.closest("tr"));
+        document.addEventListener("selectionchange", () => document.activeElement === editor.field && this.follow());
+        this.body.addEventListener("mouseover", (event) => this.look(rowAt(event)));
+        this.body.addEventListener("mouseleave", () => this.followed());
+        this.body.addEventListener("focusin", (event) => this.look(rowAt(event)));
+        this.body.addEventListener("click", (event) => this.isSelected() || this.go(rowAt(event)));
+        this.body.addEventListener("keydown", (event) => this.key(event));
+    }
+
+    empty() {
+        Object.assign(this, { rows: [], functions: [], stretches: [], lit: "" });
     }
 
     async show() {
@@ -42,78 +44,151 @@ export class Instructions {
             return;
         }
         this.isFresh = true;
-        this.body.replaceChildren(made("p", { className: "quiet" }, "Compiling."));
+        const source = this.editor.text;
+        if (!this.body.querySelector("table")) this.say("Compiling.", "quiet");
+        this.busy(true);
         try {
             const { said, image, map } = await compiled(this.program, this.options);
-            if (said) this.body.replaceChildren(made("p", {}, "The source is rejected, so there are no instructions."));
-            else this.list(map, (await this.program.ask({ words: ["dump", "program.img"], files: { "program.img": image } })).out);
+            const dump = said ? "" : (await this.program.ask({ words: ["dump", "program.img"], files: { "program.img": image } })).out;
+            if (source !== this.editor.text) return;
+            if (said) this.say("The source is rejected, so there are no instructions.");
+            else this.list(source, map, dump);
         } catch (error) {
-            this.body.replaceChildren(made("p", {}, error.message));
+            this.say(error.message);
         }
+    }
+
+    /** Tells whether the list isn't that of the source as it is. */
+    busy(is) {
+        this.body.setAttribute("aria-busy", String(is));
+    }
+
+    say(words, kind = "") {
+        this.empty();
+        this.busy(false);
+        this.body.replaceChildren(made("p", { className: kind }, words));
     }
 
     /** Leaves the tab: no line of the source stays lit. */
     leave() {
         this.editor.light(new Map());
+        this.lit = "";
     }
 
+    /** The source was changed: a list that is seen is made anew. */
     stale() {
         this.isFresh = false;
+        this.empty();
+        this.busy(true);
+        clearTimeout(this.timer);
+        if (!this.root.hidden) this.timer = setTimeout(() => this.show(), PAUSE);
     }
 
-    list(map, dump) {
+    list(source, map, dump) {
         const [head, ...lines] = dump.trimEnd().split("\n");
-        this.rows = [];
-        const sections = [made("p", { className: "quiet" }, head)];
-        let table = null, current;
-        for (const line of lines) {
-            const [, address, word, text] = /^(\w+) (\w+) (.*)$/.exec(line) ?? [];
-            const at = parseInt(address, 16);
-            const own = map.functions.find((it) => it.first <= at && at <= it.last) ?? null;
-            if (!table || own !== current) {
-                table = made("tbody", {});
-                current = own;
-                const frame = own ? made("span", { className: "quiet" }, `frame of ${own.frame} bytes`) : "";
-                sections.push(made("h3", {}, own ? `${own.name}: ` : "the start and the ends", frame));
-                sections.push(made("table", { className: "code" }, table));
+        const texts = source.split("\n"), sections = [made("p", { className: "quiet" }, head)];
+        this.empty();
+        Object.assign(this, { functions: headed(source, map), stretches: stretchesOf(source) });
+        let table = null, own, place;
+        for (const it of instructionsOf(lines)) {
+            const of = map.functions.find(({ first, last }) => first <= it.at && it.at <= last) ?? null;
+            if (!table || of !== own) {
+                [own, place, table] = [of, null, made("tbody", {})];
+                sections.push(this.heading(own), made("table", { className: "code" }, table));
             }
-            table.append(this.row({ at, address, word, text, own, point: map.points.get(at) }));
+            const next = map.statements.get(it.at);
+            if (next) table.append(this.row({ place: next, own }, "place", this.placed(next, texts[next.line - 1])));
+            place = next ?? place;
+            table.append(this.row({ place, own, isCode: true }, "", ...this.cells(it, map.points.get(it.at))));
         }
         this.body.replaceChildren(...sections);
+        this.busy(false);
         this.follow();
     }
 
-    row({ address, word, text, own, point }) {
-        const words = made("td", {}, text);
-        const it = made("tr", {}, made("td", {}, address), made("td", { className: "word" }, word), words);
-        const line = point?.line ?? 0;
-        if (point) {
-            const what = `${point.kind === "call" ? "call of " : ""}${point.name}, line ${point.line}, column ${point.column}`;
-            const button = made("button", { type: "button", className: "link" }, what);
-            button.addEventListener("click", () => this.editor.go(point.line, point.column));
-            words.append(button);
-        }
-        it.addEventListener("mouseenter", () => this.light(line, own));
-        this.rows.push({ it, line, own });
+    heading(own) {
+        const frame = own ? made("span", { className: "quiet" }, `frame of ${own.frame} bytes`) : "";
+        return made("h3", {}, own ? `${own.name}: ` : "the start and the ends", frame);
+    }
+
+    /** What stands before the instructions of a statement: its position, and the text of its line. */
+    placed({ line, column }, text) {
+        return made("td", { colSpan: 3 }, `${line}:${column} `, made("span", {}, text?.trim() ?? ""));
+    }
+
+    cells({ address, word, text }, point) {
+        const what = point ? made("span", { className: "point" }, `${point.kind === "call" ? "call of " : ""}${point.name}`) : "";
+        return [made("td", {}, address), made("td", { className: "word" }, word), made("td", {}, text, what)];
+    }
+
+    /** A row of the list, which is kept with what it is of. */
+    row(of, kind, ...cells) {
+        const it = made("tr", { className: kind, tabIndex: -1 }, ...cells);
+        this.rows.push({ it, kind, ...of });
         return it;
     }
 
-    /** Lights a line of the source with its checks and calls; of an instruction that the map doesn't name, its function. */
-    light(line, own) {
-        const lines = new Map(), head = own ? lineOfFunction(this.editor.text, own.name) : 0;
-        if (head) lines.set(head, "function");
-        if (line) lines.set(line, "lit");
-        this.editor.light(lines);
-        for (const row of this.rows) row.it.className = line && row.line === line ? "lit" : own && row.own === own ? "function" : "";
+    /** Lights what an instruction is of. */
+    look(row) {
+        if (row) this.light(row.place?.line ?? 0, row.own);
     }
 
-    /** Lights what belongs to the line of the cursor. */
+    /** Lights all instructions of what stands at a line of the source, and its lines; and marks the function. */
+    light(line, own) {
+        const [first, last] = this.stretches[line] ?? [0, -1], key = JSON.stringify([line, own?.first]);
+        if (this.lit === key) return;
+        this.lit = key;
+        const isOf = (row) => row.place && first <= row.place.line && row.place.line <= last;
+        const lines = new Map(own?.head ? [[own.head, "function"]] : []);
+        const isLit = this.rows.some(isOf);
+        for (let it = first; isLit && it <= last; it++) lines.set(it, it === own?.head ? "lit function" : "lit");
+        for (const row of this.rows) row.it.className = `${row.kind} ${isOf(row) ? "lit" : own && row.own === own ? "function" : ""}`.trim();
+        this.editor.light(lines);
+    }
+
+    /** Lights what belongs to the line of the cursor: the rows of it. */
+    followed() {
+        if (this.root.hidden || !this.rows.length) return [];
+        const line = this.editor.line, [first, last] = this.stretches[line] ?? [line, line];
+        const heads = this.functions.filter((it) => it.head && it.head <= line).sort((a, b) => b.head - a.head);
+        const lit = this.rows.filter(({ place }) => place && first <= place.line && place.line <= last);
+        this.light(line, lit[0]?.own ?? heads[0] ?? null);
+        return lit;
+    }
+
+    /** The same, and its rows come into view: those that stand together, of which one is seen already, or else the first ones. */
     follow() {
-        if (this.root.hidden || !this.rows.length || document.activeElement !== this.editor.field) return;
-        const line = this.editor.line;
-        const heads = new Map(this.rows.filter((it) => it.own).map((it) => [it.own, lineOfFunction(this.editor.text, it.own.name)]));
-        const own = [...heads].filter(([, head]) => head && head <= line).sort((a, b) => b[1] - a[1])[0]?.[0] ?? null;
-        this.light(line, own);
-        this.root.querySelector("tr.lit")?.scrollIntoView({ block: "nearest" });
+        const lit = this.followed(), box = this.body.getBoundingClientRect();
+        const edge = (row) => row.it.getBoundingClientRect(), isSeen = (row) => edge(row).bottom > box.top && edge(row).top < box.bottom;
+        let from = this.rows.indexOf(lit.find(isSeen) ?? lit[0]), to = from;
+        if (from < 0) return;
+        while (lit.includes(this.rows[from - 1])) from--;
+        while (lit.includes(this.rows[to + 1])) to++;
+        const below = Math.max(edge(this.rows[to]).bottom - box.bottom, 0), above = edge(this.rows[from]).top - box.top;
+        this.body.scrollTop += Math.min(below, above);
+    }
+
+    /** Whether instructions are selected, by a mouse that was dragged. */
+    isSelected() {
+        const selected = getSelection();
+        return !selected.isCollapsed && this.body.contains(selected.anchorNode);
+    }
+
+    /** Goes to what an instruction is of, in the source. */
+    go(row) {
+        if (row?.place) this.editor.go(row.place.line, row.place.column);
+        else if (row?.own?.head) this.editor.go(row.own.head, 1);
+    }
+
+    /** The arrow keys go from instruction to instruction, from the first one that is lit on; Enter goes to the source. */
+    key(event) {
+        if (event.ctrlKey || event.metaKey || event.altKey) return;
+        const rows = this.rows.filter((it) => it.isCode), at = rows.findIndex(({ it }) => it === document.activeElement);
+        const lit = rows.findIndex(({ it }) => it.classList.contains("lit"));
+        const next = { ArrowDown: at < 0 ? Math.max(lit, 0) : at + 1, ArrowUp: at < 0 ? Math.max(lit, 0) : at - 1 }[event.key];
+        if (event.key === "Enter") this.go(rows[at]);
+        else if (rows[next]) rows[next].it.focus();
+        else return;
+        event.preventDefault();
     }
 }

@@ -1,7 +1,7 @@
 // Looks at a run at several moments. Each moment is a run of its own, from the start to a number of steps: a run depends on its image and input alone.
 // What is there at the end of such a run is read from the headers of the arena's pages, and from what --where and --stats say.
-import { compiled } from "./instructions.mjs";
 import { partsOf } from "./endings.mjs";
+import { compiled } from "./map.mjs";
 
 const HEAP = 4097, TAKEN = 4098;
 /** Moments are looked at for so long; then at least so many, but no longer than that. */

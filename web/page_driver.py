@@ -25,8 +25,23 @@ ENDLESS = """int main() {
 }
 """
 
+LISTED = """int twice(int n) {
+    return n + n;
+}
+
+int main() {
+    int n = 1;
+    while (n < 50) {
+        n = twice(n);
+        putchar('0'
+            + twice(n) % 10);
+    }
+    return 0;
+}
+"""
+
 LEAST_CONTRAST = 4.5
-# of all text that is seen the one with the least contrast to what lies under it
+# of all text that is seen, or would be if it were selected, the one with the least contrast to what lies under it
 CONTRAST = """(() => {
     const parts = (text) => { const it = text.match(/[\\d.]+%?/g)?.map(parseFloat) ?? [0, 0, 0, 0]; return it.length < 4 ? [...it, 1] : it; };
     const over = (top, under) => [0, 1, 2].map((at) => top[at] * top[3] + under[at] * (1 - top[3])).concat(1);
@@ -38,13 +53,19 @@ CONTRAST = """(() => {
     const linear = (v) => (v /= 255) <= 0.04045 ? v / 12.92 : ((v + 0.055) / 1.055) ** 2.4;
     const light = ([r, g, b]) => 0.2126 * linear(r) + 0.7152 * linear(g) + 0.0722 * linear(b);
     let least = { ratio: 99 };
+    const compare = (colour, under, text, kind) => {
+        const [a, b] = [light(over(parts(colour), under)), light(under)].sort((x, y) => y - x), ratio = (a + 0.05) / (b + 0.05);
+        if (ratio < least.ratio) least = { ratio, text: text.trim().slice(0, 40), kind };
+    };
     const walker = document.createTreeWalker(document.body, NodeFilter.SHOW_TEXT);
     while (walker.nextNode()) {
         const it = walker.currentNode.parentElement;
         if (!walker.currentNode.data.trim() || !it.checkVisibility() || it.id === 'source' || it.closest('.skip, .sr, option')) continue;
-        const under = back(it), text = over(parts(getComputedStyle(it).color), under);
-        const [a, b] = [light(text), light(under)].sort((x, y) => y - x), ratio = (a + 0.05) / (b + 0.05);
-        if (ratio < least.ratio) least = { ratio, text: walker.currentNode.data.trim().slice(0, 40), kind: it.tagName + '.' + it.className };
+        compare(getComputedStyle(it).color, back(it), walker.currentNode.data, it.tagName + '.' + it.className);
+    }
+    const { color, backgroundColor } = getComputedStyle(document.getElementById('source'), '::selection');
+    for (const it of document.querySelectorAll('#editor .line')) {
+        compare(color, over(parts(backgroundColor), back(it)), it.innerText, 'selected ' + it.className);
     }
     return least;
 })()"""
@@ -59,6 +80,15 @@ PLACE = """((line, column) => {
     const { x, y, height } = range.getBoundingClientRect();
     return [x, y + height / 2];
 })"""
+
+# the rows of the instructions that are lit, those of the positions between them, and the numbers of the lines that are lit in the editor
+LIT = """(() => {
+    const rows = [...document.querySelectorAll('table.code tr')].map((it, at) => [at, it.innerText.replace(/\\s+/g, ' ').trim(), it.classList]);
+    const lit = rows.filter(([,, kinds]) => kinds.contains('lit'));
+    const lines = [...document.querySelectorAll('#editor .line')].flatMap((it, at) => it.classList.contains('lit') ? [at + 1] : []);
+    const named = (isPlace) => lit.filter(([,, kinds]) => kinds.contains('place') === isPlace).map(([at, text]) => isPlace ? text : [at, text]);
+    return { code: named(false), places: named(true), lines };
+})()"""
 
 
 class Page:
@@ -160,6 +190,26 @@ class Page:
     def stands_at(self, words, what):
         """Waits until the cursor of the source stands before these words."""
         self.until(f"((it) => it.value.slice(it.selectionStart).startsWith({json.dumps(words)}))(document.getElementById('source'))", what, 20)
+
+    def cursor_line(self):
+        return self.get("((it) => it.value.slice(0, it.selectionStart).split('\\n').length)(document.getElementById('source'))")
+
+    def go_to_line(self, line):
+        """Sets the cursor of the source at the beginning of a line, and lets the page follow."""
+        self.cursor(sum(len(it) + 1 for it in self.value().split("\n")[:line - 1]))
+        self.pause()
+
+    def listed(self, what="the instructions"):
+        """Waits for the instructions of the source as it is."""
+        self.until("document.querySelector('.listing[aria-busy=false] table') !== null", what)
+
+    def lit(self):
+        return self.get(LIT)
+
+    def lit_by(self, line):
+        """What is lit when the cursor stands at a line."""
+        self.go_to_line(line)
+        return self.lit()
 
     def value(self):
         return self.get("document.getElementById('source').value")

@@ -1,6 +1,6 @@
 """Tests of the page's own parts: the editor, its colours, what one reads, links, keys and screens. They need no compiler: the stub's answers are enough."""
 import content
-from page_driver import ENDLESS, RAISE, TOP
+from page_driver import ENDLESS, LISTED, RAISE, TOP
 
 COLOURED = """// a note
 char ?`r text(char ?`r it) {
@@ -92,6 +92,63 @@ def enter_keeps_the_indentation(page):
     page.cursor(12)
     page.type("\nreturn 1;\nreturn 2;")
     assert page.value() == "int main() {\n    return 1;\n    return 2;", page.value()
+
+
+def a_line_and_its_instructions_are_lit(page):
+    page.source(LISTED)
+    page.state("Accepted")
+    page.tab("instructions")
+    page.listed()
+    lit = {line: page.lit_by(line) for line in range(1, LISTED.count("\n") + 1)}
+    for line, word in ((7, "50"), (8, "call of twice"), (9, "48"), (12, "")):
+        it = lit[line]
+        assert any(word in text for _, text in it["code"]), f"line {line}: {it}"
+        lines = [9, 10] if line == 9 else [line]
+        assert it["lines"] == lines and {int(text.split(":")[0]) for text in it["places"]} == {*lines}, f"line {line}: {it}"
+    assert lit[10] == lit[9], "a statement of two lines is one"
+    for line in (3, 4, 11):
+        assert lit[line] == {"code": [], "places": [], "lines": []}, f"line {line}: {lit[line]}"
+    # (before the first statement of a function its frame is made)
+    own = [at for line in (6, 7, 8, 9, 12) for at, _ in lit[line]["code"]]
+    first = page.get("[...document.querySelectorAll('table.code tr')].findIndex(it => it.innerText.startsWith('6:'))")
+    code = page.get("[...document.querySelectorAll('table.code tr')].flatMap((it, at) => it.classList.contains('place') ? [] : [at])")
+    assert sorted(own) == [it for it in code if it > first], "each instruction of main is of one line"
+    page.go_to_line(7)
+    page.shot("lit")
+
+
+def an_instruction_leads_to_its_line(page):
+    page.source(LISTED)
+    page.tab("instructions")
+    page.listed()
+    for word, line in ((" 50", 7), ("call of twice", 8), (" 48", 9), ("7:", 7)):
+        page.cursor(0)
+        page.get(f"([...document.querySelectorAll('table.code tr')].find(it => it.innerText.includes({word!r})).scrollIntoView({{ block: 'center' }}), 1)")
+        page.point_at("table.code tr", word)
+        page.until("document.activeElement.id === 'source'", "the click goes to the source")
+        page.pause()
+        assert page.cursor_line() == line, f"{word} leads to line {page.cursor_line()}"
+        assert line in page.lit()["lines"], f"{word}: {page.lit()}"
+    page.go_to_line(7)
+    page.get("(document.querySelector('.listing').focus(), 1)")
+    page.used.press("ArrowDown")
+    assert page.get("document.activeElement.className") == "lit", "the keys begin at the first instruction that is lit"
+    page.used.press("ArrowUp")
+    assert page.lit()["lines"] == [6], page.lit()
+    page.used.press("Enter")
+    assert page.cursor_line() == 6 and page.get("document.activeElement.id") == "source"
+
+
+def instructions_follow_the_text(page):
+    page.source(LISTED)
+    page.tab("instructions")
+    page.listed()
+    page.source(LISTED.replace("return 0", "return unknown"))
+    page.until("document.querySelector('.listing').innerText.includes('rejected')", "no instructions of a rejected source")
+    page.source(f"\n{LISTED}")
+    page.listed("the instructions of the new text")
+    page.tab("output")
+    assert page.lit()["lines"] == [], "no line stays lit"
 
 
 def documents_are_shown(page):

@@ -72,7 +72,8 @@ def a_lack_is_told_in_words(page):
     page.state("Accepted")
     page.run()
     page.ended("More stack pages may help")
-    assert "call of f, at line 1, column 23, 64 times" in page.text(".calls"), page.text(".calls")
+    wanted = r"call of f, at line 1, column 23, 56 times\s+and \d+ calls between\s+call of f, at line 1, column 23, 7 times\s+call of f, at line 2, column 21$"
+    assert re.search(wanted, page.text(".calls").strip()), page.text(".calls")
     assert page.text("pre.output") == "Nothing was written.", page.text("pre.output")
     page.shot("exhausted")
 
@@ -90,17 +91,34 @@ def meaning_agrees(page):
 
 
 def instructions_are_lit(page):
+    page.choose("#example", "examples/queens.cyc")
     page.tab("instructions")
-    page.until("document.querySelectorAll('table.code tr').length > 50", "the instructions")
-    text = page.get("document.getElementById('source').value")
-    line = next(number for number, it in enumerate(text.split("\n"), 1) if "show(" in it and "void" not in it)
-    where = sum(len(it) + 1 for it in text.split("\n")[:line - 1])
-    page.get(f"(document.getElementById('source').focus(), document.getElementById('source').setSelectionRange({where}, {where}), 1)")
-    page.until("document.querySelectorAll('table.code tr.lit').length > 0", "the line's instructions are lit")
-    assert page.get("[...document.querySelectorAll('table.code tr.lit')].some(it => it.innerText.includes('call of show'))"), "the call is lit"
+    page.listed()
+    texts = page.value().split("\n")
+    line = next(number for number, it in enumerate(texts, 1) if "show(" in it and "void" not in it)
+    page.go_to_line(line)
+    lit = page.get("[...document.querySelectorAll('table.code tr.lit')].map(it => [it.classList.contains('place'), it.innerText])")
+    assert any("call of show" in text for is_place, text in lit if not is_place), f"the call is lit: {lit}"
+    places = [text for is_place, text in lit if is_place]
+    assert places and all(re.match(rf"{line}:\d+ ", it) and texts[line - 1].strip() in it for it in places), places
+    assert page.get("[...document.querySelectorAll('#editor .line')].findIndex(it => it.classList.contains('lit'))") == line - 1
     page.shot("instructions")
     page.tab("output")
     assert page.get("document.querySelectorAll('#editor .line.lit').length") == 0, "no line stays lit"
+
+
+def a_check_is_lit_with_its_line(page):
+    """Of an index all is lit: what is compared, the check, and the load."""
+    page.source(RAISE)
+    page.state("Accepted")
+    page.tab("instructions")
+    page.listed()
+    page.go_to_line(2)
+    lit = page.get("[...document.querySelectorAll('table.code tr.lit:not(.place)')].map(it => it.innerText)")
+    for what in ("Array_bounds", r"\b(bltu|bgeu) ", r"\blw "):
+        assert any(re.search(what, it) for it in lit), f"{what}: {lit}"
+    page.shot("check")
+    page.tab("output")
 
 
 def memory_is_a_picture(page):
@@ -186,7 +204,7 @@ def states_are_light_and_dark(page):
         page.check_contrast(f"{scheme}, memory")
         page.shot(f"{scheme}_memory")
         page.tab("instructions")
-        page.until("document.querySelectorAll('table.code tr').length > 50", "the instructions")
+        page.listed()
         page.cursor(page.value().index("main("))
         page.check_contrast(f"{scheme}, instructions")
         page.tab("output")

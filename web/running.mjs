@@ -93,15 +93,17 @@ export class Running {
         for (const it of isRaise ? calls : found.places) lines.set(it.line, "called");
         if (isRaise) lines.set(first.line, "stopped");
         this.editor.setLines(lines);
-        const rows = counted(found.places).map((it, index) => this.place(it, index === 0 && isRaise));
+        const { at, count } = found.between ?? { at: found.places.length, count: 0 };
+        const rowsOf = (places) => counted(places).map((it) => this.place(it));
+        const between = count ? [made("li", {}, `and ${count} calls between`)] : [];
+        const rows = [...rowsOf(found.places.slice(0, at)), ...between, ...rowsOf(found.places.slice(at))];
         for (const it of found.notes) rows.unshift(made("li", {}, it));
-        if (found.more) rows.push(made("li", {}, `and ${found.more} calls more`));
         const head = kind === "bad" ? "Where it stopped, and the calls that led there" : "Where it was";
         if (rows.length) this.calls.replaceChildren(made("h3", {}, head), made("ol", {}, ...rows));
     }
 
-    place(it, isRaise) {
-        const times = it.count > 1 ? `, ${it.count} times` : "", before = isRaise ? "stopped at " : `${it.words}, at `;
+    place(it) {
+        const times = it.count > 1 ? `, ${it.count} times` : "", before = it.words.startsWith("call of") ? `${it.words}, at ` : "stopped at ";
         const button = made("button", { type: "button" }, `${before}line ${it.line}, column ${it.column}${times}`);
         button.addEventListener("click", () => this.editor.go(it.line, it.column));
         return made("li", {}, button);

@@ -4,7 +4,7 @@ import re
 import shutil
 
 import content
-from page_driver import ENDLESS, RAISE, TOP
+from page_driver import ENDLESS, LISTED, RAISE, TOP
 
 EMPTY_MODULE = b"\0asm\1\0\0\0"
 COUNTS = "instructions 120\ncalls 5\nstack 64\npages 1\nputchar 13\nexit 1\n"
@@ -50,6 +50,7 @@ def put(folder):
             shutil.copyfile(file, folder / file.name)
     (folder / "content.json").write_text(content.made(TOP, "This page's program: none. A stub answers with canned words."), encoding="utf-8")
     (folder / "cycc.wasm").write_bytes(EMPTY_MODULE)
-    canned = {"rejected": rejected(), "runs": runs(), "endless": ENDLESS, "unknown": UNKNOWN}
+    listed = {"source": bare(LISTED), **{kind: (TOP / "web" / "stub" / f"listed.{kind}").read_text() for kind in ("map", "dump")}}
+    canned = {"rejected": rejected(), "runs": runs(), "endless": ENDLESS, "unknown": UNKNOWN, "listed": listed}
     worker = (TOP / "web" / "stub" / "worker.mjs").read_text()
     (folder / "worker.mjs").write_text(f"const CANNED = {json.dumps(canned)};\n{worker}")

@@ -36,9 +36,19 @@ function ran(text, id) {
     return known;
 }
 
+/** The image and the map of the source whose instructions are known. The image is its dump. */
+function compiled(text) {
+    if (bare(text) !== CANNED.listed.source) return { status: 8, err: "The stub doesn't.\n" };
+    const bytes = (it) => new TextEncoder().encode(it);
+    return { status: 0, err: "", files: { "program.img": bytes(CANNED.listed.dump), "program.map": bytes(CANNED.listed.map) } };
+}
+
+/** What is answered to each command. */
+const ANSWERS = { check: checked, run: ran, compile: compiled, dump: (text) => ({ status: 0, err: "", out: text }) };
+
 onmessage = ({ data }) => {
     if (data.module) return;
     const text = new TextDecoder().decode(Object.values(data.files ?? {})[0]);
-    const answered = data.words[0] === "run" ? ran(text, data.id) : data.words[0] === "check" ? checked(text) : { status: 8, err: "The stub doesn't.\n" };
+    const answered = ANSWERS[data.words[0]]?.(text, data.id) ?? { status: 8, err: "The stub doesn't.\n" };
     postMessage({ id: data.id, done: { out: "", left: 0, seconds: 0.01, arena: null, files: {}, ...answered } });
 };

@@ -58,7 +58,7 @@ const range = (it) => new vscode.Range(it.start.line, it.start.character, it.end
 const location = (it) => new vscode.Location(vscode.Uri.parse(it.uri), range(it.range));
 
 function diagnostic(it) {
-  const found = new vscode.Diagnostic(range(it.range), it.message, vscode.DiagnosticSeverity.Error);
+  const found = new vscode.Diagnostic(range(it.range), it.message, it.severity - 1);
   found.code = it.code;
   found.source = it.source;
   return found;
@@ -73,6 +73,18 @@ function symbol(it) {
 function completion(it) {
   const found = new vscode.CompletionItem(it.label, it.kind - 1);
   found.detail = it.detail;
+  return found;
+}
+
+function signature(it) {
+  const found = new vscode.SignatureHelp();
+  found.signatures = it.signatures.map(({ label, parameters }) => {
+    const made = new vscode.SignatureInformation(label);
+    made.parameters = parameters.map((one) => new vscode.ParameterInformation(one.label));
+    return made;
+  });
+  found.activeSignature = it.activeSignature;
+  found.activeParameter = it.activeParameter;
   return found;
 }
 
@@ -109,6 +121,7 @@ function providers(server) {
     actions: { provideCodeActions: (d, r) => ask('codeAction', { ...about(d), range: { start: plain(r.start), end: plain(r.end) }, context: { diagnostics: [] } }, list(action)) },
     rename: { provideRenameEdits: (d, p, newName) => ask('rename', { ...at(d, p), newName }, edits) },
     completion: { provideCompletionItems: (d, p) => ask('completion', at(d, p), list(completion)) },
+    signature: { provideSignatureHelp: (d, p) => ask('signatureHelp', at(d, p), signature) },
     layout: { provideDocumentFormattingEdits: (d) => ask('formatting', { ...about(d), options: {} }, list((it) => new vscode.TextEdit(range(it.range), it.newText))) },
     symbols: { provideDocumentSymbols: (d) => ask('documentSymbol', about(d), list(symbol)) },
     folds: { provideFoldingRanges: (d) => ask('foldingRange', about(d), list((it) => new vscode.FoldingRange(it.startLine, it.endLine))) },
@@ -125,6 +138,7 @@ function register(context, server) {
     languages.registerRenameProvider(LANGUAGE, made.rename),
     languages.registerCodeActionsProvider(LANGUAGE, made.actions),
     languages.registerCompletionItemProvider(LANGUAGE, made.completion, '.', '>', '`'),
+    languages.registerSignatureHelpProvider(LANGUAGE, made.signature, '(', ','),
     languages.registerDocumentSymbolProvider(LANGUAGE, made.symbols),
     languages.registerDocumentFormattingEditProvider(LANGUAGE, made.layout),
     languages.registerFoldingRangeProvider(LANGUAGE, made.folds),

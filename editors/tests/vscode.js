@@ -19,13 +19,15 @@ const vscode = {
   Location: class { constructor(where, range) { Object.assign(this, { where, range }); } },
   Hover: class { constructor(value) { this.value = value; } },
   MarkdownString: class { constructor(value) { this.value = value; } },
-  Diagnostic: class { constructor(range, message) { Object.assign(this, { range, message }); } },
+  Diagnostic: class { constructor(range, message, severity) { Object.assign(this, { range, message, severity }); } },
   CompletionItem: class { constructor(label) { this.label = label; } },
   DocumentSymbol: class { constructor(name) { this.name = name; } },
   FoldingRange: Plain,
   TextEdit: class { constructor(where, newText) { Object.assign(this, { newText }); } },
   WorkspaceEdit: Edits,
-  DiagnosticSeverity: { Error: 0 },
+  SignatureHelp: Plain,
+  SignatureInformation: class { constructor(label) { this.label = label; } },
+  ParameterInformation: class { constructor(label) { this.label = label; } },
   CodeAction: class { constructor(title) { this.title = title; } },
   CodeActionKind: { QuickFix: 'quickfix' },
   Uri: { parse: (it) => it },
@@ -38,6 +40,7 @@ const vscode = {
     registerRenameProvider: remember('rename'),
     registerCodeActionsProvider: remember('actions'),
     registerCompletionItemProvider: remember('completion'),
+    registerSignatureHelpProvider: remember('signature'),
     registerDocumentSymbolProvider: remember('symbols'),
     registerFoldingRangeProvider: remember('folds'),
     registerDocumentFormattingEditProvider: remember('layout'),
@@ -81,6 +84,8 @@ async function main() {
   assert.strictEqual((await made.references.provideReferences(document, at, { includeDeclaration: false })).length, 1);
   const members = await made.completion.provideCompletionItems(document, { line: 5, character: 22 });
   assert.deepStrictEqual(members.map((it) => it.label), ['x', 'next']);
+  const help = await made.signature.provideSignatureHelp(document, { line: 3, character: 41 });
+  assert.strictEqual(help.signatures[0].label, 'int step(int n)');
   assert.strictEqual((await made.symbols.provideDocumentSymbols(document)).length, 3);
   assert.strictEqual((await made.folds.provideFoldingRanges(document)).length, 1);
   const [laid] = await made.layout.provideDocumentFormattingEdits(document);
@@ -88,7 +93,7 @@ async function main() {
   listeners.save(document);
   listeners.close(document);
   await client.deactivate();
-  console.log('vscode: faults, definition, hover, cure, rename, references, completion, symbols, folding and layout were seen');
+  console.log('vscode: faults, definition, hover, cure, rename, references, completion, signature, symbols, folding and layout were seen');
 }
 
 main().then(() => process.exit(0), (error) => { console.error(`vscode: ${error.message}`); process.exit(1); });

@@ -2,6 +2,7 @@
 
 use crate::pages::{Span, push_range, span_of};
 use crate::sources::Source;
+use crate::warned::push_warnings;
 use cyc_lexer::Token;
 use cycc_driver::{CompileFault, Place, check};
 use editor_protocol::{JsonText, line_begin};
@@ -125,7 +126,8 @@ pub(crate) fn faultless(alloc: Global, uri: &[u8]) -> Result<Vec<u8>, AllocError
     Ok(json.into_bytes())
 }
 
-/// The parameters of the notification of the faults that a source has in the part of an index.
+/// The parameters of the notification of the faults that a source has in the part of an index; of one without faults, of its warnings in the text that is
+/// looked at.
 pub(crate) fn params_of(
     alloc: Global,
     version: Option<i64>,
@@ -139,6 +141,9 @@ pub(crate) fn params_of(
     json.begin()?;
     for fault in faults {
         push_fault(&mut json, alloc, source, tokens, index, *fault)?;
+    }
+    if faults.is_empty() && index == source.own {
+        push_warnings(&mut json, alloc, source, tokens)?;
     }
     json.end()?;
     json.raw("}")?;

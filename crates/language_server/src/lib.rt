@@ -3,8 +3,8 @@
 //! `Server::serve` answers one message. A request gets one response with its id, which is a result or an error of the protocol; a notification
 //! gets none, and what is no message one error. Only notifications change texts. `Server::wanted` names
 //! a file that a text's source has, and `Server::supply` takes it. What it says of a text are the checker's faults with their
-//! reasons, and what its tokens tell of names. Stands on `editor_protocol`, `token_names`, `cyc_format`, `reasons` and
-//! `cycc_driver`.
+//! reasons, the warnings of one that is accepted, and what its tokens tell of names. Stands on `editor_protocol`, `token_names`, `cyc_format`,
+//! `reasons`, `warnings` and `cycc_driver`.
 #![tactic(auto)]
 
 mod actions;
@@ -21,8 +21,10 @@ mod outlines;
 mod pages;
 mod requests;
 mod server;
+mod signatures;
 mod sources;
 mod told;
+mod warned;
 
 pub use documents::{Document, File};
 pub use methods::{Method, Phase};

@@ -20,10 +20,11 @@ pub enum Method {
     Rename,
     Completion,
     Actions,
+    Signature,
 }
 
 /// The requests, by their names.
-static METHODS: [(Method, &[u8]); 11] = [
+static METHODS: [(Method, &[u8]); 12] = [
     (Method::Initialize, b"initialize"),
     (Method::Shutdown, b"shutdown"),
     (Method::Symbols, b"textDocument/documentSymbol"),
@@ -35,6 +36,7 @@ static METHODS: [(Method, &[u8]); 11] = [
     (Method::Rename, b"textDocument/rename"),
     (Method::Completion, b"textDocument/completion"),
     (Method::Actions, b"textDocument/codeAction"),
+    (Method::Signature, b"textDocument/signatureHelp"),
 ];
 
 /// The notification that ends a session.

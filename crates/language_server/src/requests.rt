@@ -9,6 +9,7 @@ use crate::methods::Method;
 use crate::names::{definition, hover, may_be_named, references, renamed};
 use crate::outlines::{folding, symbols};
 use crate::pages::Page;
+use crate::signatures::signature;
 use crate::sources::{Source, Texts};
 use editor_protocol::offset_at;
 use serde_json::Value;
@@ -17,7 +18,7 @@ use token_names::pieces;
 
 /// What the server can do.
 const CAPABILITIES: &str =
-    r#"{"capabilities":{"positionEncoding":"utf-16","textDocumentSync":{"openClose":true,"change":2,"save":true},"hoverProvider":true,"definitionProvider":true,"referencesProvider":true,"renameProvider":true,"documentSymbolProvider":true,"foldingRangeProvider":true,"documentFormattingProvider":true,"codeActionProvider":{"codeActionKinds":["quickfix"]},"completionProvider":{"triggerCharacters":[".",">","`"]}},"serverInfo":{"name":"cycc"}}"#;
+    r#"{"capabilities":{"positionEncoding":"utf-16","textDocumentSync":{"openClose":true,"change":2,"save":true},"hoverProvider":true,"definitionProvider":true,"referencesProvider":true,"renameProvider":true,"documentSymbolProvider":true,"foldingRangeProvider":true,"documentFormattingProvider":true,"codeActionProvider":{"codeActionKinds":["quickfix"]},"completionProvider":{"triggerCharacters":[".",">","`"]},"signatureHelpProvider":{"triggerCharacters":["(",","]}},"serverInfo":{"name":"cycc"}}"#;
 
 /// A text of JSON as bytes of its own.
 fn written(alloc: Global, text: &str) -> Result<Option<Vec<u8>>, AllocError> {
@@ -58,6 +59,7 @@ fn found_at(page: &Page<'_>, method: Method, body: &Value) -> Result<Option<Vec<
         Method::References => Ok(Some(references(page, offset, asks_declaration(body))?)),
         Method::Completion => Ok(Some(completions(page, offset)?)),
         Method::Rename => renamed_in(page, offset, body),
+        Method::Signature => Ok(Some(signature(page, offset)?)),
         _ => Ok(Some(hover(page, offset)?)),
     }
 }

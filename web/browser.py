@@ -193,10 +193,15 @@ class Chromium(Browser):
         how.pop("text", None)
         self.ask("Input.dispatchKeyEvent", self.session, type="keyUp", **how)
 
+    def move(self, x, y):
+        """Moves the mouse to a point."""
+        self.ask("Input.dispatchMouseEvent", self.session, type="mouseMoved", x=x, y=y)
+
     def click(self, x, y):
         """Moves the mouse to a point and clicks there."""
-        for kind in ("mouseMoved", "mousePressed", "mouseReleased"):
-            self.ask("Input.dispatchMouseEvent", self.session, type=kind, x=x, y=y, **({} if kind == "mouseMoved" else {"button": "left", "clickCount": 1}))
+        self.move(x, y)
+        for kind in ("mousePressed", "mouseReleased"):
+            self.ask("Input.dispatchMouseEvent", self.session, type=kind, x=x, y=y, button="left", clickCount=1)
 
     def shot(self, path):
         data = self.ask("Page.captureScreenshot", self.session, format="png")["data"]
@@ -251,10 +256,14 @@ class Firefox(Browser):
         actions += [{"type": "keyUp", "value": it} for it in held]
         self.ask("input.performActions", context=self.context, actions=[{"type": "key", "id": "keys", "actions": actions}])
 
+    def move(self, x, y, *more):
+        """Moves the mouse to a point."""
+        actions = [{"type": "pointerMove", "x": int(x), "y": int(y)}, *more]
+        self.ask("input.performActions", context=self.context, actions=[{"type": "pointer", "id": "mouse", "actions": actions}])
+
     def click(self, x, y):
         """Moves the mouse to a point and clicks there."""
-        actions = [{"type": "pointerMove", "x": int(x), "y": int(y)}, {"type": "pointerDown", "button": 0}, {"type": "pointerUp", "button": 0}]
-        self.ask("input.performActions", context=self.context, actions=[{"type": "pointer", "id": "mouse", "actions": actions}])
+        self.move(x, y, {"type": "pointerDown", "button": 0}, {"type": "pointerUp", "button": 0})
 
     def shot(self, path):
         data = self.ask("browsingContext.captureScreenshot", context=self.context)["data"]

@@ -28,7 +28,7 @@ export function meaningOf(name) {
     return COUNTS[name] ?? name;
 }
 
-/** The lines of a run with --ending, --where and --stats: the ending, the positions and how many are left out between them, the counts, and what else there is. */
+/** The lines of a run with --ending, --where and --stats: the ending, the positions and how many lie between them, the counts, and what else there is. */
 export function partsOf(said) {
     const found = { ending: "", places: [], between: null, counts: new Map(), lacking: "", notes: [] };
     for (const line of said.split("\n").filter((it) => it)) {

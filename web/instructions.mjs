@@ -27,9 +27,9 @@ export class Instructions {
         this.empty();
         const rowAt = (event) => this.rows.find((it) => it.it === event.target.closest("tr"));
         document.addEventListener("selectionchange", () => document.activeElement === editor.field && this.follow());
-        this.body.addEventListener("mouseover", (event) => this.look(rowAt(event)));
+        // (a list that moves below the mouse isn't pointed at)
+        this.body.addEventListener("mousemove", (event) => (event.movementX || event.movementY) && this.look(rowAt(event)));
         this.body.addEventListener("mouseleave", () => this.followed());
-        this.body.addEventListener("focusin", (event) => this.look(rowAt(event)));
         this.body.addEventListener("click", (event) => this.isSelected() || this.go(rowAt(event)));
         this.body.addEventListener("keydown", (event) => this.key(event));
     }
@@ -180,6 +180,11 @@ export class Instructions {
         else if (row?.own?.head) this.editor.go(row.own.head, 1);
     }
 
+    choose(row) {
+        row.it.focus();
+        this.look(row);
+    }
+
     /** The arrow keys go from instruction to instruction, from the first one that is lit on; Enter goes to the source. */
     key(event) {
         if (event.ctrlKey || event.metaKey || event.altKey) return;
@@ -187,7 +192,7 @@ export class Instructions {
         const lit = rows.findIndex(({ it }) => it.classList.contains("lit"));
         const next = { ArrowDown: at < 0 ? Math.max(lit, 0) : at + 1, ArrowUp: at < 0 ? Math.max(lit, 0) : at - 1 }[event.key];
         if (event.key === "Enter") this.go(rows[at]);
-        else if (rows[next]) rows[next].it.focus();
+        else if (rows[next]) this.choose(rows[next]);
         else return;
         event.preventDefault();
     }

@@ -120,14 +120,18 @@ class Page:
     def click(self, where):
         self.get(f"(document.querySelector({json.dumps(where)}).click(), 1)")
 
-    def point_at(self, where, words):
-        """Clicks with the mouse on the element that has these words, which has to be on top there. The field of the source lies above words beside a line."""
+    def place_of(self, where, words):
+        """The middle of the element that has these words, which has to be on top there. The field of the source lies above words beside a line."""
         self.get(f"(window.at = [...document.querySelectorAll({json.dumps(where)})].find(it => it.innerText.includes({json.dumps(words)})), 1)")
         x, y, width, height = self.settled("((it) => [it.x, it.y, it.width, it.height])(window.at.getBoundingClientRect())")
         x, y = x + width / 2, y + height / 2
         is_top = self.get(f"((top) => window.at.contains(top) || (window.at.matches('.beside') && top.id === 'source'))(document.elementFromPoint({x}, {y}))")
         assert is_top, f"{words} can't be clicked"
-        self.used.click(x, y)
+        return x, y
+
+    def point_at(self, where, words):
+        """Clicks with the mouse on the element that has these words."""
+        self.used.click(*self.place_of(where, words))
 
     def settled(self, expression):
         """The value of an expression when it is the same twice: Firefox scrolls to a new place of the cursor some time after that is set."""
@@ -202,6 +206,11 @@ class Page:
     def listed(self, what="the instructions"):
         """Waits for the instructions of the source as it is."""
         self.until("document.querySelector('.listing[aria-busy=false] table') !== null", what)
+
+    def show_row(self, words):
+        """Scrolls the list of instructions so that the first row with these words is in its middle."""
+        found = f"[...document.querySelectorAll('table.code tr')].find(it => it.innerText.includes({json.dumps(words)}))"
+        self.get(f"({found}.scrollIntoView({{ block: 'center' }}), 1)")
 
     def lit(self):
         return self.get(LIT)

@@ -1,6 +1,6 @@
 """Tests of the page's own parts: the editor, its colours, what one reads, links, keys and screens. They need no compiler: the stub's answers are enough."""
 import content
-from page_driver import ENDLESS, LISTED, RAISE, TOP
+from page_driver import ENDLESS, LISTED, LIT, RAISE, TOP
 
 COLOURED = """// a note
 char ?`r text(char ?`r it) {
@@ -123,12 +123,19 @@ def an_instruction_leads_to_its_line(page):
     page.listed()
     for word, line in ((" 50", 7), ("call of twice", 8), (" 48", 9), ("7:", 7)):
         page.cursor(0)
-        page.get(f"([...document.querySelectorAll('table.code tr')].find(it => it.innerText.includes({word!r})).scrollIntoView({{ block: 'center' }}), 1)")
+        page.show_row(word)
         page.point_at("table.code tr", word)
         page.until("document.activeElement.id === 'source'", "the click goes to the source")
         page.pause()
         assert page.cursor_line() == line, f"{word} leads to line {page.cursor_line()}"
         assert line in page.lit()["lines"], f"{word}: {page.lit()}"
+    page.go_to_line(12)
+    page.show_row("call of twice")
+    x, y = page.place_of("table.code tr", "call of twice")
+    page.used.move(x, y - 40)
+    page.used.move(x, y)
+    page.until(f"{LIT}.lines.join() === '8'", "pointing at an instruction lights its line")
+    assert page.cursor_line() == 12, "and goes nowhere"
     page.go_to_line(7)
     page.get("(document.querySelector('.listing').focus(), 1)")
     page.used.press("ArrowDown")
@@ -233,13 +240,23 @@ def keyboard_suffices(page):
     assert page.get("document.activeElement.id") == "source"
 
 
+# whether a part is seen whole within another
+SEEN = """((it, box) => {
+    const [inner, outer] = [it, box].map((part) => part.getBoundingClientRect());
+    return outer.top - 1 <= inner.top && inner.bottom <= outer.bottom + 1;
+})"""
+
+
 def narrow_screens_do(page):
     page.used.size(390, 844)
     page.open()
     page.state("Accepted")
-    wide = page.get("[document.scrollingElement.scrollWidth, innerWidth]")
-    assert wide[0] <= wide[1], f"the page is {wide[0]} wide on a screen of {wide[1]}"
-    assert page.get("document.getElementById('tab_memory').getBoundingClientRect().right") <= wide[1], "each tab is seen"
+    for width in (320, 390):
+        page.used.size(width, 844)
+        page.pause()
+        wide = page.get("[document.scrollingElement.scrollWidth, innerWidth]")
+        assert wide[0] <= wide[1] == width, f"the page is {wide[0]} wide on a screen of {wide[1]}"
+        assert page.get("document.getElementById('tab_memory').getBoundingClientRect().right") <= width, "each tab is seen"
     page.shot("narrow")
     page.get("(document.getElementById('writing').scrollIntoView(), 1)")
     page.run()
@@ -247,6 +264,14 @@ def narrow_screens_do(page):
     page.shot("narrow_source")
     page.get("(document.getElementById('results').scrollIntoView(), 1)")
     page.shot("narrow_results")
+    page.source(LISTED)
+    page.tab("instructions")
+    page.listed()
+    page.go_to_line(8)
+    assert page.get(f"{SEEN}(document.querySelector('table.code tr.lit'), document.querySelector('.listing'))"), "what is lit is seen in its list"
+    page.get("(document.getElementById('instructions').scrollIntoView(), 1)")
+    page.shot("narrow_instructions")
+    page.tab("output")
     page.used.size(820, 1100)
     page.shot("medium")
     page.used.size(1440, 900)

@@ -214,7 +214,10 @@ def contrast_is_enough(page):
         for name in ("output", "statistics", "instructions", "meaning", "memory"):
             page.tab(name)
             page.check_contrast(f"{scheme}, {name}")
-    page.tab("output")
+        page.tab("output")
+        for name in ("lesson 2", "document FAULTS.md", "document GRAMMAR.md", "start"):
+            page.choose("#chapter", name)
+            page.check_contrast(f"{scheme}, {name}")
     page.shot("dark")
     page.used.scheme("light")
 

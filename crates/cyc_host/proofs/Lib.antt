@@ -5,4 +5,5 @@ pub mod OneStep
 pub mod Progress
 pub mod Unstepped
 pub mod OtherEndings
+pub mod Watching
 pub mod Quietly

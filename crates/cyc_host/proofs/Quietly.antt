@@ -1,5 +1,5 @@
 -- A run goes on by steps that show nothing and ask the store for nothing.
-use Rattle.std.proofs.Common.{◌≡◌, ℕ, zero, suc, ◌+◌, ◌⊎◌, Bool, false, List, Option, ◌∙◌, sym, ap, subst, inl, inr, arith}
+use Rattle.std.proofs.Common.{◌≡◌, ℕ, zero, suc, ◌+◌, ◌⊎◌, Bool, false, List, [], ◌∷◌, ◌++◌, Option, ◌∙◌, refl, sym, ap, subst, inl, inr, arith}
 use Rattle.arena_laws.specs.Asked.{Asked}
 use Rattle.arena_laws.specs.Lawful.{Refuses}
 use Rattle.rv32_machine.specs.State.{State, Areas, Runs}
@@ -18,20 +18,26 @@ one_quiet n s t q = record {
   exact = subst (λ (asked : Option Asked). IsShortage n asked s.holdings Nothing) (sym q.asks) tt;
 }
 
--- a run goes on by so many of them
-pub went_quietly : {n : Areas} {old now : State} {count : ℕ} {is_over : Bool} {reader_old reader writer_old writer : Option (List ℕ)} {gathered : List ℕ}
-    → Progress n old count is_over now reader_old reader writer_old writer gathered → (k : ℕ) (new : State) → AreQuietSteps n k now new
-    → Progress n old (count + k) is_over new reader_old reader writer_old writer gathered
-went_quietly {n} {old} {now} {count} {is_over} {reader_old} {reader} {writer_old} {writer} {gathered} p zero new same =
-    let here : Progress n old count is_over new reader_old reader writer_old writer gathered =
-    subst (λ (t : State). Progress n old count is_over t reader_old reader writer_old writer gathered) (sym same) p in
+-- A run goes on by so many of them. Where they are none, no instruction began.
+pub went_quietly : {n : Areas} {old now : State} {count : ℕ} {is_over : Bool} {reader_old reader writer_old writer : Option (List ℕ)} {gathered : List ℕ} {states : List State}
+    → Progress n old count is_over now reader_old reader writer_old writer gathered states → (k : ℕ) (new : State) → AreQuietSteps n k now new
+    → (further : List State) × ((k ≡ 0 → further ≡ states) × Progress n old (count + k) is_over new reader_old reader writer_old writer gathered further)
+went_quietly {n} {old} {now} {count} {is_over} {reader_old} {reader} {writer_old} {writer} {gathered} {states} p zero new same =
+    let here : Progress n old count is_over new reader_old reader writer_old writer gathered states =
+    subst (λ (t : State). Progress n old count is_over t reader_old reader writer_old writer gathered states) (sym same) p in
     let none : count ≡ count + 0 = omega arith in
-    subst (λ c. Progress n old c is_over new reader_old reader writer_old writer gathered) none here
-went_quietly {n} {old} {now} {count} {is_over} {reader_old} {reader} {writer_old} {writer} {gathered} p (suc k) new (m, before, last) =
-    let further : Progress n old (count + k + 1) is_over new reader_old reader writer_old writer gathered =
-    went_on (went_quietly p k m before) Refuses new (one_quiet n m new last) in
-    let one : count + k + 1 ≡ count + suc k = omega arith in
-    subst (λ c. Progress n old c is_over new reader_old reader writer_old writer gathered) one further
+    (states, ((λ _. refl), subst (λ c. Progress n old c is_over new reader_old reader writer_old writer gathered states) none here))
+went_quietly {n} {old} {now} {count} {is_over} {reader_old} {reader} {writer_old} {writer} {gathered} {states} p (suc k) new (m, before, last) =
+    let (states_before, (_, q)) = went_quietly p k m before in
+    let further : Progress n old (count + k + 1) is_over new reader_old reader writer_old writer gathered (states_before ++ m ∷ []) =
+    went_on q Refuses new (one_quiet n m new last) in
+    let one : count + k + 1 ≡ count + suc k = omega arith in (
+      states_before ++ m ∷ [],
+      (
+        (λ none. absurd (omega (arith, none))),
+        subst (λ c. Progress n old c is_over new reader_old reader writer_old writer gathered (states_before ++ m ∷ [])) one further,
+      ),
+    )
 
 -- after some of them it runs
 pub runs_quietly : (n : Areas) (k : ℕ) (s t : State) → AreQuietSteps n k s t → (t ≡ s) ⊎ (t.mode ≡ Runs)

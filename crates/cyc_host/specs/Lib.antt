@@ -1,3 +1,4 @@
 pub mod Failures
 pub mod Transfers
 pub mod Hosted
+pub mod Watched

@@ -8,6 +8,7 @@
 #![tactic(auto)]
 
 mod ending;
+mod frames;
 mod pace;
 mod pages;
 mod running;

@@ -18,13 +18,14 @@ enum Owner {
     Slots,
 }
 
-/// The owners of an arena's pages, how many pages are taken, and the most that were taken at once. A region's or key's number is its
-/// first page plus 1.
+/// The owners of an arena's pages, how many pages are taken, the most that were taken at once, and how many were ever taken, which are the first ones. A
+/// region's or key's number is its first page plus 1.
 #[derive(Drop)]
 pub struct Pages {
     owners: Vec<Owner>,
     taken: u32,
     most: u32,
+    used: u32,
 }
 
 impl Pages {
@@ -34,6 +35,7 @@ impl Pages {
             owners: Vec::new(alloc),
             taken: 0,
             most: 0,
+            used: 0,
         }
     }
 
@@ -43,7 +45,18 @@ impl Pages {
             owners: vec![in alloc; Owner::Nobody; MOST_PAGES as usize]?,
             taken: 0,
             most: 0,
+            used: 0,
         })
+    }
+
+    /// How many pages are taken.
+    pub fn taken(&self) -> u32 {
+        self.taken
+    }
+
+    /// How many pages were ever taken.
+    pub fn used(&self) -> u32 {
+        self.used
     }
 
     /// The most pages that were taken at once.
@@ -78,6 +91,7 @@ impl Pages {
             let was_free = matches!(*old, Owner::Nobody);
             *old = owner;
             if was_free {
+                self.used = self.used.max(page.saturating_add(1));
                 self.taken = self.taken.saturating_add(1);
                 self.most = self.most.max(self.taken);
             }

@@ -1,5 +1,8 @@
 // What is seen of a machine before it executes an instruction.
 
+ghost use Rattle.std.specs.Prelude.{◌≡◌};
+ghost use Rattle.rv32_machine.specs.Arrays.{arrays, state_of};
+
 use cyc_arena::BlockStore;
 use rv32_machine::{CODE_BASE, Machine};
 
@@ -23,7 +26,9 @@ pub struct Seen {
 
 impl Seen {
     /// What a machine with this code executes next.
-    pub fn of<S: BlockStore>(machine: &Machine<S>, code: &[u8]) -> Seen {
+    pub fn of<S: BlockStore>(machine: &Machine<S>, code: &[u8]) -> Seen
+        ensures { result.pc ≡ (state_of (arrays S.holdings S.byte_at machine.now)).pc }
+    {
         let pc = machine.pc();
         Seen {
             pc,

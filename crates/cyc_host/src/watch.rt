@@ -1,5 +1,10 @@
 // What is seen of a run: how often it executed each instruction, its active calls, and the pages of its arena.
 
+ghost use Rattle.std.specs.Prelude.{◌≡◌, IfOk, false, true};
+ghost use Rattle.cyc_words.specs.Devices.{one_more};
+ghost use Rattle.cyc_host.specs.Watched.{IsSameTally, nothing, tally_of};
+
+use crate::frames::Frames;
 use crate::pace::Pace;
 use crate::pages::Pages;
 use crate::seen::{Comparison, HOMES, Seen, first_in, homes_of, second_in};
@@ -67,6 +72,8 @@ pub struct Count {
 pub struct Active {
     /// The address of the call.
     pub at: u32,
+    /// The stack pointer at the call: where the caller's frame begins.
+    pub stack: u32,
     /// How many instructions were executed up to the call, with itself.
     pub since: u64,
     /// What the registers in which the caller's locals live held: x8, x9 and x18 to x27.
@@ -94,11 +101,15 @@ pub struct Watch {
     compared: Comparison,
     passed: [u32; PASSED],
     homes: [u32; HOMES],
+    frames: Frames,
 }
 
 impl Watch {
     /// One that sees nothing, of a run that isn't watched.
-    pub fn idle(alloc: Global) -> Watch {
+    pub fn idle(alloc: Global) -> Watch
+        ensures sees { result.sees ≡ false }
+        ensures nothing { tally_of result ≡ nothing }
+    {
         Watch {
             sees: false,
             code: Vec::new(alloc),
@@ -126,11 +137,15 @@ impl Watch {
             },
             passed: [0; PASSED],
             homes: [0; HOMES],
+            frames: Frames::none(alloc),
         }
     }
 
     /// Nothing of a run of this code was seen.
-    pub fn new(alloc: Global, code: &[u8]) -> Result<Watch, AllocError> {
+    pub fn new(alloc: Global, code: &[u8]) -> Result<Watch, AllocError>
+        ensures sees { IfOk result (λ watch. watch.sees ≡ true) }
+        ensures nothing { IfOk result (λ watch. tally_of watch ≡ nothing) }
+    {
         let mut watch = Watch::idle(alloc);
         watch.sees = true;
         watch.pages = Pages::new(alloc)?;
@@ -146,7 +161,9 @@ impl Watch {
     }
 
     /// How many instructions were executed, with the last one, also if the machine stopped there.
-    pub fn steps(&self) -> u64 {
+    pub fn steps(&self) -> u64
+        ensures { result ≡ (tally_of self.now).steps }
+    {
         self.steps
     }
 
@@ -194,8 +211,20 @@ impl Watch {
         self.pages.most()
     }
 
+    /// How many pages of the arena were taken, by the requests before the last instruction.
+    pub fn taken_pages(&self) -> u32 {
+        self.pages.taken()
+    }
+
+    /// How many pages of the arena were ever taken, by the requests before the last instruction.
+    pub fn used_pages(&self) -> u32 {
+        self.pages.used()
+    }
+
     /// The last instruction.
-    pub fn last(&self) -> Seen {
+    pub fn last(&self) -> Seen
+        ensures { result.pc ≡ (tally_of self.now).at }
+    {
         self.last
     }
 
@@ -209,8 +238,16 @@ impl Watch {
         &self.homes
     }
 
+    /// The word at an address in the frames of the functions that were active when the run ended: from the stack pointer on. None elsewhere, and where no
+    /// host memory was left to keep them.
+    pub fn frame_word(&self, address: u32) -> Option<u32> {
+        self.frames.word(address)
+    }
+
     /// Counts an instruction, and that it isn't the next word of the one before it, if so.
-    fn count(&mut self, pc: u32) {
+    fn count(&mut self, pc: u32)
+        ensures same { IsSameTally self.old self.new }
+    {
         let before = self.last.pc;
         if self.steps > 1 && pc != before.wrapping_add(4) {
             if let Some(count) = count_at(&mut self.counts, before) {
@@ -223,7 +260,9 @@ impl Watch {
     }
 
     /// Counts what a call took that returns.
-    fn took(&mut self, call: Active) {
+    fn took(&mut self, call: Active)
+        ensures same { IsSameTally self.old self.new }
+    {
         let steps = self.steps.saturating_sub(call.since);
         if let Some(count) = count_at(&mut self.counts, call.at) {
             count.within = count.within.saturating_add(steps);
@@ -231,11 +270,14 @@ impl Watch {
     }
 
     /// Enters a call.
-    fn enter(&mut self, at: u32, homes: [u32; HOMES]) {
+    fn enter(&mut self, at: u32, homes: [u32; HOMES])
+        ensures same { IsSameTally self.old self.new }
+    {
         self.calls = self.calls.saturating_add(1);
         self.stacks.enter(at);
         let call = Active {
             at,
+            stack: self.last.stack,
             since: self.steps,
             homes,
             passed: self.passed,
@@ -246,7 +288,9 @@ impl Watch {
     }
 
     /// Keeps a word that is stored in the frame, if it may be one that is passed: these stand behind the frame's first word.
-    fn save(&mut self, word: u32, value: u32) {
+    fn save(&mut self, word: u32, value: u32)
+        ensures same { IsSameTally self.old self.new }
+    {
         let offset = ((word >> 25) << 5) | ((word >> 7) & 31);
         let number = (offset / 4) as usize;
         if let Some(slot) = self.passed.get_mut(number.wrapping_sub(1)) {
@@ -255,7 +299,9 @@ impl Watch {
     }
 
     /// Leaves the innermost active call.
-    fn leave(&mut self) {
+    fn leave(&mut self)
+        ensures same { IsSameTally self.old self.new }
+    {
         self.stacks.leave();
         if self.unkept > 0 {
             self.unkept -= 1;
@@ -265,14 +311,20 @@ impl Watch {
     }
 
     /// Counts a request.
-    fn request(&mut self, number: u32) {
+    fn request(&mut self, number: u32)
+        ensures same { IsSameTally self.old self.new }
+    {
         if let Some(count) = self.requests.get_mut(number as usize) {
             *count = count.saturating_add(1);
         }
     }
 
     /// Takes in an instruction that is to be executed.
-    fn see(&mut self, seen: Seen) {
+    fn see(&mut self, seen: Seen)
+        ensures sees { self.new.sees ≡ self.old.sees }
+        ensures steps { self.new.steps ≡ one_more self.old.steps }
+        ensures last { self.new.last ≡ seen }
+    {
         self.steps = self.steps.saturating_add(1);
         if self.last.word == REQUEST {
             let (answer, _) = seen.arguments;
@@ -293,7 +345,9 @@ impl Watch {
 
     /// Takes in what the registers hold before an instruction: those that a branch on unsigned numbers compares, a word that is stored in the frame, and
     /// the locals of a caller.
-    fn look<S: BlockStore>(&mut self, machine: &Machine<S>) {
+    fn look<S: BlockStore>(&mut self, machine: &Machine<S>)
+        ensures same { IsSameTally self.old self.new }
+    {
         let Seen { pc, word, .. } = self.last;
         if word & COMPARISON_BITS == COMPARISON {
             self.compared = Comparison {
@@ -308,13 +362,22 @@ impl Watch {
         }
     }
 
-    /// Takes in what the locals hold in registers when the run has ended.
-    pub(crate) fn end<S: BlockStore>(&mut self, machine: &Machine<S>) {
+    /// Takes in what the locals hold when the run has ended: in registers, and in the frames of the functions that are active.
+    pub(crate) fn end<S: BlockStore>(&mut self, machine: &Machine<S>)
+        ensures same { IsSameTally self.old self.new }
+    {
         self.homes = homes_of(machine);
+        if self.sees {
+            self.frames.keep(machine);
+        }
     }
 }
 
 impl Pace for Watch {
+    ghost sees = { λ watch. watch.sees };
+
+    ghost tally = { tally_of };
+
     /// Takes in the next instruction, and goes no step ahead; or goes ahead as far as it can, and sees nothing.
     fn advance<S: BlockStore>(&mut self, machine: &mut Machine<S>, limit: u64) -> u64 {
         if !self.sees {

@@ -18,6 +18,7 @@ use Rattle.arena_laws.specs.Lawful.{Answer}
 use Rattle.cyc_host.specs.declared.ending.Ending.{Ending}
 use Rattle.cyc_host.specs.declared.ending.Ending.TheVariants as ending
 use Rattle.cyc_host.specs.Hosted.{Written, EndsAs, IsHosted}
+use Rattle.cyc_host.specs.Watched.{IsWatched, Tally}
 use Rattle.compile_proof.specs.Promise.{meaning_of, frame_bound_of, frame_size_of}
 use Rattle.stack_proof.specs.Laws.{FitsStack, HasPages}
 use Rattle.stack_proof.proofs.Suffices.{never_out_of_stack, room_is_pages}
@@ -231,3 +232,10 @@ text_run text bytes pages stack_pages steps why made arena start blank starts en
           (λ is_limit. ((at_limit is_limit).1, ap (λ (x : State). x.mode) same ∙ stays is_limit))
           (subst (λ (es : List Event). Written why writer_old writer_new (output es)) (sym (same_events n h.count s h.input h.answers more none)) h.written);
     }
+
+-- a watched run whose tally began alike
+pub begun_alike : {why : Ending} {n : Areas} {limit : ℕ} {old new : State} {reader_old reader_new writer_old writer_new : Option (List ℕ)} {one other after : Tally}
+    → one ≡ other → IsWatched why n limit old new reader_old reader_new writer_old writer_new one after
+    → IsWatched why n limit old new reader_old reader_new writer_old writer_new other after
+begun_alike {why} {n} {limit} {old} {new} {reader_old} {reader_new} {writer_old} {writer_new} {one} {other} {after} same w =
+    subst (λ (t : Tally). IsWatched why n limit old new reader_old reader_new writer_old writer_new t after) same w

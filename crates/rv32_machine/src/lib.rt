@@ -25,7 +25,7 @@ mod registers;
 mod requests;
 mod width;
 
-pub use areas::CODE_BASE;
+pub use areas::{CODE_BASE, STACK_BASE};
 pub use event::Event;
 pub use machine::Machine;
 pub use numbers::{

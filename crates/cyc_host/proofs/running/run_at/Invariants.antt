@@ -1,7 +1,8 @@
-use Rattle.std.proofs.Common.{◌≡◌, ℕ, ◌+◌, ◌⊎◌, false}
+use Rattle.std.proofs.Common.{◌≡◌, ℕ, ◌+◌, ◌⊎◌, false, true, List}
 use Rattle.rv32_machine.specs.Arrays.{areas_of, arrays, state_of}
-use Rattle.rv32_machine.specs.State.{Runs}
+use Rattle.rv32_machine.specs.State.{State, Runs}
 use Rattle.rv32_machine.specs.Served.{lacks}
+use Rattle.cyc_host.specs.Watched.{taken_in}
 use Rattle.cyc_host.proofs.Progress.{Progress}
 use Rattle.cyc_host.proofs.running.run_at.Given as goal
 
@@ -10,6 +11,7 @@ invariant-steps g l =
     let seen = arrays g.S.BlockStore.holdings g.S.BlockStore.byte_at in
     record {
       count : ℕ;
+      states : List State;
       counted : count + l.left ≡ l.steps;
       reads : g.R.Input.fault_count l.reader ≡ g.R.Input.fault_count l.fn.reader;
       writes : g.W.Output.fault_count l.writer ≡ g.W.Output.fault_count l.fn.writer;
@@ -17,7 +19,8 @@ invariant-steps g l =
       memory : g.S.BlockStore.may_lack ≡ false → lacks (seen l.fn.machine).mode ≡ false → lacks (seen l.machine).mode ≡ false;
       going : (count ≡ 0) ⊎ ((state_of (seen l.machine)).mode ≡ Runs);
       progress : Progress (areas_of (seen l.fn.machine)) (state_of (seen l.fn.machine)) count l.is_over (state_of (seen l.machine))
-          (g.R.Read.remaining l.fn.reader) (g.R.Read.remaining l.reader) (g.W.Write.contents l.fn.writer) (g.W.Write.contents l.writer) l.gathered;
+          (g.R.Read.remaining l.fn.reader) (g.R.Read.remaining l.reader) (g.W.Write.contents l.fn.writer) (g.W.Write.contents l.writer) l.gathered states;
+      saw : g.P.Pace.sees l.fn.pace ≡ true → (g.P.Pace.sees l.pace ≡ true) × (g.P.Pace.tally l.pace ≡ taken_in (g.P.Pace.tally l.fn.pace) states);
     }
 
 abbrev pub decreases-steps : goal.decreases-steps

@@ -1,0 +1,60 @@
+-- What a watch says of a run: how many instructions began, and at which address the last of them is.
+use Rattle.std.specs.Prelude.{◌≡◌, ℕ, zero, suc, ◌+◌, ◌⊎◌, List, [], ◌∷◌, Option}
+use Rattle.cyc_words.specs.Devices.{one_more}
+use Rattle.rv32_machine.specs.State.{State, Areas, code_base}
+use Rattle.rv32_machine.specs.Run.{Run, run_step, from}
+use Rattle.cyc_host.specs.Hosted.{IsHosted}
+use Rattle.cyc_host.specs.declared.ending.Ending.{Ending}
+use Rattle.cyc_host.specs.declared.ending.Ending.TheVariants as ending
+use Rattle.cyc_host.specs.declared.watch.Watch.{Watch}
+
+-- the states of the machine at which the first `count` instructions of a run begin, in their order
+abbrev pub visited : Areas → (count : ℕ) → Run → List State
+visited n zero r = []
+visited n (suc count) r = r.state ∷ visited n count (run_step n r)
+
+-- How many instructions began, a number that stays at the greatest u64, and the address of the last of them.
+pub record Tally : Type 0 where
+  pub steps : ℕ
+  pub at : ℕ
+
+-- that of a run which hasn't begun
+abbrev pub nothing : Tally
+nothing = record { steps = 0; at = code_base }
+
+-- the tally that a watch has
+abbrev pub tally_of : Watch → Tally
+tally_of watch = record { steps = watch.steps; at = watch.last.pc }
+
+-- a watch that takes in something else has the tally that it had
+abbrev pub IsSameTally : Watch → Watch → Type 0
+IsSameTally old new = (new.sees ≡ old.sees) × ((new.steps ≡ old.steps) × (new.last ≡ old.last))
+
+-- the tally when one more begins, at this state
+abbrev pub take_in : Tally → State → Tally
+take_in tally s = record { steps = one_more tally.steps; at = s.pc }
+
+-- and when instructions begin at these states, one after the other
+abbrev pub taken_in : Tally → List State → Tally
+taken_in tally [] = tally
+taken_in tally (s ∷ rest) = taken_in (take_in tally s) rest
+
+-- How many instructions began in a run of `count` steps. The instruction at which a read failed began and isn't counted as a step; so too the one that reads,
+-- where what was gathered before it couldn't be written.
+abbrev pub AreBegun : Ending → (count begun : ℕ) → Type 0
+AreBegun (ending.Ended status) count begun = begun ≡ count
+AreBegun (ending.Raised kind) count begun = begun ≡ count
+AreBegun ending.Exhausted count begun = begun ≡ count
+AreBegun ending.HostMemory count begun = begun ≡ count
+AreBegun ending.StepLimit count begun = begun ≡ count
+AreBegun (ending.Fault fault) count begun = begun ≡ count
+AreBegun ending.ReadFault count begun = begun ≡ count + 1
+AreBegun ending.WriteFault count begun = (begun ≡ count) ⊎ (begun ≡ count + 1)
+
+-- A run between a reader and a writer, of which the tally takes in each instruction that begins, and nothing else.
+pub record IsWatched (why : Ending) (n : Areas) (limit : ℕ) (old new : State) (reader_old reader_new writer_old writer_new : Option (List ℕ))
+    (before after : Tally) : Type 0 where
+  pub hosted : IsHosted why n limit old new reader_old reader_new writer_old writer_new
+  pub begun : ℕ
+  pub counted : AreBegun why hosted.count begun
+  pub tallied : after ≡ taken_in before (visited n begun (from old hosted.input hosted.answers))

@@ -78,7 +78,7 @@ class Profile:
             elif kind == "stack":
                 around, at, executed = numbers
                 self.stacks.append(Stack(int(around), int(at, 16), int(executed)))
-            else:
+            elif kind == "active":
                 self.unfinished[int(address, 16)] += int(numbers[0])
 
     def executed(self, at):

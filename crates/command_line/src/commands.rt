@@ -135,7 +135,7 @@ const STATS: Choice = Choice {
 /// Whether it is told what the active calls held.
 const VALUES: Choice = Choice {
     name: "values",
-    help: "Says with --where also what index was out of bounds, what each active call was passed, and what its locals in registers hold",
+    help: "Says with --where also which index was out of bounds or what was NULL, what each active call was passed, and what its locals hold",
     takes: Takes::Nothing,
 };
 

@@ -1,13 +1,14 @@
 // The lines that say where a run stopped.
 
+use crate::causes::cause_of;
+use crate::exhausted::{Arena, exhausted};
 use crate::points::Sight;
 use crate::program::{Called, Traced};
 use crate::text::name_of;
 use crate::told::{called_at, in_function, limited, push_count, raised_at, shown_of};
-use crate::values::{Frame, compared_of, values_of};
+use crate::values::{Frame, values_of};
 use cyc_host::{Active, Ending, Watch};
 use cyc_words::Kind;
-use rv32_machine::{KEY_NEW, REGION_ALLOC, REGION_NEW, STACK_REFUSED, UNIQUE_ALLOC};
 use std::alloc::{AllocError, Global};
 
 /// A text that was run, the names of its functions, and whether it is told what the active calls held.
@@ -26,12 +27,13 @@ impl<'a> Source<'a> {
     }
 }
 
-/// A run that was watched: the path of its file, what was seen of it, the address where it stopped, and its text; none of an image alone,
-/// of which addresses are told.
+/// A run that was watched: the path of its file, what was seen of it, its arena, the address where it stopped, and its text; none of an image
+/// alone, of which addresses are told.
 #[derive(Clone, Copy)]
 struct Run<'a> {
     input: &'a str,
     watch: &'a Watch,
+    arena: Arena,
     pc: u32,
     source: Option<Source<'a>>,
 }
@@ -45,13 +47,14 @@ impl<'a> Run<'a> {
         source.traced.called(self.watch.active().last()?.at)
     }
 
-    /// The line of what the function that this call made active held, where it had come to this address of the code.
+    /// The line of what the function that this call made active held, where it had come to this address of the code, with its frame at the stack pointer.
     fn values(
         self,
         alloc: Global,
         call: &Active,
         homes: &[u32],
         address: u32,
+        stack: u32,
     ) -> Result<String, AllocError> {
         let none = Ok(String::new(alloc));
         let Some(source) = self.source else {
@@ -60,13 +63,13 @@ impl<'a> Run<'a> {
         let Some(called) = source.traced.called(call.at) else {
             return none;
         };
-        // no name is in scope in code that the text doesn't have, which refuses a frame
-        let at = source.traced.offset_at(address).unwrap_or(0);
         let frame = Frame {
             function: called.function,
             passed: &call.passed,
             homes,
-            at,
+            watch: self.watch,
+            stack,
+            at: source.traced.offset_at(called.function, address),
         };
         values_of(alloc, source.traced, source.text, source.names, frame)
     }
@@ -75,7 +78,8 @@ impl<'a> Run<'a> {
     fn innermost_values(self, alloc: Global) -> Result<String, AllocError> {
         match self.watch.active().last() {
             Some(call) if self.shows_values() && self.watch.unkept() == 0 => {
-                self.values(alloc, call, self.watch.homes(), self.pc)
+                let stack = self.watch.last().stack;
+                self.values(alloc, call, self.watch.homes(), self.pc, stack)
             }
             _ => Ok(String::new(alloc)),
         }
@@ -112,20 +116,6 @@ fn inside_of(alloc: Global, run: Run<'_>) -> Result<String, AllocError> {
     in_function(alloc, source.name(active.function))
 }
 
-/// The request that had no space.
-fn exhausted(alloc: Global, watch: &Watch, inside: &str) -> Result<String, AllocError> {
-    let last = watch.last();
-    let (first, second) = last.arguments;
-    match last.number {
-        STACK_REFUSED => format!(in alloc; "stack: frame of {first} bytes{inside}\n"),
-        REGION_NEW => format!(in alloc; "arena: region_new{inside}\n"),
-        REGION_ALLOC => format!(in alloc; "arena: region_alloc of {second} bytes{inside}\n"),
-        UNIQUE_ALLOC => format!(in alloc; "arena: unique_alloc of {first} bytes{inside}\n"),
-        KEY_NEW => format!(in alloc; "arena: key_new{inside}\n"),
-        _ => Ok(String::new(alloc)),
-    }
-}
-
 /// The line of a raise, with its position or its address.
 fn raised(alloc: Global, run: Run<'_>, kind: Kind) -> Result<String, AllocError> {
     let input = run.input;
@@ -137,7 +127,7 @@ fn raised(alloc: Global, run: Run<'_>, kind: Kind) -> Result<String, AllocError>
         return Ok(String::new(alloc));
     };
     let values = if source.shows_values {
-        compared_of(alloc, run.watch, kind)?
+        cause_of(alloc, source.traced, source.text, run.watch, kind)?
     } else {
         String::new(alloc)
     };
@@ -152,7 +142,7 @@ fn stop_of(alloc: Global, run: Run<'_>, ending: Ending) -> Result<String, AllocE
     let inside = inside_of(alloc, run)?;
     let inside = inside.as_str();
     match ending {
-        Ending::Exhausted => exhausted(alloc, run.watch, inside),
+        Ending::Exhausted => exhausted(alloc, run.watch, run.arena, inside),
         Ending::StepLimit => limited(alloc, inside),
         _ => Ok(String::new(alloc)),
     }
@@ -196,7 +186,13 @@ fn caller_of(
     call: &Active,
 ) -> Result<String, AllocError> {
     match run.watch.active().get(number) {
-        Some(outer) if run.shows_values() => run.values(alloc, outer, &call.homes, call.at),
+        Some(outer) if run.shows_values() => run.values(
+            alloc,
+            outer,
+            &call.homes,
+            call.at,
+            call.stack,
+        ),
         _ => Ok(String::new(alloc)),
     }
 }
@@ -239,22 +235,30 @@ fn is_told(ending: Ending) -> bool {
     )
 }
 
-/// The lines of a run whose ending is told.
+/// A run that was watched and has ended: the path of its file, what was seen of it, its arena, and its ending.
+#[derive(Clone, Copy)]
+pub struct Stopped<'a> {
+    pub input: &'a str,
+    pub watch: &'a Watch,
+    pub arena: Arena,
+    pub ending: Ending,
+}
+
+/// The lines of a run whose ending is told, which stopped at an address of the code of a text, or of an image alone.
 fn lines_of<'a>(
     alloc: Global,
-    input: &'a str,
-    watch: &'a Watch,
+    stopped: Stopped<'a>,
     pc: u32,
     source: Option<Source<'a>>,
-    ending: Ending,
 ) -> Result<String, AllocError> {
     let run = Run {
-        input,
-        watch,
+        input: stopped.input,
+        watch: stopped.watch,
+        arena: stopped.arena,
         pc,
         source,
     };
-    let mut lines = stop_of(alloc, run, ending)?;
+    let mut lines = stop_of(alloc, run, stopped.ending)?;
     let values = run.innermost_values(alloc)?;
     lines.push_str(values.as_str())?;
     push_calls(alloc, run, &mut lines)?;
@@ -263,18 +267,18 @@ fn lines_of<'a>(
 
 /// The lines that say where the run of an accepted text stopped: the position of what raised, what had no space, or in which function the
 /// steps ended; and behind it the active functions, the innermost first, each with the position of its call. Of another ending nothing. If values
-/// are asked for: also the index that was out of bounds, and behind each function's line what it was passed and what its locals in registers held.
+/// are asked for: also the index that was out of bounds or the expression that was NULL, and behind each function's line what it was passed and what
+/// its names held.
 pub fn trace(
     alloc: Global,
-    input: &str,
+    stopped: Stopped<'_>,
     text: &[u8],
-    watch: &Watch,
-    ending: Ending,
     shows_values: bool,
 ) -> Result<String, AllocError> {
-    if !is_told(ending) {
+    if !is_told(stopped.ending) {
         return Ok(String::new(alloc));
     }
+    let watch = stopped.watch;
     let Some(traced) = Traced::of(alloc, text, watch.code())? else {
         return Ok(String::new(alloc));
     };
@@ -285,20 +289,14 @@ pub fn trace(
         names: &names,
         shows_values,
     };
-    lines_of(alloc, input, watch, watch.last().pc, Some(source), ending)
+    lines_of(alloc, stopped, watch.last().pc, Some(source))
 }
 
 /// The lines that say where the run of an image stopped, whose source isn't at hand: the same by addresses of the code, with the address where
 /// the machine stands. Of a machine fault they are the active calls alone.
-pub fn image_trace(
-    alloc: Global,
-    input: &str,
-    watch: &Watch,
-    pc: u32,
-    ending: Ending,
-) -> Result<String, AllocError> {
-    if !is_told(ending) {
+pub fn image_trace(alloc: Global, stopped: Stopped<'_>, pc: u32) -> Result<String, AllocError> {
+    if !is_told(stopped.ending) {
         return Ok(String::new(alloc));
     }
-    lines_of(alloc, input, watch, pc, None, ending)
+    lines_of(alloc, stopped, pc, None)
 }

@@ -1,13 +1,11 @@
 // The names that a function declares, in the order in which Core has its locals: the parameters, and then each name where the text declares it.
 
+use cyc_core::Cell;
 use cyc_tree::{
     Base, BlockItem, Clause, Declaration, Expression, Function, Initializer, Link, Made, Name,
     Pattern, Sign, Statement, Suffix, TypeName,
 };
 use std::alloc::{AllocError, Global};
-
-/// From where on parameters are in scope: no body begins at a text's first byte.
-const BODY: u32 = 1;
 
 /// How a value of a name is written.
 #[derive(Clone, Copy)]
@@ -20,7 +18,7 @@ pub enum Sort {
     Address,
     /// A fat pointer, which has three words.
     Fat,
-    /// A struct, a union, an array, or what a clause takes out of a union.
+    /// A struct, a union or an array; or what a clause takes out of a union, which is written by what it is made for.
     Other,
 }
 
@@ -55,7 +53,22 @@ pub struct Local<'p> {
     until: u32,
 }
 
-impl Local<'_> {
+impl<'p> Local<'p> {
+    /// The same, where what the text doesn't say is known by what it is made for.
+    pub fn made_for(self, cell: Option<Cell>) -> Local<'p> {
+        let sort = match (self.sort, cell) {
+            (Sort::Other, Some(Cell::Pointer | Cell::Handle)) => Sort::Address,
+            (Sort::Other, Some(Cell::Fat)) => Sort::Fat,
+            (sort, _) => sort,
+        };
+        Local { sort, ..self }
+    }
+
+    /// Where in the text its scope begins and ends.
+    pub fn scope(&self) -> (u32, u32) {
+        (self.from, self.until)
+    }
+
     /// Whether it is in scope at an offset of the text.
     pub fn is_in_scope(&self, at: u32) -> bool {
         self.from <= at && at < self.until
@@ -363,10 +376,12 @@ pub fn locals_of<'p>(alloc: Global, function: &'p Function) -> Result<Vec<Local<
         left: Vec::new(alloc),
         failed: false,
     };
+    // they are taken where the function's name stands
+    let body = function.name.at.wrapping_add(1);
     for parameter in &function.parameters {
         let of = &parameter.of;
         let name = &parameter.name;
-        walk.declare_from(BODY, name, sort_of(of), (of.at, name.at));
+        walk.declare_from(body, name, sort_of(of), (of.at, name.at));
     }
     pass_items(&mut walk, &function.body);
     walk.into_locals()

@@ -1,6 +1,7 @@
 // The map of a program: the addresses of its functions, statements, checks and calls, and of its words that are addresses of the data or of the stack.
 
 use crate::moved::Moved;
+use crate::naming::push_names;
 use crate::points::{Point, Sight};
 use crate::program::Traced;
 use crate::text::name_of;
@@ -132,10 +133,25 @@ fn push_moved(alloc: Global, map: &mut String, moved: &Moved) -> Result<(), Allo
     push_addresses(alloc, map, "pointer", &moved.pointers)
 }
 
-/// The map of an accepted text with this image, a line each in the order of the code: of a function its first and its last address, its
-/// frame's bytes and its name; and in it where the code of each statement, raise and call begins, with its position, and of each raise and call the address
-/// at which it is made, its position, and its exception or the called function. Behind them come the addresses of the words that `Moved` has, where they can
-/// be told.
+/// Appends the lines of the names of the function that begins at a point, if one does.
+fn push_names_at(
+    alloc: Global,
+    traced: &Traced,
+    text: &[u8],
+    point: Point,
+    map: &mut String,
+) -> Result<(), AllocError> {
+    let first = point.start();
+    match traced.function_at(first) {
+        Some(number) if point.is_test() => push_names(alloc, traced, text, number, first, map),
+        _ => Ok(()),
+    }
+}
+
+/// The map of an accepted text with this image, a line each in the order of the code: of a function its first and its last address, its frame's bytes and
+/// its name, and where its names live; and in it where the code of each statement, raise and call begins, with its position, and of each raise and call the
+/// address at which it is made, its position, and its exception or the called function. Behind them come the addresses of the words that `Moved` has, where
+/// they can be told.
 pub fn map(alloc: Global, text: &[u8], image: &Image) -> Result<String, AllocError> {
     let mut map = String::new(alloc);
     let Some(traced) = Traced::of(alloc, text, image.code())? else {
@@ -147,6 +163,7 @@ pub fn map(alloc: Global, text: &[u8], image: &Image) -> Result<String, AllocErr
         shown = push_positions(alloc, &traced, shown, behind(*point), &mut map)?;
         let line = line_of(alloc, &traced, &names, number, *point)?;
         map.push_str(line.as_str())?;
+        push_names_at(alloc, &traced, text, *point, &mut map)?;
     }
     push_positions(alloc, &traced, shown, u32::MAX, &mut map)?;
     if let Some(moved) = Moved::of(alloc, text, image, traced.points())? {

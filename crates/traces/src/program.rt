@@ -1,8 +1,11 @@
 // A text with its code: where in the text each instruction stands.
 
 use crate::points::{Point, Points, Sight};
+use crate::spots::{Spot, Spots, spots_of};
 use crate::text::Text;
-use cyc_tree::Function;
+use cyc_core::Origin;
+use cyc_tree::{Function, Item};
+use cyc_words::Kind;
 use cycc_driver::Place;
 use lower_checks::lower;
 use rv32_layout::{LayoutFault, Position, positions};
@@ -21,7 +24,8 @@ pub struct Called {
 #[derive(Drop)]
 pub struct Traced {
     text: Text,
-    labelled: Labelled,
+    /// Where the locals of each function live.
+    spots: Vec<Spots>,
     positions: Vec<Position>,
     points: Points,
     /// Where the functions begin, by their numbers.
@@ -59,11 +63,12 @@ impl Traced {
         let Some(positions) = positions_of(alloc, &labelled)? else {
             return Ok(None);
         };
+        let spots = spots_of(alloc, &core.functions, &labelled)?;
         let points = Points::of(alloc, code)?;
         let functions = starts_of(alloc, &points.all)?;
         Ok(Some(Traced {
             text,
-            labelled,
+            spots,
             positions,
             points,
             functions,
@@ -85,6 +90,11 @@ impl Traced {
         self.text.place(position.origin)
     }
 
+    /// Where in the text an offset is.
+    pub fn place_of(&self, origin: Origin) -> Place {
+        self.text.place(origin)
+    }
+
     /// The address behind the code.
     pub fn end(&self) -> u32 {
         self.points.end
@@ -104,9 +114,74 @@ impl Traced {
         self.positions.get(behind.checked_sub(1)?).copied()
     }
 
-    /// The offset in the text of the instruction at an address of the code; none of what is before the first function.
-    pub fn offset_at(&self, address: u32) -> Option<u32> {
-        Some(self.position_at(address)?.origin.0)
+    /// The offset in the text of the instruction at an address of the code, by which names are in scope: 0 of what is before the first function, and where a
+    /// function gives back its frame and the registers that it saved.
+    pub fn offset_at(&self, function: usize, address: u32) -> u32 {
+        if address >= self.epilogue(function) {
+            return 0;
+        }
+        match self.position_at(address) {
+            Some(position) => position.origin.0,
+            None => 0,
+        }
+    }
+
+    /// Whether a function's frame is large.
+    fn has_large_frame(&self, start: u32) -> bool {
+        self.points
+            .all
+            .iter()
+            .any(|point| point.is_large_test() && point.start() == start)
+    }
+
+    /// Where in the code a function begins to give back its frame: it loads the registers that it saved and the return address, moves the stack pointer, by
+    /// three instructions if the frame is large, and returns.
+    fn epilogue(&self, function: usize) -> u32 {
+        let start = self.functions.get(function).copied().unwrap_or(0);
+        let next = function.wrapping_add(1);
+        let end = self.functions.get(next).copied().unwrap_or(self.points.end);
+        let mut words: u32 = if self.has_large_frame(start) { 5 } else { 3 };
+        for spot in self.spots(function) {
+            if spot.register != 0 {
+                words = words.saturating_add(1);
+            }
+        }
+        end.saturating_sub(words.saturating_mul(4))
+    }
+
+    /// The number of the function that an address of the code is in, and the offset in the text of the instruction there.
+    pub fn within(&self, address: u32) -> Option<(usize, u32)> {
+        let behind = self.functions.partition_point(|start| *start <= address);
+        let position = self.position_at(address)?;
+        Some((behind.checked_sub(1)?, position.origin.0))
+    }
+
+    /// Whether a point is the raise of a check against NULL at an offset of the text.
+    fn is_null_check(&self, point: &Point, at: u32) -> bool {
+        match (point.sight, self.position_at(point.address)) {
+            (Sight::Raise(Kind::NullException), Some(position)) => position.origin.0 == at,
+            _ => false,
+        }
+    }
+
+    /// How many checks against NULL at an offset of the text raise before an address of the code, and how many there are.
+    pub fn null_checks(&self, at: u32, address: u32) -> (usize, usize) {
+        let mut before = 0usize;
+        let mut all = 0usize;
+        for point in &self.points.all {
+            if self.is_null_check(point, at) {
+                all = all.saturating_add(1);
+                if point.address < address {
+                    before = before.saturating_add(1);
+                }
+            }
+        }
+        (before, all)
+    }
+
+    /// The items of the text.
+    pub fn items(&self) -> &[Item] {
+        self.text.checked().program().items()
     }
 
     /// The function with a number.
@@ -114,9 +189,12 @@ impl Traced {
         self.text.function(number)
     }
 
-    /// The registers of a function's names, in the order of the text; 0 of one that has none.
-    pub fn homes(&self, function: usize) -> &[u8] {
-        self.labelled.homes(function)
+    /// Where a function's names live, in the order of the text.
+    pub fn spots(&self, function: usize) -> &[Spot] {
+        match self.spots.get(function) {
+            Some(spots) => &spots.all,
+            None => &[],
+        }
     }
 
     /// The number of the function that begins at an address.

@@ -1,22 +1,23 @@
 // What the names of an active function held.
 
 use crate::locals::{Local, Sort, locals_of};
-use crate::points::instruction_at;
 use crate::program::Traced;
+use crate::spots::Spot;
 use crate::text::name_of;
+use cyc_core::Cell;
 use cyc_host::Watch;
 use cyc_tree::Member;
-use cyc_words::Kind;
-use rv32_isa::Instr;
 use std::alloc::{AllocError, Global};
 
-/// A function that is active: its number, the first words that were passed to it, what the registers hold in which its locals live, and where in the
-/// text it has come to.
+/// A function that is active: its number, the first words that were passed to it, what the registers hold in which its locals live, where its frame begins,
+/// and where in the text it has come to.
 #[derive(Clone, Copy)]
 pub struct Frame<'a> {
     pub function: usize,
     pub passed: &'a [u32],
     pub homes: &'a [u32],
+    pub watch: &'a Watch,
+    pub stack: u32,
     pub at: u32,
 }
 
@@ -28,6 +29,30 @@ impl Frame<'_> {
             _ => number.checked_sub(16)?,
         };
         self.homes.get(place as usize).copied()
+    }
+
+    /// The word at an offset of the frame.
+    fn word(self, offset: u32) -> Option<u32> {
+        self.watch.frame_word(self.stack.wrapping_add(offset))
+    }
+
+    /// The words that a local holds: three of a fat pointer, and else the first one; none of what isn't one value.
+    fn held(self, spot: Spot) -> Option<[u32; 3]> {
+        let cell = spot.cell?;
+        let first = match self.register(spot.register) {
+            Some(word) => word,
+            None => self.word(spot.offset)?,
+        };
+        match cell {
+            Cell::Byte => Some([first & 255, 0, 0]),
+            Cell::Word | Cell::Pointer | Cell::Handle => Some([first, 0, 0]),
+            Cell::Fat => {
+                let count = self.word(spot.offset.wrapping_add(4))?;
+                let index = self.word(spot.offset.wrapping_add(8))?;
+                Some([first, count, index])
+            }
+            Cell::Tagged | Cell::TaggedFat => None,
+        }
     }
 }
 
@@ -55,6 +80,7 @@ fn fat_of(
     if first == 0 {
         return format!(in alloc; "NULL");
     }
+    let of = if of.is_empty() { "?" } else { of };
     let plural = if count == 1 { "" } else { "s" };
     if index == 0 {
         format!(in alloc; "{of}({count} element{plural})")
@@ -63,15 +89,16 @@ fn fat_of(
     }
 }
 
-/// How a type is written in the text.
-fn type_in<'t>(text: &'t [u8], typed: (u32, u32)) -> &'t str {
+/// How a type is written in the text, in its first line.
+pub fn type_in<'t>(text: &'t [u8], typed: (u32, u32)) -> &'t str {
     let (from, until) = typed;
     let bytes = text.get(from as usize..until as usize).unwrap_or(b"");
-    std::str::from_utf8(bytes).unwrap_or("").trim_ascii_end()
+    let line = bytes.split(|byte| *byte == b'\n').next().unwrap_or(b"");
+    std::str::from_utf8(line).unwrap_or("").trim_ascii_end()
 }
 
-/// A value that is passed as these words.
-fn passed_of(
+/// A value that consists of these words.
+fn value_of(
     alloc: Global,
     text: &[u8],
     local: &Local<'_>,
@@ -118,7 +145,7 @@ fn push_passed(
     let mut words = frame.passed;
     let mut before = "";
     for parameter in parameters {
-        let value = passed_of(alloc, text, parameter, words)?;
+        let value = value_of(alloc, text, parameter, words)?;
         push_value(alloc, line, before, parameter.name, value.as_str())?;
         words = words.get(width_of(parameter.sort)..).unwrap_or(&[]);
         before = ", ";
@@ -133,41 +160,48 @@ fn is_hidden(later: &[Local<'_>], name: &[u8], at: u32) -> bool {
         .any(|local| local.is_in_scope(at) && local.name == name)
 }
 
-/// Whether a name is shown as what is in its register: it is in scope, and no parameter that still holds what it was passed.
+/// Whether a name is shown with what it holds: it is in scope, and no parameter that still holds what it was passed.
 fn is_shown(
     local: &Local<'_>,
     later: &[Local<'_>],
     at: u32,
-    passed: Option<u32>,
-    word: u32,
+    passed: Option<&[u32]>,
+    held: &[u32],
 ) -> bool {
-    local.is_in_scope(at) && !is_hidden(later, local.name, at) && passed != Some(word)
+    let is_as_passed = match passed {
+        Some(words) => held.starts_with(words),
+        None => false,
+    };
+    local.is_in_scope(at) && !is_hidden(later, local.name, at) && !is_as_passed
 }
 
-/// Appends the names in scope that live in registers, with what these hold, but for parameters that hold what they were passed.
+/// Appends the names in scope, with what they hold, but for parameters that hold what they were passed.
 fn push_held(
     alloc: Global,
+    text: &[u8],
     line: &mut String,
     locals: &[Local<'_>],
     parameters: usize,
-    registers: &[u8],
+    spots: &[Spot],
     frame: Frame<'_>,
 ) -> Result<(), AllocError> {
     let mut is_first = true;
     let mut words = frame.passed;
-    for (number, (local, register)) in locals.iter().zip(registers).enumerate() {
+    for (number, (local, spot)) in locals.iter().zip(spots).enumerate() {
+        let width = width_of(local.sort);
         let passed = if number < parameters {
-            words.first().copied()
+            words.get(..width)
         } else {
             None
         };
-        words = words.get(width_of(local.sort)..).unwrap_or(&[]);
+        words = words.get(width..).unwrap_or(&[]);
         let later = locals.get(number.saturating_add(1)..).unwrap_or(&[]);
-        let Some(word) = frame.register(*register) else {
+        let Some(held) = frame.held(*spot) else {
             continue;
         };
-        if is_shown(local, later, frame.at, passed, word) {
-            let value = word_of(alloc, local.sort, word)?;
+        if is_shown(local, later, frame.at, passed, &held) {
+            let local = local.made_for(spot.cell);
+            let value = value_of(alloc, text, &local, &held)?;
             let before = if is_first { ": " } else { ", " };
             push_value(alloc, line, before, local.name, value.as_str())?;
             is_first = false;
@@ -176,7 +210,7 @@ fn push_held(
     Ok(())
 }
 
-/// The line of what an active function was passed, and what its names in scope hold that live in registers.
+/// The line of what an active function was passed, and what its names in scope hold.
 pub fn values_of(
     alloc: Global,
     traced: &Traced,
@@ -196,38 +230,16 @@ pub fn values_of(
     let mut line = format!(in alloc; "  in {name}(")?;
     push_passed(alloc, text, &mut line, passed, frame)?;
     line.push_str(")")?;
-    let registers = traced.homes(frame.function);
+    let spots = traced.spots(frame.function);
     push_held(
         alloc,
+        text,
         &mut line,
         &locals,
         parameters.len(),
-        registers,
+        spots,
         frame,
     )?;
     line.push_str("\n")?;
     Ok(line)
-}
-
-/// From the comparison of a check to the ECALL that raises its exception: where the check raises one, and where it raises one of two.
-const TO_RAISE: [u32; 2] = [12, 16];
-
-/// What a failed check of bounds compared: the index and the count, or how many elements are left and how many are wanted. Nothing where the check compares
-/// numbers that are known when the code is made.
-pub fn compared_of(alloc: Global, watch: &Watch, kind: Kind) -> Result<String, AllocError> {
-    let compared = watch.compared();
-    let between = watch.last().pc.wrapping_sub(compared.pc);
-    let Kind::ArrayBounds = kind else {
-        return Ok(String::new(alloc));
-    };
-    if !TO_RAISE.contains(&between) {
-        return Ok(String::new(alloc));
-    }
-    let index = compared.left.cast_signed();
-    let count = compared.right;
-    match instruction_at(watch.code(), compared.pc) {
-        Some(Instr::Bltu(_, _, _)) => format!(in alloc; ": index {index} of {count}"),
-        Some(Instr::Bgeu(_, _, _)) => format!(in alloc; ": {index} left, {count} wanted"),
-        _ => Ok(String::new(alloc)),
-    }
 }

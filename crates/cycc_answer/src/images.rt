@@ -17,6 +17,7 @@ use rv32_isa::decode;
 use rv32_machine::{CODE_BASE, Machine};
 use std::alloc::{AllocError, Global};
 use std::io::Write;
+use traces::Arena;
 
 /// The image that the bytes are.
 fn loaded(alloc: Global, file: &[u8]) -> Result<Image, ImageFault>
@@ -58,7 +59,11 @@ pub fn exec<R: Input, W: Output, E: Write>(
         return Err(AllocError);
     };
     let ending = run_watched(&mut machine, &mut watch, reader, writer, steps);
-    let ran = Ran::Image(machine.pc());
+    let arena = Arena {
+        pages: image.pages(),
+        longest: image.block_limit(),
+    };
+    let ran = Ran::Image(machine.pc(), arena);
     told_of(alloc, told, ran, ending, &watch, faults)
 }
 

@@ -7,8 +7,9 @@ ghost use Rattle.cycc_answer.specs.Statuses.{evaluated_status, status_of};
 
 use crate::lines::{Told, ended, evaluated, say};
 use crate::why::refused_in;
+use arena_laws::LIMIT;
 use core_eval::{EvalEnding, Stop};
-use cyc_host::{Count, Ending, Stack, Watch};
+use cyc_host::{Comparison, Count, Ending, Stack, Watch};
 use cyc_words::{Input, Output};
 use cycc_driver::{Limits, execute_watched, stack};
 use rv32_machine::{
@@ -17,7 +18,7 @@ use rv32_machine::{
 };
 use std::alloc::{AllocError, Global};
 use std::io::Write;
-use traces::{eval_trace, image_trace, trace};
+use traces::{Arena, Stopped, eval_trace, held_lines, image_trace, trace};
 
 /// The requests that are counted, by their numbers and names.
 const REQUESTS: [(u32, &str); 11] = [
@@ -36,7 +37,7 @@ const REQUESTS: [(u32, &str); 11] = [
 
 /// The line of `--stats` on the bytes of stack that the calls of what was run need: none of an image, whose source isn't known.
 fn need_of(alloc: Global, ran: Ran<'_>) -> Result<String, AllocError> {
-    let Ran::Text(text) = ran else {
+    let Ran::Text(text, _) = ran else {
         return Ok(String::new(alloc));
     };
     // a text that was run is no refused one, so only memory can be what isn't there
@@ -105,8 +106,20 @@ fn push_stacks(alloc: Global, watch: &Watch, lines: &mut String) -> Result<(), A
     Ok(())
 }
 
-/// The lines of `--counts`: those of the instructions, for each active call its address, and how many instructions were executed since, and those of the
-/// stacks of calls.
+/// Appends a line of `--counts` for each active function: what it held, as words; and one of what was compared last, where and which two words.
+fn push_held(alloc: Global, watch: &Watch, lines: &mut String) -> Result<(), AllocError> {
+    let shown = held_lines(alloc, watch)?;
+    lines.push_str(shown.as_str())?;
+    if !watch.active().is_empty() {
+        let Comparison { pc, left, right } = watch.compared();
+        let line = format!(in alloc; "compared {pc:08x} {left:08x} {right:08x}\n")?;
+        lines.push_str(line.as_str())?;
+    }
+    Ok(())
+}
+
+/// The lines of `--counts`: those of the instructions, for each active call its address, and how many instructions were executed since, what the active
+/// functions held, and those of the stacks of calls.
 fn counts_of(alloc: Global, watch: &Watch) -> Result<String, AllocError> {
     let mut lines = String::new(alloc);
     push_counts(alloc, watch, &mut lines)?;
@@ -116,23 +129,33 @@ fn counts_of(alloc: Global, watch: &Watch) -> Result<String, AllocError> {
         let line = format!(in alloc; "active {at:08x} {steps}\n")?;
         lines.push_str(line.as_str())?;
     }
+    push_held(alloc, watch, &mut lines)?;
     push_stacks(alloc, watch, &mut lines)?;
     Ok(lines)
 }
 
-/// What was run: a text, or an image whose machine then stands at this address.
+/// What was run: a text, or an image whose machine then stands at this address; and its arena.
 #[derive(Clone, Copy)]
 pub enum Ran<'a> {
-    Text(&'a [u8]),
-    Image(u32),
+    Text(&'a [u8], Arena),
+    Image(u32, Arena),
 }
 
 impl Ran<'_> {
     /// The address at which a machine fault is told.
     fn address(self) -> Option<u32> {
         match self {
-            Ran::Text(_) => None,
-            Ran::Image(pc) => Some(pc),
+            Ran::Text(_, _) => None,
+            Ran::Image(pc, _) => Some(pc),
+        }
+    }
+}
+
+impl Ran<'_> {
+    /// Its arena.
+    fn arena(self) -> Arena {
+        match self {
+            Ran::Text(_, arena) | Ran::Image(_, arena) => arena,
         }
     }
 }
@@ -145,9 +168,16 @@ fn where_of(
     ending: Ending,
     watch: &Watch,
 ) -> Result<String, AllocError> {
+    let arena = ran.arena();
+    let stopped = Stopped {
+        input: told.input,
+        watch,
+        arena,
+        ending,
+    };
     match ran {
-        Ran::Text(text) => trace(alloc, told.input, text, watch, ending, told.shows_values),
-        Ran::Image(pc) => image_trace(alloc, told.input, watch, pc, ending),
+        Ran::Text(text, _) => trace(alloc, stopped, text, told.shows_values),
+        Ran::Image(pc, _) => image_trace(alloc, stopped, pc),
     }
 }
 
@@ -252,7 +282,11 @@ pub fn ran_watched<R: Input, W: Output, E: Write>(
 {
     match execute_watched(alloc, file, reader, writer, limits) {
         Ok(watched) => {
-            let ran = Ran::Text(file);
+            let arena = Arena {
+                pages: limits.pages,
+                longest: LIMIT,
+            };
+            let ran = Ran::Text(file, arena);
             told_of(alloc, told, ran, watched.ending, &watched.watch, faults)
         }
         Err(fault) => refused_in(alloc, told, file, fault, faults),

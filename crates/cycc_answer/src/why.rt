@@ -5,7 +5,7 @@ ghost use Rattle.cycc_answer.specs.Statuses.{refused_status};
 
 use crate::lines::{Told, refused};
 use cycc_driver::CompileFault;
-use reasons::{further_faults, shown_fault};
+use reasons::{further_faults, push_shown, reasons_of, shown_fault};
 use std::alloc::{AllocError, Global};
 use std::io::Write;
 
@@ -28,20 +28,43 @@ fn refused_alone<E: Write>(
     Ok(status)
 }
 
-/// Appends a fault behind the first one, with more than its line where that is asked for.
-fn push_further(
+/// Appends the line of a fault behind the first one.
+fn push_line(
     shown: &mut Vec<u8>,
     alloc: Global,
     told: Told<'_>,
-    text: &[u8],
     fault: CompileFault,
 ) -> Result<(), AllocError> {
     let input = told.input;
     let line = format!(in alloc; "{input}:{fault}\n")?;
-    shown.extend_from_slice(line.as_bytes())?;
-    if told.shows_why {
-        let more = shown_fault(alloc, text, fault)?;
-        shown.extend_from_slice(&more)?;
+    shown.extend_from_slice(line.as_bytes())
+}
+
+/// Appends the lines of faults behind the first one.
+fn push_lines(
+    shown: &mut Vec<u8>,
+    alloc: Global,
+    told: Told<'_>,
+    faults: &[CompileFault],
+) -> Result<(), AllocError> {
+    for fault in faults {
+        push_line(shown, alloc, told, *fault)?;
+    }
+    Ok(())
+}
+
+/// Appends faults behind the first one, each with more than its line.
+fn push_whys(
+    shown: &mut Vec<u8>,
+    alloc: Global,
+    told: Told<'_>,
+    text: &[u8],
+    faults: &[CompileFault],
+) -> Result<(), AllocError> {
+    let reasons = reasons_of(alloc, text, faults)?;
+    for (fault, reason) in faults.iter().zip(reasons.iter()) {
+        push_line(shown, alloc, told, *fault)?;
+        push_shown(shown, text, *fault, reason)?;
     }
     Ok(())
 }
@@ -56,8 +79,10 @@ fn further_of(
     let mut shown = Vec::new(alloc);
     if told.shows_all {
         let further = further_faults(alloc, text, first)?;
-        for fault in further.iter() {
-            push_further(&mut shown, alloc, told, text, *fault)?;
+        if told.shows_why {
+            push_whys(&mut shown, alloc, told, text, &further)?;
+        } else {
+            push_lines(&mut shown, alloc, told, &further)?;
         }
     }
     Ok(shown)

@@ -6,7 +6,7 @@ use crate::pages::{Page, Span, push_range};
 use crate::sources::Source;
 use cycc_driver::CompileFault;
 use editor_protocol::{JsonText, offset_at};
-use reasons::{Cure, Edit, cure};
+use reasons::{Cure, Edit, Reason, reasons_of};
 use serde_json::Value;
 use std::alloc::AllocError;
 
@@ -80,32 +80,47 @@ fn push_action(
     page: &Page<'_>,
     fault: CompileFault,
     span: Span,
+    reason: &Reason,
 ) -> Result<(), AllocError> {
-    let cure = cure(page.alloc, page.source.text.as_slice(), fault)?;
-    if cure.edits.is_empty() {
+    if reason.cure.edits.is_empty() {
         return Ok(());
     }
     json.item()?;
     json.raw("{")?;
-    push_title(json, &cure)?;
+    push_title(json, &reason.cure)?;
     json.raw(",\"kind\":\"quickfix\",\"diagnostics\":[")?;
-    push_diagnostic(json, page.alloc, page.source, span, fault)?;
+    push_diagnostic(json, page.source, page.tokens, span, fault, reason)?;
     json.raw("],")?;
-    push_edits(json, page, &cure, span.begin)?;
+    push_edits(json, page, &reason.cure, span.begin)?;
     json.raw("}")
 }
 
-/// The actions that mend the faults in a range. Fails only where no host memory is left.
-fn actions_in(page: &Page<'_>, asked: Span) -> Result<Vec<u8>, AllocError> {
+/// The faults in a range. Fails only where no host memory is left, as all of these.
+fn faults_in(page: &Page<'_>, asked: Span) -> Result<Vec<CompileFault>, AllocError> {
     let text = page.source.text.as_slice();
-    let mut json = JsonText::new(page.alloc);
-    json.begin()?;
+    let mut faults = Vec::new(page.alloc);
     for fault in page.document.faults.iter() {
         if let Some(place) = fault.place() {
             let span = span_at(text, page.tokens, place);
             if span.begin <= asked.end && asked.begin <= span.end {
-                push_action(&mut json, page, *fault, span)?;
+                faults.push(*fault)?;
             }
+        }
+    }
+    Ok(faults)
+}
+
+/// The actions that mend the faults in a range.
+fn actions_in(page: &Page<'_>, asked: Span) -> Result<Vec<u8>, AllocError> {
+    let text = page.source.text.as_slice();
+    let faults = faults_in(page, asked)?;
+    let reasons = reasons_of(page.alloc, text, &faults)?;
+    let mut json = JsonText::new(page.alloc);
+    json.begin()?;
+    for (fault, reason) in faults.iter().zip(reasons.iter()) {
+        if let Some(place) = fault.place() {
+            let span = span_at(text, page.tokens, place);
+            push_action(&mut json, page, *fault, span, reason)?;
         }
     }
     json.end()?;

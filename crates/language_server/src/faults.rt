@@ -7,7 +7,7 @@ use cyc_lexer::Token;
 use cycc_driver::{CompileFault, Place, check};
 use editor_protocol::{JsonText, line_begin};
 use explanations::explain;
-use reasons::{further_faults, reason};
+use reasons::{Reason, Related, RelatedPlaces, further_faults};
 use std::alloc::{AllocError, Global};
 use token_names::pieces;
 
@@ -37,7 +37,11 @@ fn offset_of(text: &[u8], place: Place) -> u32 {
 
 /// The offsets of the token at a place; where there is none, of a byte.
 pub(crate) fn span_at(text: &[u8], tokens: &[Token<'_>], place: Place) -> Span {
-    let begin = offset_of(text, place);
+    span_from(tokens, offset_of(text, place))
+}
+
+/// The offsets of the token that begins at an offset; where none does, of a byte.
+fn span_from(tokens: &[Token<'_>], begin: u32) -> Span {
     for token in tokens {
         if token.at == begin {
             return span_of(token);
@@ -50,51 +54,84 @@ pub(crate) fn span_at(text: &[u8], tokens: &[Token<'_>], place: Place) -> Span {
 }
 
 /// Adds what a fault means, and what is known of it.
-fn push_words(
-    json: &mut JsonText,
-    alloc: Global,
-    text: &[u8],
-    fault: CompileFault,
-) -> Result<(), AllocError> {
+fn push_words(json: &mut JsonText, fault: CompileFault, reason: &Reason) -> Result<(), AllocError> {
     json.raw("\"")?;
     json.raw(fault.name())?;
     if let Some(explanation) = explain(fault.name()) {
         json.raw(": ")?;
         json.inside(explanation.meaning().as_bytes())?;
     }
-    let known = reason(alloc, text, fault)?;
-    if !known.is_empty() {
+    if !reason.words.is_empty() {
         json.raw("\\n")?;
-        json.inside(known.trim_ascii_end())?;
+        json.inside(reason.words.trim_ascii_end())?;
     }
     json.raw("\"")
 }
 
-/// Adds a fault of a source as a diagnostic, at these offsets, which are in a part.
+/// Adds a place that has to do with a fault of a source, in the part that has it, and what it is.
+fn push_place(
+    json: &mut JsonText,
+    source: &Source,
+    tokens: &[Token<'_>],
+    places: &RelatedPlaces,
+    place: Related,
+) -> Result<(), AllocError> {
+    let span = span_from(tokens, place.at);
+    json.item()?;
+    json.raw("{\"location\":{\"uri\":")?;
+    json.string(source.uri_at(source.index_at(span.begin as usize)))?;
+    json.raw(",\"range\":")?;
+    push_range(json, source, span)?;
+    json.raw("},\"message\":")?;
+    json.string(places.words_of(place))?;
+    json.raw("}")
+}
+
+/// Adds the places that have to do with a fault of a source, where there are any and the client takes them.
+fn push_places(
+    json: &mut JsonText,
+    source: &Source,
+    tokens: &[Token<'_>],
+    places: &RelatedPlaces,
+) -> Result<(), AllocError> {
+    if !source.relates || places.all.is_empty() {
+        return Ok(());
+    }
+    json.raw(",\"relatedInformation\":")?;
+    json.begin()?;
+    for place in places.all.iter() {
+        push_place(json, source, tokens, places, *place)?;
+    }
+    json.end()
+}
+
+/// Adds a fault of a source as a diagnostic, at these offsets, which are in a part, with what is known of it.
 pub(crate) fn push_diagnostic(
     json: &mut JsonText,
-    alloc: Global,
     source: &Source,
+    tokens: &[Token<'_>],
     span: Span,
     fault: CompileFault,
+    reason: &Reason,
 ) -> Result<(), AllocError> {
     json.raw("{\"range\":")?;
     push_range(json, source, span)?;
     json.raw(",\"severity\":1,\"source\":\"cycc\",\"code\":\"")?;
     json.raw(fault.name())?;
     json.raw("\",\"message\":")?;
-    push_words(json, alloc, source.text.as_slice(), fault)?;
+    push_words(json, fault, reason)?;
+    push_places(json, source, tokens, &reason.related)?;
     json.raw("}")
 }
 
 /// Adds a fault to a list of diagnostics, where it is in the part of an index.
 fn push_fault(
     json: &mut JsonText,
-    alloc: Global,
     source: &Source,
     tokens: &[Token<'_>],
     index: usize,
     fault: CompileFault,
+    reason: &Reason,
 ) -> Result<(), AllocError> {
     let Some(place) = fault.place() else {
         return Ok(());
@@ -104,7 +141,7 @@ fn push_fault(
         return Ok(());
     }
     json.item()?;
-    push_diagnostic(json, alloc, source, span, fault)
+    push_diagnostic(json, source, tokens, span, fault, reason)
 }
 
 /// Adds the name and the version of a text.
@@ -126,8 +163,8 @@ pub(crate) fn faultless(alloc: Global, uri: &[u8]) -> Result<Vec<u8>, AllocError
     Ok(json.into_bytes())
 }
 
-/// The parameters of the notification of the faults that a source has in the part of an index; of one without faults, of its warnings in the text that is
-/// looked at.
+/// The parameters of the notification of the faults that a source has in the part of an index, with what is known of each; of one without faults, of its
+/// warnings in the text that is looked at.
 pub(crate) fn params_of(
     alloc: Global,
     version: Option<i64>,
@@ -135,12 +172,13 @@ pub(crate) fn params_of(
     tokens: &[Token<'_>],
     index: usize,
     faults: &[CompileFault],
+    reasons: &[Reason],
 ) -> Result<Vec<u8>, AllocError> {
     let mut json = JsonText::new(alloc);
     push_text(&mut json, source.uri_at(index), version)?;
     json.begin()?;
-    for fault in faults {
-        push_fault(&mut json, alloc, source, tokens, index, *fault)?;
+    for (fault, reason) in faults.iter().zip(reasons.iter()) {
+        push_fault(&mut json, source, tokens, index, *fault, reason)?;
     }
     if faults.is_empty() && index == source.own {
         push_warnings(&mut json, alloc, source, tokens)?;

@@ -11,7 +11,7 @@ use crate::outlines::{folding, symbols};
 use crate::pages::Page;
 use crate::signatures::signature;
 use crate::sources::{Source, Texts};
-use editor_protocol::offset_at;
+use editor_protocol::{Code, offset_at};
 use serde_json::Value;
 use std::alloc::{AllocError, Global};
 use token_names::pieces;
@@ -37,6 +37,21 @@ fn asks_declaration(body: &Value) -> bool {
     body.pointer("/params/context/includeDeclaration")
         .and_then(Value::as_bool)
         .unwrap_or(true)
+}
+
+/// Whether a client says that it takes the places that have to do with a fault.
+fn takes_places(body: &Value) -> bool {
+    body.pointer("/params/capabilities/textDocument/publishDiagnostics/relatedInformation")
+        .and_then(Value::as_bool)
+        .unwrap_or(false)
+}
+
+/// Whether the client takes these places, behind a request that was admitted or not: the first one says it.
+pub(crate) fn relates_behind(relates: bool, admitted: Result<Method, Code>, body: &Value) -> bool {
+    match admitted {
+        Ok(Method::Initialize) => takes_places(body),
+        _ => relates,
+    }
 }
 
 /// The answer to a new name.

@@ -11,7 +11,7 @@ use crate::documents::{
 use crate::faults::faultless;
 use crate::keys::key_of;
 use crate::methods::{Method, Phase, admission, method_of, phase_behind, phase_told};
-use crate::requests::found_in;
+use crate::requests::{found_in, relates_behind};
 use crate::sources::Texts;
 use crate::told::{check_due, closed, make_due, notifications};
 use editor_protocol::{Code, Incoming, Message, Outcome, read};
@@ -24,6 +24,8 @@ pub struct Server {
     pub phase: Phase,
     pub texts: Vec<Document>,
     pub files: Vec<File>,
+    /// Whether the client takes the places that have to do with a fault.
+    pub relates: bool,
 }
 
 // Written out, so that a caller's proof sees one call and not the drop of each field.
@@ -34,6 +36,7 @@ impl Drop for Server {
             phase: _,
             texts: _texts,
             files: _files,
+            relates: _,
         } = self;
     }
 }
@@ -60,6 +63,7 @@ impl Server {
             phase: Phase::Fresh,
             texts: Vec::new(alloc),
             files: Vec::new(alloc),
+            relates: false,
         }
     }
 
@@ -69,6 +73,7 @@ impl Server {
             alloc: self.alloc,
             open: self.texts.as_slice(),
             files: self.files.as_slice(),
+            relates: self.relates,
         }
     }
 
@@ -108,6 +113,7 @@ impl Server {
         let outcome = self.outcome(admitted, body)?;
         let messages = one(self.alloc, Message::Response { id, outcome })?;
         self.phase = phase_behind(self.phase, admitted);
+        self.relates = relates_behind(self.relates, admitted, body);
         Ok(messages)
     }
 
@@ -123,7 +129,13 @@ impl Server {
     {
         let mut open = texts;
         let mut told = told;
-        check_due(self.alloc, &mut open, self.files.as_slice(), &mut told)?;
+        check_due(
+            self.alloc,
+            &mut open,
+            self.files.as_slice(),
+            self.relates,
+            &mut told,
+        )?;
         let messages = notifications(self.alloc, told.as_slice())?;
         self.texts = open;
         Ok(messages)

@@ -20,6 +20,8 @@ pub(crate) struct Source {
     pub parts: Vec<Part>,
     /// Which of the parts is the text that is looked at.
     pub own: usize,
+    /// Whether the client takes the places that have to do with a fault.
+    pub relates: bool,
 }
 
 impl Source {
@@ -64,6 +66,7 @@ impl Source {
             text: Vec::new(alloc),
             parts: Vec::new(alloc),
             own: 0,
+            relates: false,
         };
         let uri = Vec::from_slice(alloc, document.uri.as_bytes())?;
         source.add(uri, document.text.as_slice(), false)?;
@@ -89,6 +92,8 @@ pub(crate) struct Texts<'a> {
     pub alloc: Global,
     pub open: &'a [Document],
     pub files: &'a [File],
+    /// Whether the client takes the places that have to do with a fault.
+    pub relates: bool,
 }
 
 impl<'a> Texts<'a> {
@@ -207,6 +212,7 @@ impl<'a> Texts<'a> {
             text: Vec::new(self.alloc),
             parts: Vec::new(self.alloc),
             own: 0,
+            relates: self.relates,
         };
         for key in keys.iter() {
             if let Some(text) = self.text(key.as_slice()) {

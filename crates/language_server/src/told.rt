@@ -8,6 +8,7 @@ use crate::faults::{faultless, faults_of, params_of};
 use crate::sources::{Source, Texts};
 use cycc_driver::CompileFault;
 use editor_protocol::Message;
+use reasons::reasons_of;
 use std::alloc::{AllocError, Global};
 use token_names::pieces;
 
@@ -41,7 +42,9 @@ fn told_of(
     faults: &[CompileFault],
 ) -> Result<Vec<Vec<u8>>, AllocError> {
     let alloc = texts.alloc;
-    let tokens = pieces(alloc, source.text.as_slice())?;
+    let text = source.text.as_slice();
+    let tokens = pieces(alloc, text)?;
+    let reasons = reasons_of(alloc, text, faults)?;
     let mut told = Vec::new(alloc);
     for (index, part) in source.parts.iter().enumerate() {
         if is_told(texts, source, index, part.uri.as_slice()) {
@@ -50,7 +53,8 @@ fn told_of(
             } else {
                 None
             };
-            told.push(params_of(alloc, version, source, tokens.as_slice(), index, faults)?)?;
+            let params = params_of(alloc, version, source, &tokens, index, faults, &reasons)?;
+            told.push(params)?;
         }
     }
     Ok(told)
@@ -69,14 +73,8 @@ fn check_of(texts: Texts<'_>, document: &Document) -> Result<Checked, AllocError
 }
 
 /// Checks the source of the open text of an index, where that is due and its files are known.
-fn checked_at(
-    alloc: Global,
-    open: &[Document],
-    files: &[File],
-    index: usize,
-) -> Result<Option<Checked>, AllocError> {
-    let texts = Texts { alloc, open, files };
-    let Some(document) = open.get(index) else {
+fn checked_at(texts: Texts<'_>, index: usize) -> Result<Option<Checked>, AllocError> {
+    let Some(document) = texts.open.get(index) else {
         return Ok(None);
     };
     if !document.is_due || texts.wanted_for(document)?.is_some() {
@@ -115,14 +113,8 @@ pub(crate) fn closed(texts: Texts<'_>, document: &Document) -> Result<Vec<Vec<u8
 }
 
 /// Whether the source of the open text of an index has other parts, or had some when it was checked.
-fn is_joined_at(
-    alloc: Global,
-    open: &[Document],
-    files: &[File],
-    index: usize,
-) -> Result<bool, AllocError> {
-    let texts = Texts { alloc, open, files };
-    match open.get(index) {
+fn is_joined_at(texts: Texts<'_>, index: usize) -> Result<bool, AllocError> {
+    match texts.open.get(index) {
         Some(document) if document.is_joined => Ok(true),
         Some(document) => Ok(texts.keys_of(document)?.len() > 1),
         None => Ok(false),
@@ -136,7 +128,13 @@ pub(crate) fn make_due(
     files: &[File],
 ) -> Result<(), AllocError> {
     for index in 0..open.len() {
-        let is_joined = is_joined_at(alloc, open.as_slice(), files, index)?;
+        let texts = Texts {
+            alloc,
+            open: open.as_slice(),
+            files,
+            relates: false,
+        };
+        let is_joined = is_joined_at(texts, index)?;
         if let Some(document) = open.get_mut(index) {
             document.is_due = document.is_due || is_joined;
         }
@@ -145,15 +143,22 @@ pub(crate) fn make_due(
 }
 
 /// Checks all sources that are due and whose files are known: what is told of them, as the parameters of notifications, behind what is told
-/// already.
+/// already. The places that have to do with a fault are told where the client takes them.
 pub(crate) fn check_due(
     alloc: Global,
     open: &mut Vec<Document>,
     files: &[File],
+    relates: bool,
     told: &mut Vec<Vec<u8>>,
 ) -> Result<(), AllocError> {
     for index in 0..open.len() {
-        if let Some(checked) = checked_at(alloc, open.as_slice(), files, index)? {
+        let texts = Texts {
+            alloc,
+            open: open.as_slice(),
+            files,
+            relates,
+        };
+        if let Some(checked) = checked_at(texts, index)? {
             let more = checked.noted(open, index);
             for params in more.iter() {
                 told.push(Vec::from_slice(alloc, params.as_slice())?)?;

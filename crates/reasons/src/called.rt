@@ -73,7 +73,10 @@ impl<'m, 'w, 'g, 'p> Told<'m, 'w, 'g, 'p> {
         self.words.name(&name.text)?;
         self.words.say(" at ")?;
         self.words.position(member.name.at)?;
-        self.words.say("\n")
+        self.words.say("\n")?;
+        let declared = &member.name;
+        self.words
+            .relate(declared.at, "declared here: ", &declared.text)
     }
 
     /// The region of a function's parameter by its number, where it has no variable: the heap.

@@ -11,11 +11,41 @@ use cycc_driver::{CompileFault, Place};
 use flow_check::flow_fault;
 use std::alloc::{AllocError, Global};
 use token_reasons::{
-    body_at, emptied, emptied_all, emptied_up_to, index_at, is_freed, without_statement,
+    body_at, body_within, count_outside, emptied, emptied_all, emptied_behind, emptied_up_to,
+    index_at, is_freed, without_statement,
 };
 
 /// How many faults of the grammar, and of flow, are looked for behind one another.
 const MOST_ROUNDS: u32 = 100;
+
+/// How often faults of flow are looked for: in the bodies that are left, or in the first of them.
+const MOST_LOOKS: u32 = 1_000;
+
+/// In which bodies a fault of flow is looked for next, and how many were found.
+#[derive(Clone, Copy)]
+struct Ahead {
+    /// How many tokens the bodies have together at most.
+    tokens: usize,
+    faults: u32,
+}
+
+impl Ahead {
+    /// Behind bodies without a fault: in twice as many.
+    fn after_none(self) -> Ahead {
+        Ahead {
+            tokens: self.tokens.saturating_mul(2),
+            ..self
+        }
+    }
+
+    /// Behind a fault: in few, since each look also takes what is outside of bodies, of which there are so many tokens.
+    fn after_fault(self, outside: usize) -> Ahead {
+        Ahead {
+            tokens: outside / 4,
+            faults: self.faults.saturating_add(1),
+        }
+    }
+}
 
 /// The faults that were found, and the text's tokens without the bodies that have them.
 struct Found<'t, 'a> {
@@ -165,27 +195,56 @@ impl<'t, 'a> Found<'t, 'a> {
         Ok(true)
     }
 
-    /// Adds the first fault of flow that is left, where it doesn't follow from another one, and answers whether there may be more.
-    fn add_flow(&mut self, positions: &mut Positions<'_>) -> Result<bool, AllocError> {
-        let Ok(program) = parse(self.alloc, self.tokens.as_slice()) else {
-            return Ok(false);
-        };
-        let Some(fault) = flow_fault(self.alloc, &program)? else {
-            return Ok(false);
-        };
-        if takes_unknown(self.alloc, self.tokens.as_slice(), &program, fault)? {
+    /// Adds a fault of flow, where it doesn't follow from another one, and answers whether there may be more. These tokens are the program's.
+    fn add_flow(
+        &mut self,
+        positions: &mut Positions<'_>,
+        tokens: &[Token<'_>],
+        program: &Program,
+        fault: Fault,
+    ) -> Result<bool, AllocError> {
+        if takes_unknown(self.alloc, tokens, program, fault)? {
             return self.pass_unknown(fault.at);
         }
         self.add_ruled(positions, fault)?;
         self.pass(fault.at)
     }
 
+    /// Adds the first fault of flow in the bodies ahead, and answers which are next, where there may be more.
+    fn look(
+        &mut self,
+        positions: &mut Positions<'_>,
+        ahead: Ahead,
+    ) -> Result<Option<Ahead>, AllocError> {
+        let Some(last) = body_within(self.tokens.as_slice(), ahead.tokens) else {
+            return Ok(None);
+        };
+        let part = emptied_behind(self.alloc, self.tokens.as_slice(), last)?;
+        let Ok(program) = parse(self.alloc, part.as_slice()) else {
+            return Ok(None);
+        };
+        let Some(fault) = flow_fault(self.alloc, &program)? else {
+            self.tokens = emptied_up_to(self.alloc, self.tokens.as_slice(), last)?;
+            return Ok(Some(ahead.after_none()));
+        };
+        if self.add_flow(positions, part.as_slice(), &program, fault)? {
+            Ok(Some(ahead.after_fault(count_outside(part.as_slice()))))
+        } else {
+            Ok(None)
+        }
+    }
+
     /// Adds the faults of flow, one for each function.
     fn add_flows(&mut self) -> Result<(), AllocError> {
         let mut positions = Positions::of(self.text);
-        for _ in 0..MOST_ROUNDS {
-            if !self.add_flow(&mut positions)? {
-                break;
+        let mut ahead = Ahead {
+            tokens: usize::MAX,
+            faults: 0,
+        };
+        for _ in 0..MOST_LOOKS {
+            match self.look(&mut positions, ahead)? {
+                Some(next) if next.faults < MOST_ROUNDS => ahead = next,
+                _ => break,
             }
         }
         Ok(())

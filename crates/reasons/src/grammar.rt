@@ -72,6 +72,7 @@ fn say_unclosed(
     words.written(at, at.saturating_add(1))?;
     words.say("` at ")?;
     words.position(at)?;
+    words.relate(at, "not closed", b"")?;
     words.say(" isn't closed.\n")
 }
 
@@ -87,6 +88,7 @@ fn say_missing(
             words.mend(end, end, b";")?;
             words.say("A `;` may be missing at ")?;
             words.position(end)?;
+            words.relate(end, "a `;` may be missing here", b"")?;
             words.say(":\n")?;
             words.marked(end)
         }

@@ -300,5 +300,5 @@ fn say_at(words: &mut Words<'_>, alloc: Global, text: &[u8], at: u32) -> Result<
 pub fn known_at(alloc: Global, text: &[u8], at: u32) -> Result<Vec<u8>, AllocError> {
     let mut words = Words::new(alloc, text);
     say_at(&mut words, alloc, text, at)?;
-    Ok(words.into_bytes())
+    Ok(words.into_reason().into_words())
 }

@@ -51,7 +51,9 @@ fn say_string(words: &mut Words<'_>, rest: &[u8], at: u32) -> Result<(), AllocEr
         Some(byte) if *byte != b'\n' => {
             words.say("A string has no such byte as the one at ")?;
             let before = u32::try_from(run).unwrap_or(u32::MAX);
-            words.position(at.saturating_add(before).saturating_add(1))?;
+            let place = at.saturating_add(before).saturating_add(1);
+            words.position(place)?;
+            words.relate(place, "the byte is here", b"")?;
             words.say(": write ")?;
             say_byte(words, *byte)?;
             words.say(".\n")

@@ -86,7 +86,8 @@ fn say_second(words: &mut Words<'_>, name: &[u8], at: u32) -> Result<(), AllocEr
     words.name(name)?;
     words.say(" is declared at ")?;
     words.position(at)?;
-    words.say(" already.\n")
+    words.say(" already.\n")?;
+    words.relate(at, "declared here: ", name)
 }
 
 /// Says that a name isn't known, and what to write for it where C knows it.

@@ -82,6 +82,14 @@ pub(crate) fn regions_apart(
     Ok(inner_apart(found, wanted))
 }
 
+/// Says where a name stands that a region is called by.
+fn say_place(words: &mut Words<'_>, at: u32, said: &str, name: &[u8]) -> Result<(), AllocError> {
+    words.say(" (")?;
+    words.position(at)?;
+    words.relate(at, said, name)?;
+    words.say(")")
+}
+
 /// Says a region, and where its name stands.
 fn say_origin(
     words: &mut Words<'_>,
@@ -89,12 +97,13 @@ fn say_origin(
     region: RegionId,
 ) -> Result<(), AllocError> {
     say_region(words, labels, region)?;
-    if let Some(Label::Named(_, at) | Label::Of(_, at) | Label::Within(_, at)) = labels.of(region) {
-        words.say(" (")?;
-        words.position(at)?;
-        words.say(")")?;
+    match labels.of(region) {
+        Some(Label::Named(name, at)) => say_place(words, at, "region named here: `", name),
+        Some(Label::Of(name, at) | Label::Within(name, at)) => {
+            say_place(words, at, "declared here: ", name)
+        }
+        _ => Ok(()),
     }
-    Ok(())
 }
 
 /// Says in which order two regions have to be.

@@ -34,6 +34,7 @@ fn say_label(words: &mut Words<'_>, label: Label<'_>) -> Result<(), AllocError> 
         Label::Block(at) => {
             words.say("`<block ")?;
             words.position(at)?;
+            words.relate(at, "the block begins here", b"")?;
             return words.say(">");
         }
     };

@@ -151,7 +151,9 @@ fn say_parameter_of(
     written: &Member,
 ) -> Result<(), AllocError> {
     words.say("At ")?;
-    words.position(written.name.at)?;
+    let declared = &written.name;
+    words.position(declared.at)?;
+    words.relate(declared.at, "declared here: ", &declared.text)?;
     words.say(" write: ")?;
     let from = words.len();
     let of_all = is_alike(of);

@@ -8,7 +8,7 @@ use crate::near_names::say_name;
 use crate::places::{item_at, offset_of};
 use crate::used::Told;
 use crate::walk::walk_to;
-use crate::words::Words;
+use crate::words::{Reason, Words};
 use check_heads::{Names, read_head};
 use check_structs::judged_tags;
 use check_tables::{Structs, program_names};
@@ -40,12 +40,14 @@ fn say_given(words: &mut Words<'_>, tokens: &[Token<'_>], at: u32) -> Result<(),
     if let Some(before) = given_away(tokens, at) {
         words.say("Given away at ")?;
         words.position(before)?;
+        words.relate(before, "given away here", b"")?;
         return words.say(".\n");
     }
     match given_later(tokens, at) {
         Some(later) => {
             words.say("Given away at ")?;
             words.position(later)?;
+            words.relate(later, "given away here", b"")?;
             words.say(", in an earlier iteration.\n")
         }
         None => Ok(()),
@@ -58,6 +60,7 @@ fn say_lent(words: &mut Words<'_>, tokens: &[Token<'_>], at: u32) -> Result<(), 
         Some(before) => {
             words.say("Lent at ")?;
             words.position(before)?;
+            words.relate(before, "lent here", b"")?;
             words.say(".\n")
         }
         None => Ok(()),
@@ -126,49 +129,57 @@ fn say_item<'p>(
     }
 }
 
+/// What is looked for at a fault, where that takes the checker's judgements.
+fn asked_of(fault: CompileFault) -> Option<Asked> {
+    match fault {
+        CompileFault::Name(_) => Some(Asked::Name),
+        CompileFault::Typing(_) => Some(Asked::Types),
+        CompileFault::Outlives(_) => Some(Asked::Order),
+        _ => None,
+    }
+}
+
+/// The items of a program, and what its names mean.
+#[derive(Clone, Copy)]
+struct Judged<'g, 'p> {
+    names: Names<'g, 'p>,
+    items: &'p [Item],
+}
+
+/// A text as it was read: its tokens, where it has no other bytes; and its items, where they are a program and are asked for.
+#[derive(Clone, Copy)]
+struct Reading<'t, 'g, 'p> {
+    alloc: Global,
+    text: &'t [u8],
+    tokens: Option<&'t [Token<'p>]>,
+    judged: Option<Judged<'g, 'p>>,
+}
+
 /// Says what is known of a fault by the checker's judgements.
 fn say_judged<'p>(
     words: &mut Words<'_>,
     site: Site<'_, 'p>,
     asked: Asked,
-    items: &'p [Item],
+    judged: Judged<'_, 'p>,
 ) -> Result<(), AllocError> {
-    let Some(index) = item_at(items, site.at) else {
-        return Ok(());
-    };
-    let tags = judged_tags(site.alloc, items)?;
-    let structs = Structs {
-        tags: &tags.names,
-        tables: &tags.tables,
-    };
-    let globals = program_names(site.alloc, structs, false, items)?;
-    let names = Names {
-        globals: &globals,
-        tags: structs.tags,
-        tables: structs.tables,
-    };
-    say_item(words, site, asked, names, items, index)
-}
-
-/// The same, of tokens that are a program.
-fn say_parsed(words: &mut Words<'_>, site: Site<'_, '_>, asked: Asked) -> Result<(), AllocError> {
-    match parse(site.alloc, site.tokens) {
-        Ok(program) => say_judged(words, site, asked, program.items()),
-        Err(_) => Ok(()),
+    match item_at(judged.items, site.at) {
+        Some(index) => say_item(words, site, asked, judged.names, judged.items, index),
+        None => Ok(()),
     }
 }
 
 /// Says what is known of a fault, by its tokens and its position.
-fn say_fault(
+fn say_fault<'p>(
     words: &mut Words<'_>,
-    site: Site<'_, '_>,
+    site: Site<'_, 'p>,
+    judged: Option<Judged<'_, 'p>>,
     fault: CompileFault,
 ) -> Result<(), AllocError> {
+    if let (Some(asked), Some(judged)) = (asked_of(fault), judged) {
+        return say_judged(words, site, asked, judged);
+    }
     match fault {
         CompileFault::Parse(_) => say_grammar(words, site.tokens, site.at),
-        CompileFault::Name(_) => say_parsed(words, site, Asked::Name),
-        CompileFault::Typing(_) => say_parsed(words, site, Asked::Types),
-        CompileFault::Outlives(_) => say_parsed(words, site, Asked::Order),
         CompileFault::Consumed(_) => say_given(words, site.tokens, site.at),
         CompileFault::Lent(_) => say_lent(words, site.tokens, site.at),
         _ => Ok(()),
@@ -178,45 +189,172 @@ fn say_fault(
 /// Says what is known of a fault at an offset.
 fn say_at(
     words: &mut Words<'_>,
-    alloc: Global,
-    text: &[u8],
+    reading: Reading<'_, '_, '_>,
     at: u32,
     fault: CompileFault,
 ) -> Result<(), AllocError> {
     if let CompileFault::Lex(_) = fault {
-        return say_bytes(words, text, at);
+        return say_bytes(words, reading.text, at);
     }
-    match tokens(alloc, text) {
-        Ok(found) => {
+    match reading.tokens {
+        Some(tokens) => {
             let site = Site {
-                tokens: found.as_slice(),
+                tokens,
                 at,
-                alloc,
+                alloc: reading.alloc,
             };
-            say_fault(words, site, fault)
+            say_fault(words, site, reading.judged, fault)
         }
-        Err(_) => Ok(()),
+        None => Ok(()),
     }
 }
 
-/// The words on a fault of a text, and the edits that they tell.
-fn said<'a>(alloc: Global, text: &'a [u8], fault: CompileFault) -> Result<Words<'a>, AllocError> {
-    let mut words = Words::new(alloc, text);
+/// What is known of a fault of a text that was read.
+fn reason_in(reading: Reading<'_, '_, '_>, fault: CompileFault) -> Result<Reason, AllocError> {
+    let mut words = Words::new(reading.alloc, reading.text);
     if let Some(place) = fault.place() {
-        say_at(&mut words, alloc, text, offset_of(text, place), fault)?;
+        say_at(&mut words, reading, offset_of(reading.text, place), fault)?;
     }
-    Ok(words)
+    Ok(words.into_reason())
+}
+
+/// What is known of each of some faults of a text that was read.
+fn each_in(
+    reading: Reading<'_, '_, '_>,
+    faults: &[CompileFault],
+) -> Result<Vec<Reason>, AllocError> {
+    let mut reasons = Vec::new(reading.alloc);
+    for fault in faults {
+        reasons.push(reason_in(reading, *fault)?)?;
+    }
+    Ok(reasons)
+}
+
+/// A text with its tokens.
+#[derive(Clone, Copy)]
+struct Lexed<'t, 'a> {
+    alloc: Global,
+    text: &'t [u8],
+    tokens: &'t [Token<'a>],
+}
+
+/// What is known of each of some faults of a text whose items were read.
+fn each_of_items<'p>(
+    lexed: Lexed<'_, 'p>,
+    items: &'p [Item],
+    faults: &[CompileFault],
+) -> Result<Vec<Reason>, AllocError> {
+    let tags = judged_tags(lexed.alloc, items)?;
+    let structs = Structs {
+        tags: &tags.names,
+        tables: &tags.tables,
+    };
+    let globals = program_names(lexed.alloc, structs, false, items)?;
+    let names = Names {
+        globals: &globals,
+        tags: structs.tags,
+        tables: structs.tables,
+    };
+    let reading = Reading {
+        alloc: lexed.alloc,
+        text: lexed.text,
+        tokens: Some(lexed.tokens),
+        judged: Some(Judged { names, items }),
+    };
+    each_in(reading, faults)
+}
+
+/// The same of one whose items aren't asked for, or are no program.
+fn each_unjudged(lexed: Lexed<'_, '_>, faults: &[CompileFault]) -> Result<Vec<Reason>, AllocError> {
+    let reading = Reading {
+        alloc: lexed.alloc,
+        text: lexed.text,
+        tokens: Some(lexed.tokens),
+        judged: None,
+    };
+    each_in(reading, faults)
+}
+
+/// The same of one whose items are asked for.
+fn each_parsed(lexed: Lexed<'_, '_>, faults: &[CompileFault]) -> Result<Vec<Reason>, AllocError> {
+    match parse(lexed.alloc, lexed.tokens) {
+        Ok(program) => each_of_items(lexed, program.items(), faults),
+        Err(_) => each_unjudged(lexed, faults),
+    }
+}
+
+/// Whether what is known of one of some faults takes the checker's judgements.
+fn asks_any(faults: &[CompileFault]) -> bool {
+    for fault in faults {
+        if asked_of(*fault).is_some() {
+            return true;
+        }
+    }
+    false
+}
+
+/// What is known of each of some faults of a text with these tokens.
+fn each_of_tokens(
+    lexed: Lexed<'_, '_>,
+    faults: &[CompileFault],
+) -> Result<Vec<Reason>, AllocError> {
+    if asks_any(faults) {
+        each_parsed(lexed, faults)
+    } else {
+        each_unjudged(lexed, faults)
+    }
+}
+
+/// What is known of each of some faults of a text, which is read once for all of them. Fails only where no host memory is left.
+pub fn reasons_of(
+    alloc: Global,
+    text: &[u8],
+    faults: &[CompileFault],
+) -> Result<Vec<Reason>, AllocError> {
+    match tokens(alloc, text) {
+        Ok(found) => {
+            let tokens = found.as_slice();
+            each_of_tokens(
+                Lexed {
+                    alloc,
+                    text,
+                    tokens,
+                },
+                faults,
+            )
+        }
+        Err(_) => {
+            let reading = Reading {
+                alloc,
+                text,
+                tokens: None,
+                judged: None,
+            };
+            each_in(reading, faults)
+        }
+    }
+}
+
+/// What is known of one fault of a text.
+pub(crate) fn reason_of(
+    alloc: Global,
+    text: &[u8],
+    fault: CompileFault,
+) -> Result<Reason, AllocError> {
+    let mut reasons = reasons_of(alloc, text, &[fault])?;
+    match reasons.pop() {
+        Some(reason) => Ok(reason),
+        None => Ok(Words::new(alloc, text).into_reason()),
+    }
 }
 
 /// What is known of a fault of a text, in lines of words: none, where nothing is. Fails only where no host memory is left.
 pub fn reason(alloc: Global, text: &[u8], fault: CompileFault) -> Result<Vec<u8>, AllocError> {
-    let words = said(alloc, text, fault)?;
-    Ok(words.into_bytes())
+    Ok(reason_of(alloc, text, fault)?.into_words())
 }
 
 /// The edits that the words of `reason` tell, which mend a fault together: none, where it isn't known what does. Fails only where no host
 /// memory is left.
 pub fn cure(alloc: Global, text: &[u8], fault: CompileFault) -> Result<Cure, AllocError> {
-    let words = said(alloc, text, fault)?;
-    Ok(words.into_cure())
+    Ok(reason_of(alloc, text, fault)?.into_cure())
 }

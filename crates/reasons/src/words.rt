@@ -2,6 +2,7 @@
 
 use crate::cures::Cure;
 use crate::marked::push_marked;
+use crate::related::RelatedPlaces;
 use cyc_lexer::place_of;
 use cycc_driver::Place;
 use std::alloc::{AllocError, Global};
@@ -9,12 +10,53 @@ use std::alloc::{AllocError, Global};
 /// The most bytes of a text that are shown in a line of words.
 const MOST_SHOWN: usize = 100;
 
-/// Words on a text, as they are written so far, and the edits that they tell.
+/// What is known of a fault: words, the edits that they tell, and the places that they name.
+pub struct Reason {
+    pub words: Vec<u8>,
+    pub cure: Cure,
+    pub related: RelatedPlaces,
+}
+
+// Written out, so that a caller's proof sees one call and not the drop of each field.
+impl Drop for Reason {
+    fn drop(self) {
+        let Reason {
+            words: _words,
+            cure: _cure,
+            related: _related,
+        } = self;
+    }
+}
+
+impl Reason {
+    /// The words alone.
+    pub(crate) fn into_words(self) -> Vec<u8> {
+        let Reason {
+            words,
+            cure: _cure,
+            related: _related,
+        } = self;
+        words
+    }
+
+    /// The edits alone.
+    pub(crate) fn into_cure(self) -> Cure {
+        let Reason {
+            words: _words,
+            cure,
+            related: _related,
+        } = self;
+        cure
+    }
+}
+
+/// Words on a text, as they are written so far, with the edits that they tell and the places that they name.
 pub(crate) struct Words<'a> {
     alloc: Global,
     text: &'a [u8],
     out: Vec<u8>,
     cure: Cure,
+    related: RelatedPlaces,
 }
 
 // Written out, so that a caller's proof sees one call and not the drop of each field.
@@ -25,6 +67,7 @@ impl Drop for Words<'_> {
             text: _,
             out: _out,
             cure: _cure,
+            related: _related,
         } = self;
     }
 }
@@ -37,29 +80,24 @@ impl<'a> Words<'a> {
             text,
             out: Vec::new(alloc),
             cure: Cure::none(alloc),
+            related: RelatedPlaces::none(alloc),
         }
     }
 
-    /// All words.
-    pub(crate) fn into_bytes(self) -> Vec<u8> {
+    /// All words, with the edits and the places.
+    pub(crate) fn into_reason(self) -> Reason {
         let Words {
             alloc: _,
             text: _,
             out,
-            cure: _cure,
-        } = self;
-        out
-    }
-
-    /// All edits.
-    pub(crate) fn into_cure(self) -> Cure {
-        let Words {
-            alloc: _,
-            text: _,
-            out: _out,
             cure,
+            related,
         } = self;
-        cure
+        Reason {
+            words: out,
+            cure,
+            related,
+        }
     }
 
     /// How many bytes of words there are.
@@ -102,6 +140,13 @@ impl<'a> Words<'a> {
     /// Tells no edit: one that goes with those that were told isn't known.
     pub(crate) fn mend_nothing(&mut self) {
         self.cure.give_up();
+    }
+
+    /// Tells a place that has to do with the fault: what it is are words and a name behind them, or as much as is shown of it. Fails only where no host
+    /// memory is left.
+    pub(crate) fn relate(&mut self, at: u32, said: &str, name: &[u8]) -> Result<(), AllocError> {
+        let name = name.get(..MOST_SHOWN).unwrap_or(name);
+        self.related.add(at, said, name)
     }
 
     /// Adds words. Fails only where no host memory is left, as all that add some.

@@ -121,6 +121,57 @@ pub fn emptied_up_to<'a>(
     Ok(kept)
 }
 
+/// The tokens without those of all bodies behind one.
+pub fn emptied_behind<'a>(
+    alloc: Global,
+    tokens: &[Token<'a>],
+    body: Body,
+) -> Result<Vec<Token<'a>>, AllocError> {
+    let mut kept = Vec::new(alloc);
+    let mut braces = NO_BRACES;
+    for (index, token) in tokens.iter().enumerate() {
+        let before = braces;
+        braces = behind(tokens, index, token.kind, before);
+        let is_inside = before.begun.is_some() && braces.begun.is_some();
+        if !is_inside || index <= body.close {
+            kept.push(*token)?;
+        }
+    }
+    Ok(kept)
+}
+
+/// How many tokens are in no body.
+pub fn count_outside(tokens: &[Token<'_>]) -> usize {
+    let mut count = 0usize;
+    let mut braces = NO_BRACES;
+    for (index, token) in tokens.iter().enumerate() {
+        braces = behind(tokens, index, token.kind, braces);
+        if braces.begun.is_none() {
+            count = count.saturating_add(1);
+        }
+    }
+    count
+}
+
+/// The last of the first bodies that have together so many tokens at most, or the first body, where that has more; bodies without tokens aren't counted.
+pub fn body_within(tokens: &[Token<'_>], most: usize) -> Option<Body> {
+    let mut found = None;
+    let mut taken = 0usize;
+    let mut braces = NO_BRACES;
+    for (index, token) in tokens.iter().enumerate() {
+        let before = braces;
+        braces = behind(tokens, index, token.kind, before);
+        if let (Some(open), None) = (before.begun, braces.begun) {
+            let length = index.saturating_sub(open).saturating_sub(1);
+            taken = taken.saturating_add(length);
+            if length > 0 && (taken <= most || found.is_none()) {
+                found = Some(Body { open, close: index });
+            }
+        }
+    }
+    found
+}
+
 /// Whether an offset is the one of a number among some.
 fn is_next(closes: &[u32], number: usize, at: u32) -> bool {
     match closes.get(number) {

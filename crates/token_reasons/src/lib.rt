@@ -19,7 +19,9 @@ mod operands;
 mod seen;
 mod taken;
 
-pub use bodies::{Body, body_at, emptied, emptied_all, emptied_up_to};
+pub use bodies::{
+    Body, body_at, body_within, count_outside, emptied, emptied_all, emptied_behind, emptied_up_to,
+};
 pub use follow::wanted;
 pub use hints::hint;
 pub use missing::{end_before, unclosed};

@@ -22,16 +22,49 @@ fn bound_of_name(named: Named<'_>) -> Option<u32> {
     }
 }
 
-/// How many elements an expression has or leads to, and its name, where it has one.
-fn bound_of<'p>(names: &Names<'p>, expression: &'p Expression) -> Option<(u32, &'p [u8])> {
+/// What to write where an index is beyond the bounds of an array, or of a pointer that says how many elements it leads to.
+const CURE: &str = "Of n elements the first has the index 0, and the last n - 1.";
+
+/// The same of a pointer to one element.
+const CURE_OF_ONE: &str =
+    "It leads to one element, with the index 0: write `?` for its sign, and it leads to all there are.";
+
+/// How many elements something has or leads to, what it is called, and what to write where an index is beyond these.
+#[derive(Clone, Copy)]
+struct Bounds<'p> {
+    count: u32,
+    name: &'p [u8],
+    cure: &'static str,
+}
+
+/// What to write where an index is beyond so many elements that a name has or leads to.
+fn cure_of(named: Named<'_>, count: u32) -> &'static str {
+    if named.count.is_none() && count == 1 {
+        CURE_OF_ONE
+    } else {
+        CURE
+    }
+}
+
+/// How many elements an expression has or leads to, where it has a name or is a string.
+fn bounded<'p>(names: &Names<'p>, expression: &'p Expression) -> Option<Bounds<'p>> {
     match bare(expression) {
         Expression::Variable(name) => {
-            let bound = bound_of_name(names.find(&name.text)?)?;
-            Some((bound, &name.text))
+            let named = names.find(&name.text)?;
+            let count = bound_of_name(named)?;
+            Some(Bounds {
+                count,
+                name: &name.text,
+                cure: cure_of(named, count),
+            })
         }
         Expression::Text(_, bytes) => {
             let count = u32::try_from(bytes.len()).unwrap_or(u32::MAX);
-            Some((count.saturating_add(1), b"the string"))
+            Some(Bounds {
+                count: count.saturating_add(1),
+                name: b"the string",
+                cure: CURE,
+            })
         }
         _ => None,
     }
@@ -45,19 +78,19 @@ fn is_beyond(index: Known, bound: u32) -> bool {
     }
 }
 
-/// The name of what has no element of the index that is the first suffix.
+/// What has no element of the index that is the first suffix.
 fn beyond<'p>(
     names: &Names<'p>,
     primary: &'p Expression,
     suffixes: &'p [Suffix],
-) -> Option<&'p [u8]> {
+) -> Option<Bounds<'p>> {
     let Suffix::Index(index) = suffixes.first()? else {
         return None;
     };
     let index = constant(index)?;
-    let (bound, name) = bound_of(names, primary)?;
-    if is_beyond(index, bound) {
-        Some(name)
+    let bounded = bounded(names, primary)?;
+    if is_beyond(index, bounded.count) {
+        Some(bounded)
     } else {
         None
     }
@@ -69,13 +102,13 @@ pub(crate) fn warn_of_index<'p>(
     primary: &'p Expression,
     suffixes: &'p [Suffix],
 ) {
-    if let Some(name) = beyond(&walk.names, primary, suffixes) {
+    if let Some(bounded) = beyond(&walk.names, primary, suffixes) {
         walk.warn(Warning {
             kind: WarningKind::Raises,
             at: primary.place(),
-            name,
+            name: bounded.name,
             words: " has no element with this index, so the run ends here",
-            cure: "Of n elements the first has the index 0, and the last n - 1.",
+            cure: bounded.cure,
         });
     }
 }

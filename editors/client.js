@@ -3,6 +3,7 @@ const vscode = require('vscode');
 const { spawn } = require('child_process');
 
 const LANGUAGE = { language: 'cycc' };
+const CAPABILITIES = { textDocument: { publishDiagnostics: { relatedInformation: true } } };
 
 /** A server, and what was asked of it. */
 class Server {
@@ -61,6 +62,7 @@ function diagnostic(it) {
   const found = new vscode.Diagnostic(range(it.range), it.message, it.severity - 1);
   found.code = it.code;
   found.source = it.source;
+  found.relatedInformation = (it.relatedInformation || []).map((one) => new vscode.DiagnosticRelatedInformation(location(one.location), one.message));
   return found;
 }
 
@@ -178,7 +180,7 @@ async function activate(context) {
   const command = vscode.workspace.getConfiguration('cycc').get('command') || 'cycc';
   server = new Server(command, ({ uri, diagnostics }) => shown.set(vscode.Uri.parse(uri), diagnostics.map(diagnostic)));
   context.subscriptions.push(shown);
-  await server.ask('initialize', { processId: process.pid, rootUri: null, capabilities: {} });
+  await server.ask('initialize', { processId: process.pid, rootUri: null, capabilities: CAPABILITIES });
   server.notify('initialized', {});
   register(context, server);
   follow(context, server);

@@ -20,6 +20,7 @@ const vscode = {
   Hover: class { constructor(value) { this.value = value; } },
   MarkdownString: class { constructor(value) { this.value = value; } },
   Diagnostic: class { constructor(range, message, severity) { Object.assign(this, { range, message, severity }); } },
+  DiagnosticRelatedInformation: class { constructor(where, message) { Object.assign(this, { where, message }); } },
   CompletionItem: class { constructor(label) { this.label = label; } },
   DocumentSymbol: class { constructor(name) { this.name = name; } },
   FoldingRange: Plain,
@@ -88,12 +89,21 @@ async function main() {
   assert.strictEqual(help.signatures[0].label, 'int step(int n)');
   assert.strictEqual((await made.symbols.provideDocumentSymbols(document)).length, 3);
   assert.strictEqual((await made.folds.provideFoldingRanges(document)).length, 1);
+  const twice = 'int main() { int n; int n; return 0; }\n';
+  document.version = 3;
+  listeners.change({ document, contentChanges: [{ text: twice }] });
+  await until('no fault appeared of a name declared twice', () => faults().length === 1);
+  const [place] = faults()[0].relatedInformation;
+  assert.deepStrictEqual([place.where.where, place.where.range.start, place.message], ['file:///test.cyc', { line: 0, character: 17 }, 'declared here: n']);
+  document.version = 4;
+  listeners.change({ document, contentChanges: [{ text: text.value.replace('tot_l', 'total') }] });
+  await until('the fault did not go', () => faults().length === 0);
   const [laid] = await made.layout.provideDocumentFormattingEdits(document);
   assert.match(laid.newText, /;\n\}\n$/);
   listeners.save(document);
   listeners.close(document);
   await client.deactivate();
-  console.log('vscode: faults, definition, hover, cure, rename, references, completion, signature, symbols, folding and layout were seen');
+  console.log('vscode: faults, definition, hover, cure, rename, references, completion, signature, symbols, folding, layout and a related place were seen');
 }
 
 main().then(() => process.exit(0), (error) => { console.error(`vscode: ${error.message}`); process.exit(1); });

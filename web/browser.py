@@ -225,7 +225,8 @@ class Firefox(Browser):
         super().connect()
         self.ask("session.new", capabilities={})
         self.ask("session.subscribe", events=["log.entryAdded"])
-        self.context = self.ask("browsingContext.getTree")["contexts"][0]["context"]
+        # (the first tab has no focus, and there Enter and Space press no button)
+        self.context = self.ask("browsingContext.create", type="tab")["context"]
 
     def event(self, got):
         if got.get("method") == "log.entryAdded" and got["params"].get("level") == "error":

@@ -1,10 +1,13 @@
 // Runs cycc.wasm, the program cycc as a WebAssembly module. It is the one loader of the page and of the command line: node cycc.mjs run x.cyc
 // A host gives the module its arguments, files and streams. MemoryHost keeps files in memory; NodeHost has the real ones.
+// It has no syntax that Node 12 doesn't know, so that an older Node than this needs can read it and say so.
 
 const ENOENT = 2, EIO = 5, EBADF = 9, EACCES = 13, EEXIST = 17, EINVAL = 22;
 const PATH_MAX = 4096;
 const WRITES = 0o3, CREATE = 0o100, EXCLUSIVE = 0o200, TRUNCATE = 0o1000;
 const EMPTY_PATH = 0x1000, REGULAR = 0o100000, FOLDER = 0o040000;
+/** The oldest Node with which the cases were tried. */
+const LEAST_NODE = 18;
 const utf8 = new TextEncoder();
 
 /** What the module imports, done by a host. `made` has the module's exports once they are there. */
@@ -115,7 +118,7 @@ export class MemoryHost {
             return bytes.length;
         }
         const opened = this.opened.get(file);
-        if (!opened?.writes) return -EBADF;
+        if (!opened || !opened.writes) return -EBADF;
         const old = this.files.get(opened.path);
         const text = new Uint8Array(Math.max(old.length, opened.at + bytes.length));
         text.set(old);
@@ -145,7 +148,7 @@ export class MemoryHost {
     }
 
     stat(which) {
-        const path = typeof which === "number" ? this.opened.get(which)?.path : which;
+        const { path } = typeof which === "number" ? this.opened.get(which) || {} : { path: which };
         if (path === ".") return { isFile: false, isFolder: true, number: 0n, length: 0n, device: 0n };
         const names = [...this.files.keys()];
         if (!this.files.has(path)) return -ENOENT;
@@ -169,7 +172,7 @@ export class NodeHost {
                 return call();
             } catch (error) {
                 if (error.code === "EOF") return 0;
-                if (error.code !== "EAGAIN") return -(NUMBERS[error.code] ?? EIO);
+                if (error.code !== "EAGAIN") return -(NUMBERS[error.code] || EIO);
                 Atomics.wait(new Int32Array(new SharedArrayBuffer(4)), 0, 0, 5);
             }
         }
@@ -183,7 +186,7 @@ export class NodeHost {
     }
 
     close(file) {
-        return this.tried(() => this.fs.closeSync(file) ?? 0);
+        return this.tried(() => this.fs.closeSync(file) || 0);
     }
 
     read(file, into) {
@@ -195,15 +198,15 @@ export class NodeHost {
     }
 
     rename(from, to) {
-        return this.tried(() => this.fs.renameSync(from, to) ?? 0);
+        return this.tried(() => this.fs.renameSync(from, to) || 0);
     }
 
     unlink(path) {
-        return this.tried(() => this.fs.unlinkSync(path) ?? 0);
+        return this.tried(() => this.fs.unlinkSync(path) || 0);
     }
 
     chmod(file, mode) {
-        return this.tried(() => this.fs.fchmodSync(file, mode & 0o7777) ?? 0);
+        return this.tried(() => this.fs.fchmodSync(file, mode & 0o7777) || 0);
     }
 
     real(path) {
@@ -219,27 +222,35 @@ export class NodeHost {
     }
 }
 
-/** The bytes of the module beside this file, in Node. */
-async function beside(fs, url) {
+/** Ends the command with a sentence, as where the arguments are wrong. */
+function stop(why) {
+    process.stderr.write(`cycc: ${why}\n`);
+    process.exit(9);
+}
+
+/** The bytes of a file beside this one, which tools/web has made. */
+function beside(fs, name) {
     try {
-        return fs.readFileSync(new URL("cycc.wasm", url));
+        return fs.readFileSync(new URL(name, import.meta.url));
     } catch {
-        process.stderr.write("cycc: cycc.wasm isn't there beside cycc.mjs: tools/web makes both\n");
-        process.exit(9);
+        return stop(`${name} isn't there beside cycc.mjs: tools/web makes both`);
     }
 }
 
+/** What the module is made of. */
+function version(fs) {
+    const { build } = JSON.parse(beside(fs, "content.json"));
+    return `cycc as WebAssembly${build.replace("This page's program", "")}\n`;
+}
+
 /** The command line. The program runs in a thread with as much stack as ./cycc asks for, since texts may nest deep. */
-async function command() {
-    const { Worker, isMainThread, workerData, parentPort } = await import("node:worker_threads");
-    const fs = (await import("node:fs")).default;
-    if (!isMainThread) {
-        const host = new NodeHost(workerData.words, fs);
-        parentPort.postMessage(answer(workerData.module, host).status);
+function command(fs, Worker) {
+    const words = process.argv.slice(2);
+    if (words[0] === "--version" || words[0] === "-V") {
+        process.stdout.write(version(fs));
         return;
     }
-    const module = new WebAssembly.Module(await beside(fs, import.meta.url));
-    const words = process.argv.slice(2);
+    const module = new WebAssembly.Module(beside(fs, "cycc.wasm"));
     const worker = new Worker(new URL(import.meta.url), { workerData: { words, module, isCycc: true }, resourceLimits: { stackSizeMb: 64 } });
     worker.on("message", (status) => { process.exitCode = status; });
     worker.on("error", (error) => {
@@ -248,14 +259,16 @@ async function command() {
     });
 }
 
-/** Whether this file is what Node was told to run, or the thread that it made. */
-async function isCommand() {
-    if (typeof process === "undefined" || !process.versions?.node) return false;
-    const { isMainThread, workerData } = await import("node:worker_threads");
-    if (!isMainThread) return workerData?.isCycc === true;
-    const { realpathSync } = await import("node:fs");
-    const { fileURLToPath } = await import("node:url");
-    return process.argv[1] !== undefined && realpathSync(process.argv[1]) === fileURLToPath(import.meta.url);
+/** In Node this file may be the command, or the thread that it made, or a part of another program. */
+async function inNode(release) {
+    if (parseInt(release, 10) < LEAST_NODE) stop(`this is Node ${release}, and cycc.mjs needs Node ${LEAST_NODE} or later`);
+    const [fs, threads, urls] = await Promise.all([import("fs"), import("worker_threads"), import("url")]);
+    const { isMainThread, workerData, parentPort, Worker } = threads;
+    if (!isMainThread) {
+        if (workerData && workerData.isCycc) parentPort.postMessage(answer(workerData.module, new NodeHost(workerData.words, fs.default)).status);
+    } else if (process.argv[1] !== undefined && fs.realpathSync(process.argv[1]) === urls.fileURLToPath(import.meta.url)) {
+        command(fs.default, Worker);
+    }
 }
 
-if (await isCommand()) await command();
+if (typeof process !== "undefined" && process.versions && process.versions.node) inNode(process.versions.node);

@@ -25,9 +25,10 @@ function notesOn(text) {
     return /^(Found|Wanted):.*[@?]/m.test(text) ? [...found, MARKS] : found;
 }
 
-/** What is said of two regions, in fewer words: the line of each alone, and what `H is. */
+/** What is said of two regions, in as few words as there is place for beside a line: without their positions, and with what `H is. */
 function briefly(regions) {
-    return regions.replace(/^The region /, "").replace(/\((\d+):\d+\)/g, "(line $1)").replace(/`H\.$/, "`H, the heap.").replace(/^`H /, "`H, the heap, ");
+    const bare = regions.replace(/^The region /, "").replace(/ \(\d+:\d+\)/g, "").replace("has to outlive", "must outlive");
+    return bare.replace(/`H\.$/, "`H, the heap.").replace(/^`H /, "`H, the heap, ");
 }
 
 /** A fault in one line: which region has to outlive which, what was found and wanted, or else what the fault means. */

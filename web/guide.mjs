@@ -6,7 +6,7 @@ import { inline, made, shown } from "./markdown.mjs";
 const BEGIN = [
     ["h2", "Begin here"],
     ["p", "cycc compiles a safe C with regions to RISC-V, and runs it, all in this page: nothing you write leaves your browser."],
-    ["p", "The source is checked as you type. A fault is underlined: its words stand beside the line, and in full in the list below."],
+    ["p", "The source is checked as you type. A fault is underlined: its words stand in the list below, and in short beside the line, where there is room."],
     ["h3", "What is different from C"],
     ["p", "A **region** is memory that is freed all at once. ``region<`r> h;`` opens the region `` `r `` to the end of its block, `rnew(h) 3` makes a number "
         + "in it, and ``int *`r`` is the type of a pointer into it."],
@@ -60,7 +60,10 @@ export class Guide {
     start() {
         const row = this.content.lessons.flatMap((it) => it.rows).find((it) => it.what.includes("Outlives"));
         const buttons = {
-            rejected: ["Show a pointer that is rejected", () => this.try(row.refused, "a source that is rejected")],
+            rejected: ["Show a pointer that is rejected", ({ target }) => {
+                this.try(row.refused, "a source that is rejected");
+                this.body.scrollTop += target.getBoundingClientRect().top - this.body.getBoundingClientRect().top;
+            }],
             mended: ["Show it mended", () => this.try(row.accepted, "the same, accepted")],
             tutorial: ["The first step of the tutorial", () => this.show("lesson 0")],
         };

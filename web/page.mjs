@@ -14,18 +14,35 @@ import { grammarOf } from "./tokens.mjs";
 const DEFAULTS = { input: "", pages: 1024, stackPages: 256, steps: 4294967295 };
 const part = (name) => document.getElementById(name);
 
+/** The fields of numbers, each with the range that its number is to be in. */
+const RANGES = { pages: [1, 4096], stackPages: [1, 4096], steps: [0, 1e15] };
+
+/** Whether a field has a whole number in its range. */
+function isInRange(name) {
+    const { value } = part(name), number = Number(value), [least, most] = RANGES[name];
+    return value !== "" && Number.isInteger(number) && least <= number && number <= most;
+}
+
 /** A number of a field, or what it is by default where it isn't one in range. */
-function numberIn(name, least, most) {
-    const field = part(name), value = Number(field.value);
-    const isGood = Number.isInteger(value) && value >= least && value <= most;
-    field.setAttribute("aria-invalid", String(!isGood));
-    return isGood ? value : DEFAULTS[name];
+function numberIn(name) {
+    return isInRange(name) ? Number(part(name).value) : DEFAULTS[name];
+}
+
+/** Marks each field whose number isn't in range, and says what it has to be, and what is taken in its place. */
+function limits() {
+    const names = Object.keys(RANGES), text = (number) => number.toLocaleString("en-US");
+    const told = (name) => {
+        const [least, most] = RANGES[name].map(text), label = part(name).parentElement.firstChild.data.trim();
+        return `${label}: a whole number from ${least} to ${most}. A run takes ${text(DEFAULTS[name])} now.`;
+    };
+    for (const name of names) part(name).setAttribute("aria-invalid", String(!isInRange(name)));
+    part("limited").textContent = names.filter((it) => !isInRange(it)).map(told).join("\n");
 }
 
 /** The files, the input and the limits of a run, as they stand in the page. */
 function options(editor) {
     const encoder = new TextEncoder();
-    const pages = numberIn("pages", 1, 4096), stackPages = numberIn("stackPages", 1, 4096), steps = numberIn("steps", 0, 1e15);
+    const [pages, stackPages, steps] = ["pages", "stackPages", "steps"].map(numberIn);
     const limits = ["--pages", String(pages), "--stack-pages", String(stackPages)];
     const words = [...limits, "--steps", String(steps), "--ending", "--where", "--stats"];
     return { files: { "program.cyc": encoder.encode(editor.text) }, input: encoder.encode(part("input").value), pages, limits, words, fuel: steps };
@@ -99,6 +116,20 @@ function linking(editor) {
     });
 }
 
+/** Enables a button in place of another, and hands the focus on to it. */
+function enable(name, other) {
+    const hasFocus = document.activeElement === part(other);
+    part(name).disabled = false;
+    if (hasFocus) part(name).focus();
+    part(other).disabled = true;
+}
+
+/** Where neither the output nor another tab on the run is seen, the output comes to be seen. */
+function showRun() {
+    if (!part("instructions").hidden || !part("meaning").hidden) part("tab_output").click();
+    document.querySelector(".panel:not([hidden])").scrollIntoView({ block: "nearest" });
+}
+
 function keys(running, faults) {
     addEventListener("keydown", (event) => {
         if (event.key === "Enter" && (event.ctrlKey || event.metaKey)) running.run();
@@ -117,6 +148,7 @@ function loader(editor, faults, running) {
         running.reset();
         loaded = { name: it.name ?? "program.cyc", source: it.source };
         for (const name of Object.keys(DEFAULTS)) part(name).value = it[name] ?? DEFAULTS[name];
+        limits();
         editor.text = it.source;
         faults.soon(0);
     };
@@ -136,7 +168,10 @@ async function start() {
         if (panel !== "instructions") instructions.leave();
         ({ instructions, memory: picture })[panel]?.show();
     });
-    running.told = (is) => Object.assign(part("run"), { disabled: is }) && Object.assign(part("stop"), { disabled: !is });
+    running.told = (is) => {
+        enable(...is ? ["stop", "run"] : ["run", "stop"]);
+        if (is) showRun();
+    };
     running.ended = (run) => {
         meaning.last = run;
         showStatistics(part("statistics"), run);
@@ -149,6 +184,7 @@ async function start() {
     };
     part("run").addEventListener("click", () => running.run());
     part("stop").addEventListener("click", () => running.stop());
+    for (const name of Object.keys(RANGES)) part(name).addEventListener("input", limits);
     addEventListener("themed", () => picture.choose(picture.at));
     keys(running, faults);
     linking(editor);
@@ -166,6 +202,5 @@ async function start() {
 }
 
 start().catch((error) => {
-    part("build").textContent = `The page can't start: ${error.message}`;
-    part("build").classList.add("bad");
+    for (const name of ["build", "checked"]) Object.assign(part(name), { textContent: `The page can't start: ${error.message}` }).classList.add("bad");
 });

@@ -151,6 +151,11 @@ class Page:
         self.used.press("End")
         self.used.press("Home", shift=True)
 
+    def press_at(self, where, key):
+        """Presses a key where the focus is at the first such element."""
+        self.get(f"(document.querySelector({json.dumps(where)}).focus(), 1)")
+        self.used.press(key)
+
     def press_button(self, words):
         self.get(f"([...document.querySelectorAll('button')].find(it => it.innerText.includes({json.dumps(words)})).click(), 1)")
 
@@ -158,8 +163,13 @@ class Page:
         change = f"it.value = {json.dumps(value)}; it.dispatchEvent(new Event('change')); return 1;"
         self.get(f"((it) => {{ {change} }})(document.querySelector({json.dumps(where)}))")
 
+    def set(self, name, text):
+        """Puts a text into a field, as one who types it."""
+        change = f"it.value = {json.dumps(text)}; it.dispatchEvent(new Event('input')); return 1;"
+        self.get(f"((it) => {{ {change} }})(document.getElementById('{name}'))")
+
     def source(self, text):
-        self.get(f"((it) => {{ it.value = {json.dumps(text)}; it.dispatchEvent(new Event('input')); return 1; }})(document.getElementById('source'))")
+        self.set("source", text)
 
     def type(self, text):
         for it in text:

@@ -75,6 +75,16 @@ RAW = """[...document.querySelectorAll('#guide .reading p, #guide .reading td')]
     .map(it => it.data).filter(it => /^#+ |`|^- |[*][*]|\\]\\(/.test(it))[0] ?? ''"""
 
 
+def keys_run_and_stop(page):
+    page.source(ENDLESS)
+    page.state("Accepted")
+    page.press_at("#run", "Enter")
+    page.until("document.activeElement.id === 'stop'", "the focus is at Stop")
+    page.used.press(" ")
+    page.ended("You stopped it")
+    assert page.get("document.activeElement.id") == "run", "and at Run again"
+
+
 def tokens_are_coloured(page):
     page.source(COLOURED)
     pairs = page.get("[...document.querySelectorAll('#editor .line span')].map(it => [it.textContent, it.className])")
@@ -180,6 +190,31 @@ def examples_are_loaded_whole(page):
     page.state("Accepted")
 
 
+def limits_out_of_range_are_told(page):
+    page.choose("#example", "examples/hello.cyc")
+    for wrong in ("5000", "", "1.5"):
+        page.set("pages", wrong)
+        said = page.text("#limited")
+        assert said == "Pages: a whole number from 1 to 4,096. A run takes 1,024 now.", f"{wrong}: {said}"
+        assert page.get("document.getElementById('pages').getAttribute('aria-invalid')") == "true"
+    page.check_contrast("a limit out of range")
+    page.shot("limits")
+    page.set("pages", "4096")
+    assert page.text("#limited") == "" and page.get("document.getElementById('pages').getAttribute('aria-invalid')") == "false"
+    page.set("pages", "1024")
+
+
+def a_run_is_seen(page):
+    """From the instructions a run leads to its output; statistics are looked at on."""
+    hello_runs(page)
+    for tab, shown in (("instructions", "output"), ("meaning", "output"), ("statistics", "statistics"), ("memory", "memory")):
+        page.tab(tab)
+        page.run()
+        page.ended("main returned 0")
+        assert not page.get(f"document.getElementById('{shown}').hidden"), f"{tab}: {shown} is hidden"
+    page.tab("output")
+
+
 def a_theme_is_chosen(page):
     before = page.get("document.documentElement.dataset.theme")
     page.click("#theme")
@@ -241,6 +276,11 @@ def keyboard_suffices(page):
     page.used.press("F8")
     page.stands_at("one;", "F8 goes to the fault")
     assert page.get("document.activeElement.id") == "source"
+    page.press_at("#guide button", "Enter")
+    page.state("1 fault")
+    page.press_at("#tab_instructions", " ")
+    assert not page.get("document.getElementById('instructions').hidden"), "Space chooses the tab"
+    page.tab("output")
 
 
 # whether a part is seen whole within another
@@ -262,9 +302,12 @@ def narrow_screens_do(page):
         assert page.get("document.getElementById('tab_memory').getBoundingClientRect().right") <= width, "each tab is seen"
     page.shot("narrow")
     page.get("(document.getElementById('writing').scrollIntoView(), 1)")
+    page.shot("narrow_source")
     page.run()
     page.ended("main returned 0")
-    page.shot("narrow_source")
+    bottom = page.get("document.querySelector('#output .ending').getBoundingClientRect().bottom")
+    assert 0 < bottom <= 844, f"the ending is seen: its bottom is at {bottom}"
+    page.shot("narrow_run")
     page.get("(document.getElementById('results').scrollIntoView(), 1)")
     page.shot("narrow_results")
     page.source(LISTED)

@@ -160,12 +160,14 @@ def a_lesson_is_gone_through(page):
 
 def an_outlives_is_mended(page):
     """What a newcomer does by the mouse and keys alone: opens the page, looks at the fault, goes to it, mends it as the page says, and runs it."""
+    page.used.size(1280, 800)
     page.open()
     page.state("Accepted")
     page.point_at("#guide button", "Show a pointer that is rejected")
     page.state("1 fault")
     words = page.text(".beside")
-    assert words.startswith("Outlives") and "has to outlive" in words, words
+    assert words == "Outlives: `r must outlive `H, the heap.", words
+    assert page.get("((it) => it.scrollWidth <= it.clientWidth)(document.querySelector('.beside'))"), "all words beside the line are seen"
     told = page.value().split("\n")
     assert "int *p" in told[1] and "p = rnew" in told[4], "the lines that the page names"
     page.shot("newcomer_fault")
@@ -189,6 +191,7 @@ def an_outlives_is_mended(page):
     page.used.press("Enter", control=True)
     page.ended("main returned 3")
     page.shot("newcomer_mended")
+    page.used.size(1440, 900)
 
 
 def states_are_light_and_dark(page):

@@ -7,6 +7,7 @@ use cyc_tree::{
     BlockItem, Constant, Declaration, Expression, Function, Initial, Item, Pattern, Program,
     Statement, Suffix, nesting,
 };
+use region_types::typed;
 use std::alloc::{AllocError, Global};
 use std::test::Fail;
 
@@ -248,5 +249,24 @@ fn more_tokens_than_a_text_has(rt: HostRuntime) -> Result<(), Fail> {
     let many = too_many_tokens(rt.alloc())?;
     let is_right = matches!(parse(rt.alloc(), &many), Err(ParseFault::Parse(1_048_576)));
     assert!(rt; is_right);
+    Ok(())
+}
+
+/// Where the first fault of types stands that is found in a copy of a text's program.
+fn fault_in_copy(alloc: Global, text: &str) -> Result<Option<u32>, Fail> {
+    let program = program_of(alloc, text)?;
+    let copy = typed(alloc, &program)?;
+    Ok(match copy.fault() {
+        Some(fault) => Some(fault.at),
+        None => None,
+    })
+}
+
+#[test]
+fn a_copy_is_judged(rt: HostRuntime) -> Result<(), Fail> {
+    let accepted = fault_in_copy(rt.alloc(), "int main() { return 0; }")?;
+    let refused = fault_in_copy(rt.alloc(), "int main() { return zz; }")?;
+    assert!(rt; accepted.is_none());
+    assert!(rt; refused == Some(20));
     Ok(())
 }

@@ -45,9 +45,16 @@ export function partsOf(said) {
 
 /** What had no space, in a sentence, and what may help. */
 function lackInWords(lacking) {
-    const frame = /^stack: frame of (\d+) bytes in (\S+)$/.exec(lacking), request = /^arena: (\S+)( of \d+ bytes)? in (\S+)$/.exec(lacking);
-    if (frame) return `Stopped: the stack has no space for a frame of ${frame[1]} bytes, which a call of ${frame[2]} needs. More stack pages may help.`;
-    if (request) return `Stopped: the pages are used up. ${request[3]} asked for more, by ${request[1]}${request[2] ?? ""}. More pages may help.`;
+    const frame = /^stack: frame of (\d+) bytes in ([^ ;]+)(?:; (\d+) bytes are left)?$/.exec(lacking);
+    if (frame) {
+        const left = frame[3] ? `; ${frame[3]} are left` : "";
+        return `Stopped: the stack has no space for a frame of ${frame[1]} bytes, which a call of ${frame[2]} needs${left}. More stack pages may help.`;
+    }
+    const request = /^arena: (\S+)( of \d+ bytes)? in ([^ ,;]+)(, which takes [^;]+)?(; .*)?$/.exec(lacking);
+    if (request) {
+        const [, call, bytes = "", by, takes = "", left = ""] = request;
+        return `Stopped: the arena has no space for what ${by} asked for, by ${call}${bytes}${takes}${left}.${takes ? " More pages may help." : ""}`;
+    }
     return "Stopped: the memory is used up. More pages or stack pages may help.";
 }
 

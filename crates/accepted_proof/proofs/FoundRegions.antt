@@ -52,7 +52,7 @@ region_below n names (Some (tree.Heap at)) h = tt
 region_below n names (Some (tree.Unique at)) h = tt
 region_below n names (Some (tree.Named x)) h = named_below n names x.at x.text h
 
--- where none is at fault
+-- where none has a fault
 region_found : (names : List RegionNamed) (r : Option tree.RegionName) → (found_by names r true).1 ≡ [] → IsFoundAs true r (found_by names r true).0
 region_found names None e = refl
 region_found names (Some (tree.Heap at)) e = tt

@@ -59,7 +59,7 @@ found_alike (n ∷ g) (m ∷ h) x k =
 found_alike [] (m ∷ h) x k = absurd k
 found_alike (n ∷ g) [] x k = absurd k
 
--- what a name means before a tag is judged: that tag, which isn't judged; or what it means in the end, where each tag is without fault
+-- what a name means before a tag is judged: that tag, which isn't checked; or what it means in the end, where each tag is without fault
 abbrev pub IsUnjudged : Option Entry → Type 0
 IsUnjudged (Some (OfTag t)) = (t.sound ≡ false)
 IsUnjudged _ = ⊥
@@ -191,7 +191,7 @@ pointed_fits at n union why s bad (Some p) never e h k =
     subst (λ fs. faults_of (after (after (unless_faulty fs (type_built at (Some p))) (settled_alone at)) (head_fitting union at)) ≡ []) (sym e)
     (filled_fits at n union s p h.0 k)
 
--- regions that are at fault are so in the end
+-- regions that have a fault are so in the end
 pub no_bad : (g : Env) (union : Bool) (t : TypeName) (fs : List Found) (bad : List Fault) (v : Verdict ℕ)
     → faults_of (after (after (written_on t fs bad v) (settled_alone t.at)) (member_fitting g union t.at)) ≡ [] → bad ≡ []
 no_bad g union t fs [] v p = refl

@@ -86,7 +86,7 @@ no_union (ThinShape b o s) tag h e = cc
 no_union (FatShape s) tag h e = cc
 no_union _ tag h e = h
 
--- a name that is no tag of that kind is at fault
+-- a name that is no tag of that kind has a fault
 pub record TagFound (g : Tables) (union : Bool) (y : List ℕ) : Type 0 where
   pub tag : Tag
   pub is : find g y ≡ Some (OfTag tag)
@@ -112,7 +112,7 @@ tag_found g union at y rest faulty tags p = by (find g y) refl (tags y) p
     by (Some (OfValue (Stored t r))) q k p = absurd (faulty _ _ p)
     by (Some (OfValue (Arrayed t r))) q k p = absurd (faulty _ _ p)
     by (Some (OfValue Counter)) q k p = absurd (faulty _ _ p)
-    by (Some (OfValue Unknown)) q k p = absurd k
+    by (Some (OfValue (Unknown sound))) q k p = absurd k
     by (Some (OfBuiltin n)) q k p = absurd (faulty _ _ p)
     by (Some OfOther) q k p = absurd (faulty _ _ p)
 

@@ -252,7 +252,7 @@ module _ (bodies : BodiesJudged) (p : Program) (accepted : IsAccepted p) where
       by (OfValue (Stored t r)) h s = s.0
       by (OfValue (Arrayed t r)) h s = s.0
       by (OfValue Counter) h s = no_counter x h
-      by (OfValue Unknown) h s = absurd s
+      by (OfValue (Unknown sound)) h s = absurd s
       by (OfTag t) h s = tag_is x t h
       by (OfFunction s) h k = its_function x s h
       by (OfBuiltin n) h s = builtin_is x n h

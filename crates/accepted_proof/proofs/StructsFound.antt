@@ -1,4 +1,4 @@
--- The structs and unions of a program in which no tag is at fault: its tables have each of them under its name, and nothing else under it.
+-- The structs and unions of a program in which no tag has a fault: its tables have each of them under its name, and nothing else under it.
 use Rattle.std.proofs.Common.{◌≡◌, ◌≤◌, ℕ, suc, Bool, true, false, Some, List, [], ◌∷◌, refl, sym, subst, ap, ◌∙◌, arith}
 use Rattle.std.specs.Prelude.{◌+◌, ◌++◌, ◌||◌, bytes_eq, codes, if◌then◌else◌, length, map, not}
 use Rattle.std.proofs.lemmas.Bool.{false≢true, not-true}

@@ -1,4 +1,4 @@
--- Phrases that are at fault or in order, and never left without judgement: how a phrase follows its parts.
+-- Phrases that have a fault or are in order, and never left without judgement: how a phrase follows its parts.
 use Rattle.std.proofs.Common.{◌≡◌, ℕ, Bool, true, false, List, [], ◌∷◌, refl}
 use Rattle.source_typing.specs.Faults.{Fault}
 use Rattle.source_typing.specs.Verdicts.{Faulty, Of, Unjudged, Verdict, after, both, faults_of, if_fits, other_kind, unless_faulty}

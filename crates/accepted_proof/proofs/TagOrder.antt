@@ -125,7 +125,7 @@ judged_known g i (tree.FunctionItem f) p = tt
 pub builtins_alike : (g h : Tables) → TablesAlike g h → TablesAlike (builtins g) (builtins h)
 builtins_alike g h k = (refl, tt, (refl, tt, k))
 
--- what is known of the items that aren't judged yet
+-- what is known of the items that aren't checked yet
 pub first_known : (b : Tables) (i : ℕ) (done : List Judged) (is : List Item) → KnowsTags (builtins b)
     → TablesAlike (entries done ++ first_from (builtins b) i is) b
     → all_tag_faults (judged_list (builtins b) i done is) ≡ [] → KnowsTags (entries done) → KnowsTags (first_from (builtins b) i is)

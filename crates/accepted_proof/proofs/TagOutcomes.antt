@@ -1,4 +1,4 @@
--- The structs and unions of a program in which no tag is at fault: each struct has a tag of its own and is made of earlier ones, each union has scalar
+-- The structs and unions of a program in which no tag has a fault: each struct has a tag of its own and is made of earlier ones, each union has scalar
 -- members with names of their own, and the tables have their members.
 use Rattle.std.proofs.Common.{◌≡◌, ◌≤◌, ℕ, suc, Bool, true, false, Some, List, [], ◌∷◌, ◌++◌, refl, sym, subst, ap, ◌∙◌, arith}
 use Rattle.std.specs.Prelude.{◌+◌, codes, if◌then◌else◌, length, not}

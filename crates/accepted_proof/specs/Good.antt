@@ -126,7 +126,7 @@ pub record IsGood (g : Env) : Type 0 where
 
 -- ---- expressions
 
--- a phrase is at fault, or it is in order, and this holds of it
+-- a phrase has a fault, or it is in order, and this holds of it
 abbrev pub Surely : {A : Type 0} → (A → Type 0) → Verdict A → Type 0
 Surely P (Of a) = P a
 Surely P (Faulty f fs) = Unit {0}
@@ -151,7 +151,7 @@ pub record IsGoodValue (g : Env) (v : Value) : Type 0 where
   pub seat : SeatBelow g.regions.count v.seat
   pub object : is_place v.seat ≡ true → IsObjectType v.type
 
--- each expression is at fault, or it is in order
+-- each expression has a fault, or it is in order
 abbrev pub ExpressionsJudged : Type 0
 ExpressionsJudged = (e : Expression) (g : Env) → IsGood g → Surely (λ v. IsGoodValue g v) (judge g e)
 

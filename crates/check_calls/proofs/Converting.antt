@@ -59,7 +59,7 @@ module _ (g : Env) (some : List (Option Region)) (rs : List Region) where
       ap (λ qs. of_one qs (Some p) v ++ arguments_faults true g some rs ps vs) e
       ∙ ap (λ fs. of_one (map or_heap some) (Some p) v ++ fs) (partly_is ps vs e)
 
--- a variable at fault counts as the heap, and so does one that nothing fixes
+-- a variable with a fault counts as the heap, and so does one that nothing fixes
 heap_in : (fs : List (Option code.Fixing)) → regions_by (fixings_of fs) ≡ map or_heap (which_are_known (fixings_of fs))
 heap_in [] = refl
 heap_in (None ∷ fs) = ap (λ rs. TheHeap ∷ rs) (heap_in fs)

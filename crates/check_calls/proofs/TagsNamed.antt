@@ -41,6 +41,7 @@ module _ (tables : code_tables.Tables) (g : Env) (has : HasTags tables g.tables)
   struct_found at e m n means.Means.CounterValue i k = absurd cc
   struct_found at e m n (means.Means.Function f) i k = absurd cc
   struct_found at e m n (means.Means.Builtin c) i k = absurd cc
+  struct_found at e m n means.Means.UntypedValue i k = absurd cc
   struct_found at e m n means.Means.UnknownValue i k = absurd cc
   struct_found at e m n (means.Means.UnsoundFunction f u) i k = absurd cc
   struct_found at e m n (means.Means.UnsoundTag t u) i k = absurd cc
@@ -59,6 +60,7 @@ module _ (tables : code_tables.Tables) (g : Env) (has : HasTags tables g.tables)
   union_found y f e m n means.Means.CounterValue i k = absurd cc
   union_found y f e m n (means.Means.Function s) i k = absurd cc
   union_found y f e m n (means.Means.Builtin c) i k = absurd cc
+  union_found y f e m n means.Means.UntypedValue i k = absurd cc
   union_found y f e m n means.Means.UnknownValue i k = absurd cc
   union_found y f e m n (means.Means.UnsoundFunction s u) i k = absurd cc
   union_found y f e m n (means.Means.UnsoundTag t u) i k = absurd cc

@@ -20,11 +20,11 @@ use Rattle.source_typing.specs.Types.{StaticType, renamed}
 use Rattle.source_typing.specs.Verdicts.{Unjudged, Verdict}
 use Rattle.check_faults.specs.Verdicts.{Is, NotJudged, Short, Wrong}
 
--- whether a conversion to a parameter's type is looked at with its regions, by whether a variable is at fault and by those that are known
+-- whether a conversion to a parameter's type is looked at with its regions, by whether a variable has a fault and by those that are known
 abbrev pub is_whole : Bool → List (Option Region) → StaticType → Bool
 is_whole partly some t = not partly || all_regions (is_known some) t
 
--- of one argument: by whether a variable is at fault, those that are known, and what all stand for; to a parameter of no known type there is none
+-- of one argument: by whether a variable has a fault, those that are known, and what all stand for; to a parameter of no known type there is none
 abbrev pub argument_faults : Bool → Env → List (Option Region) → List Region → Option CType → Value → List Fault
 argument_faults partly g some rs None v = []
 argument_faults partly g some rs (Some p) v =

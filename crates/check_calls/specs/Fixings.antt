@@ -91,7 +91,7 @@ abbrev pub fixing_faults : List (Option Fixing) → List Fault
 fixing_faults [] = []
 fixing_faults (o ∷ os) = fixing_fault o ++ fixing_faults os
 
--- the heap stands in for one at fault, and for one that nothing fixes
+-- the heap stands in for one with a fault, and for one that nothing fixes
 abbrev pub region_by : Option Fixing → Region
 region_by None = TheHeap
 region_by (Some f) = found_or_heap f.is

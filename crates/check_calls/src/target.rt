@@ -59,6 +59,10 @@ fn target_by<'a, 'p>(
             kind: FaultKind::Typing,
             at,
         }),
+        Some(Named::Untyped) => Verdict::Wrong(Fault {
+            kind: FaultKind::Typing,
+            at,
+        }),
         Some(Named::Tag { is_union: true, .. }) => Verdict::Wrong(Fault {
             kind: FaultKind::Typing,
             at,

@@ -119,6 +119,10 @@ fn union_by<'a, 'p>(
             kind: FaultKind::Typing,
             at,
         }),
+        Some(Named::Untyped) => Verdict::Wrong(Fault {
+            kind: FaultKind::Typing,
+            at,
+        }),
         Some(Named::Tag { is_union: true, .. }) => made,
         Some(Named::FaultyTag(_) | Named::NotKnown) => Verdict::NotJudged,
     }

@@ -30,7 +30,7 @@ use Rattle.check_declarations.specs.declared.context.Context.{Context}
 -- ---- lists of faults
 
 -- what is declared where a fault is answered
-pub what_unsound : (fs : List Fault) (w : What) (f : Fault) → Some f ≡ earliest fs → what_after fs w ≡ Unknown
+pub what_unsound : (fs : List Fault) (w : What) (f : Fault) → Some f ≡ earliest fs → what_after fs w ≡ Unknown false
 what_unsound [] w f e = absurd cc
 what_unsound (g ∷ fs) w f e = refl
 
@@ -52,26 +52,26 @@ module _ (r : Region) (count : Option ℕ) where
   pub what_unset : (t : Verdict StaticType) → what_after (verdict.faults_of t) (what_of r count t) ≡ what_of r count t
   what_unset (Faulty f fs) = by count
     where
-      by : (n : Option ℕ) → Unknown ≡ what_of r n (Faulty f fs)
+      by : (n : Option ℕ) → Unknown false ≡ what_of r n (Faulty f fs)
       by None = refl
       by (Some n) = refl
   what_unset Unjudged = refl
   what_unset (Of t) = refl
 
-  pub wrong_what : (t : Verdict StaticType) (f : Fault) → Wrong f ≡ shortened t → what_of r count t ≡ Unknown
+  pub wrong_what : (t : Verdict StaticType) (f : Fault) → Wrong f ≡ shortened t → what_of r count t ≡ Unknown false
   wrong_what (Faulty x xs) f e = by count
     where
-      by : (n : Option ℕ) → what_of r n (Faulty x xs) ≡ Unknown
+      by : (n : Option ℕ) → what_of r n (Faulty x xs) ≡ Unknown false
       by None = refl
       by (Some n) = refl
   wrong_what Unjudged f e = absurd cc
   wrong_what (Of t) f e = absurd cc
 
-  pub unjudged_what : (t : Verdict StaticType) → NotJudged ≡ shortened t → what_of r count t ≡ Unknown
+  pub unjudged_what : (t : Verdict StaticType) → NotJudged ≡ shortened t → what_of r count t ≡ Unknown true
   unjudged_what (Faulty x xs) e = absurd cc
   unjudged_what Unjudged e = by count
     where
-      by : (n : Option ℕ) → what_of r n Unjudged ≡ Unknown
+      by : (n : Option ℕ) → what_of r n Unjudged ≡ Unknown true
       by None = refl
       by (Some n) = refl
   unjudged_what (Of t) e = absurd cc
@@ -120,9 +120,9 @@ own_second g (tree.Alias at r t y p) x = begun_second g r (with_name true) x
 own_second g (tree.NewKey at r y) x = begun_second g r (with_name false) x
 
 -- where no region is opened
-pub wrong_opened : (frame : Region) (v : Verdict Region) (f : Fault) → Wrong f ≡ shortened v → opened_what frame v ≡ Unknown
+pub wrong_opened : (frame : Region) (v : Verdict Region) (f : Fault) → Wrong f ≡ shortened v → opened_what frame v ≡ Unknown false
 wrong_opened frame (Faulty x xs) f e = refl
-wrong_opened frame Unjudged f e = refl
+wrong_opened frame Unjudged f e = absurd cc
 wrong_opened frame (Of r) f e = absurd cc
 
 pub wrong_scope : (g : Env) (v : Verdict Region) (f : Fault) → Wrong f ≡ shortened v → g ≡ opened_scope g v
@@ -130,8 +130,8 @@ wrong_scope g (Faulty x xs) f e = refl
 wrong_scope g Unjudged f e = refl
 wrong_scope g (Of r) f e = absurd cc
 
-pub unjudged_opened : (frame : Region) (v : Verdict Region) → NotJudged ≡ shortened v → opened_what frame v ≡ Unknown
-unjudged_opened frame (Faulty x xs) e = refl
+pub unjudged_opened : (frame : Region) (v : Verdict Region) → NotJudged ≡ shortened v → opened_what frame v ≡ Unknown true
+unjudged_opened frame (Faulty x xs) e = absurd cc
 unjudged_opened frame Unjudged e = refl
 unjudged_opened frame (Of r) e = absurd cc
 

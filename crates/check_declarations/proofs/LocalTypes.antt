@@ -44,6 +44,7 @@ tag_meant e m (means.Array t r) = refl
 tag_meant e m means.CounterValue = refl
 tag_meant e m (means.Function s) = refl
 tag_meant e m (means.Builtin n) = refl
+tag_meant e m means.UntypedValue = refl
 tag_meant e m means.UnknownValue = refl
 tag_meant e m (means.UnsoundFunction s u) = ap (λ (b : Bool). tag_name_of (Some (if b then OfFunction s else faulty_tag))) u
 tag_meant e m (means.SoundTag t u) = ap (λ (b : Bool). if b then tag.Tag t.is_union t.regions else tag.NotJudged t.regions) u

@@ -32,8 +32,8 @@ module _ (frame : RegionId) (k : Option StaticType) where
   pub known_is : (t : CType) → Some (static_type t) ≡ k → WhatIs (what_of_known (region_of frame) k) (variant.Variable t frame)
   known_is t e = subst (λ (o : Option StaticType). WhatIs (what_of_known (region_of frame) o) (variant.Variable t frame)) e (means.WhatIs.Variable t frame)
 
-  pub unknown_is : None ≡ k → WhatIs (what_of_known (region_of frame) k) variant.NotKnown
-  unknown_is e = subst (λ (o : Option StaticType). WhatIs (what_of_known (region_of frame) o) variant.NotKnown) e means.WhatIs.NotKnown
+  pub unknown_is : None ≡ k → WhatIs (what_of_known (region_of frame) k) variant.Untyped
+  unknown_is e = subst (λ (o : Option StaticType). WhatIs (what_of_known (region_of frame) o) variant.Untyped) e means.WhatIs.Untyped
 
 -- ---- one parameter is declared
 

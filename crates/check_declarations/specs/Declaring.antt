@@ -57,7 +57,8 @@ opened_scope g v = g
 
 abbrev pub opened_what : Region → verdict.Verdict Region → What
 opened_what frame (verdict.Of r) = Stored (Handle r) frame
-opened_what frame v = Unknown
+opened_what frame (verdict.Faulty f fs) = Unknown false
+opened_what frame verdict.Unjudged = Unknown true
 
 -- what is in scope after an alias's region begins
 abbrev pub alias_scope : Env → tree.RegionName → Env

@@ -91,7 +91,7 @@ fn add_local<'p>(
 }
 
 /// Declares a local in the innermost block, whose own locals come after the first `outer` ones, and answers the earliest fault of its
-/// declaration. One whose declaration is at fault is declared as one of no known type, apart from a handle, and a second one of a name
+/// declaration. One whose declaration has a fault is declared as one of no known type, apart from a handle, and a second one of a name
 /// leaves the first.
 pub fn declare<'p>(
     scope: &mut Scope<'_, 'p>,

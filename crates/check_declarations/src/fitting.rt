@@ -21,7 +21,7 @@ use check_types::{TagName, type_tag};
 use cyc_tree::TypeName;
 use cyc_types::{BaseType, CType, MOST_BYTES, Tables};
 
-/// What a name means where a tag is wanted, by what it means in scope. A name whose declaration has a fault isn't judged.
+/// What a name means where a tag is wanted, by what it means in scope. A name whose declaration has a fault isn't checked.
 fn tag_name(named: Option<Named<'_, '_>>) -> TagName
     ensures { result ≡ tag_of_meaning (option_map meaning_of named.entry) }
 {
@@ -32,7 +32,8 @@ fn tag_name(named: Option<Named<'_, '_>>) -> TagName
         Some(Named::NotKnown) => TagName::NotJudged(0),
         Some(Named::Variable(_, _)) => TagName::Other,
         Some(Named::Array(_, _)) => TagName::Other,
-        Some(Named::Counter | Named::Function(_) | Named::Builtin(_)) => TagName::Other,
+        Some(Named::Counter | Named::Untyped) => TagName::Other,
+        Some(Named::Function(_) | Named::Builtin(_)) => TagName::Other,
     }
 }
 

@@ -1,6 +1,6 @@
 // Locals, by their types and their initializers.
 
-ghost use Rattle.std.specs.Prelude.{◌≡◌, IfOk, List, None, Option};
+ghost use Rattle.std.specs.Prelude.{◌≡◌, IfOk, List, None, Option, Some, false, true};
 ghost use Rattle.cyc_tree.specs.View.{expression_tree, initializer_tree, type_tree};
 ghost use Rattle.cyc_types.specs.Bases.{base_type};
 ghost use Rattle.cyc_types.specs.Regions.{region_of};
@@ -11,7 +11,7 @@ ghost use Rattle.source_typing.specs.Faults.{earliest};
 ghost use Rattle.source_typing.specs.Scope.{Env};
 ghost use Rattle.source_typing.specs.Tables.{Stored, Unknown};
 ghost use Rattle.source_typing.specs.Types.{StaticType};
-ghost use Rattle.check_faults.specs.Faults.{faults_of};
+ghost use Rattle.check_faults.specs.Faults.{fault_of, faults_of};
 ghost use Rattle.check_faults.specs.Verdicts.{short_of, shortened};
 ghost use Rattle.check_operators.specs.Values.{value_of};
 ghost use Rattle.check_scopes.specs.Knows.{Knows};
@@ -88,7 +88,7 @@ pub(crate) fn what_of<'p>(frame: RegionId, count: Option<u32>, of: Verdict<CType
     match of {
         Verdict::Of(of) => what_of_type(frame, count, of),
         Verdict::Wrong(_) => What::NotKnown,
-        Verdict::NotJudged => What::NotKnown,
+        Verdict::NotJudged => What::Untyped,
     }
 }
 
@@ -167,13 +167,23 @@ pub(crate) fn plain_local<'p>(
     }
 }
 
-/// A local of no known type, by the fault of its declaration.
-pub(crate) fn unknown_local<'p>(fault: Option<Fault>) -> Judged<'p>
-    ensures { (fs : List rules.Fault) → faults_of fault ≡ earliest fs → Matches fs Unknown result }
+/// A local whose declaration has this fault.
+pub(crate) fn faulty_local<'p>(fault: Fault) -> Judged<'p>
+    ensures { (fs : List rules.Fault) → Some (fault_of fault) ≡ earliest fs → Matches fs (Unknown false) result }
 {
     Judged {
-        fault,
+        fault: Some(fault),
         what: What::NotKnown,
+    }
+}
+
+/// A local of no known type, whose declaration has no fault.
+pub(crate) fn untyped_local<'p>() -> Judged<'p>
+    ensures { (fs : List rules.Fault) → None ≡ earliest fs → Matches fs (Unknown true) result }
+{
+    Judged {
+        fault: None,
+        what: What::Untyped,
     }
 }
 

@@ -87,7 +87,7 @@ pub(crate) fn unset_type<'p>(
     local_type(scope, context.item, written, of.at, count, false, None)
 }
 
-/// A type whose missing regions aren't known: its fault, or else it isn't judged.
+/// A type whose missing regions aren't known: its fault, or else it isn't checked.
 #[tactic(auto, using(crate::proofs::LocalTypes::unsettled_is))]
 fn unsettled<'p>(of: &Verdict<WrittenType<'p>>) -> Verdict<CType<'p>>
     ensures { (w : verdict.Verdict PartialType) → short_of partial_type of.now ≡ shortened w

@@ -156,7 +156,7 @@ fn bound_what<'p>(
 {
     match union {
         Some(union) => bound_member(union, frame, field),
-        None => Ok(What::NotKnown),
+        None => Ok(What::Untyped),
     }
 }
 
@@ -171,7 +171,7 @@ fn bound_member<'p>(
 {
     match union.member(&field.text) {
         Some(member) => member_what(member, union.chosen.regions, frame),
-        None => Ok(What::NotKnown),
+        None => Ok(What::Untyped),
     }
 }
 
@@ -188,7 +188,7 @@ fn member_what<'p>(
             let renamed = renamed_type(regions, of)?;
             Ok(What::Variable(renamed, frame))
         }
-        None => Ok(What::NotKnown),
+        None => Ok(What::Untyped),
     }
 }
 

@@ -22,7 +22,7 @@ ghost use Rattle.cyc_tree.specs.Tree as tree;
 ghost use Rattle.source_typing.specs.Faults as rules;
 
 use crate::context::Context;
-use crate::local::{Judged, plain_local, unknown_local};
+use crate::local::{Judged, faulty_local, plain_local, untyped_local};
 use crate::operand::{Kind, operand};
 use check_faults::{Fault, FaultKind, Verdict, sooner};
 use check_operators::Value;
@@ -158,7 +158,7 @@ pub(crate) fn own_open<'p>(
             let handle = BaseType::Handle(opened);
             Ok(plain_local(alloc, context, None, handle))
         }
-        Verdict::Wrong(fault) => Ok(unknown_local(Some(fault))),
-        Verdict::NotJudged => Ok(unknown_local(None)),
+        Verdict::Wrong(fault) => Ok(faulty_local(fault)),
+        Verdict::NotJudged => Ok(untyped_local()),
     }
 }

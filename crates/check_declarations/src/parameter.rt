@@ -24,7 +24,7 @@ fn local_of<'p>(frame: RegionId, of: &Verdict<CType<'p>>) -> Result<What<'p>, Al
 {
     match known_type(of) {
         Some(of) => Ok(What::Variable(of.try_clone()?, frame)),
-        None => Ok(What::NotKnown),
+        None => Ok(What::Untyped),
     }
 }
 

@@ -18,7 +18,7 @@ enclosed_short (Is NoHandle) = NotKnown
 enclosed_short (Wrong f) = NotKnown
 enclosed_short NotJudged = NotKnown
 
--- what is answered of a making that isn't judged, since a part of it isn't, by whether a part that is known is of no such making
+-- what is answered of a making that isn't checked, since a part of it isn't, by whether a part that is known is of no such making
 abbrev pub short_by_parts : ℕ → Bool → Short Value → Short Value
 short_by_parts at misfits (Is v) = Is v
 short_by_parts at misfits (Wrong f) = Wrong f

@@ -29,8 +29,8 @@ use cyc_tree::{Expression, Link, Made, Name, Suffix};
 use cyc_types::RegionId;
 use std::alloc::{AllocError, Global};
 
-/// What an expression is in a scope: the earliest fault of it and its parts; that it isn't judged, since a name in it is declared by a
-/// phrase at fault; or its type, and where it is a place.
+/// What an expression is in a scope: the earliest fault of it and its parts; that it isn't checked, since a name in it is declared by a
+/// phrase with a fault; or its type, and where it is a place.
 #[tactic(auto, using(crate::proofs::Within::nothing_around))]
 pub fn judge<'p>(
     scope: &Scope<'_, 'p>,

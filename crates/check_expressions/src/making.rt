@@ -99,7 +99,7 @@ fn any_misfits(goal: &Verdict<Goal>, count: &Verdict<Value>, element: &Verdict<V
     is_no_place_of_arrays(goal) || is_no_integer(count) || is_unmakeable(element)
 }
 
-/// What is answered of a making that isn't judged, since a part of it isn't: it is at fault where a part that is known is of no such making.
+/// What is answered of a making that isn't checked, since a part of it isn't: it has a fault where a part that is known is of no such making.
 fn by_parts<'p>(at: u32, misfits: bool, made: Verdict<Value<'p>>) -> Verdict<Value<'p>>
     ensures { short_of value_of result ≡ short_by_parts at misfits (short_of value_of made.entry) }
 {
@@ -128,7 +128,7 @@ fn made_both<'p>(
     }
 }
 
-/// What is made of a value, by where it is made and what it is. A part of these that is known and is of no making is at fault here, whether or
+/// What is made of a value, by where it is made and what it is. A part of these that is known and is of no making has a fault here, whether or
 /// not the other one is judged.
 pub fn made_parts<'p>(
     at: u32,

@@ -29,7 +29,7 @@ shortened_after (Faulty f fs) rule = refl
 shortened_after Unjudged rule = refl
 shortened_after (Of a) rule = refl
 
--- the fault that is answered of two phrases at fault
+-- the fault that is answered of two phrases with a fault
 both_wrong : (f g : Fault) (a b : Option Fault)
     → Some (unwrap_or (first_of (sooner_of f a) (sooner_of g b)) f) ≡ first_of (Some (unwrap_or (sooner_of f a) f)) (Some (unwrap_or (sooner_of g b) g))
 both_wrong f g None None = refl

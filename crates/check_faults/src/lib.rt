@@ -1,4 +1,4 @@
-//! What a phrase is: at fault, not judged, or in order, as the rules of `source_typing` say it, with the first fault alone.
+//! What a phrase is: with a fault, not checked, or in order, as the rules of `source_typing` say it, with the first fault alone.
 #![tactic(auto)]
 
 mod fault;

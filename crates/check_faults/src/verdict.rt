@@ -9,7 +9,7 @@ use crate::fault::{Fault, sooner};
 pub enum Verdict<T> {
     /// At fault; this is the fault that is answered.
     Wrong(Fault),
-    /// Not known, since a name in it is declared by a phrase at fault.
+    /// Not known, since a name in it is declared by a phrase with a fault.
     NotJudged,
     /// In order.
     Of(T),

@@ -84,7 +84,7 @@ fn may_name(lenient: bool, keys: &[RegionId], region: RegionId) -> bool
     lenient || !is_among(keys, region)
 }
 
-/// The region that an effect names, at fault at the name unless it fits: keys' regions don't.
+/// The region that an effect names, with a fault at the name unless it fits: keys' regions don't.
 fn unless_key(fits: bool, region: RegionId, at: u32) -> Verdict<RegionId>
     ensures { short_of region_of result ≡ shortened (if_no_key fits at (region_of region)) }
 {

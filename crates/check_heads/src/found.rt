@@ -87,7 +87,7 @@ fn main_fault(name: &Name, parameters: &[Parameter<'_>], of: &Verdict<CType<'_>>
 }
 
 /// The earliest fault of a head of this name, result and parameters, with the fault of its effect and bounds. The form of `main` is looked
-/// at only where nothing else is at fault.
+/// at only where nothing else has a fault.
 pub(crate) fn head_fault(
     alloc: Global,
     name: &Name,

@@ -24,7 +24,7 @@ use cyc_tree::Name;
 use cyc_types::{BaseType, Layer, Member, RegionId, Tables};
 use std::alloc::AllocError;
 
-/// A member of a struct with these region arguments; one of no known type isn't judged.
+/// A member of a struct with these region arguments; one of no known type isn't checked.
 fn typed_part<'p>(
     at: u32,
     seat: Seat,

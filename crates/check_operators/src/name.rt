@@ -41,9 +41,9 @@ pub fn variable<'p>(
         Some(Named::Variable(of, region)) => Ok(seated(at, of.try_clone()?, Seat::In(region))),
         Some(Named::Array(element, region)) => array(at, element, region),
         Some(Named::Counter) => Ok(plain(at, CType::plain(alloc, BaseType::Unsigned))),
-        Some(Named::Function(_) | Named::Builtin(_) | Named::Tag { .. }) => {
-            Ok(refused(FaultKind::Typing, at))
-        }
+        Some(Named::Function(_)) => Ok(refused(FaultKind::Typing, at)),
+        Some(Named::Builtin(_) | Named::Tag { .. }) => Ok(refused(FaultKind::Typing, at)),
         Some(Named::FaultyTag(_) | Named::NotKnown) => Ok(Verdict::NotJudged),
+        Some(Named::Untyped) => Ok(Verdict::NotJudged),
     }
 }

@@ -34,6 +34,7 @@ pub local_means : (w : rules_tables.What) (v : What) → WhatIs w v → Means (S
 local_means w v (means.WhatIs.Variable t r) = means.Means.Variable t r
 local_means w v (means.WhatIs.Array t r) = means.Means.Array t r
 local_means w v means.WhatIs.Counted = means.Means.CounterValue
+local_means w v means.WhatIs.Untyped = means.Means.UntypedValue
 local_means w v means.WhatIs.NotKnown = means.Means.UnknownValue
 
 -- the rules' scope with one more local

@@ -19,6 +19,7 @@ abbrev pub of_local : What → Meaning
 of_local (local.Variable t r) = code.Variable t r
 of_local (local.Array t r) = code.Array t r
 of_local local.Counter = code.Counter
+of_local local.Untyped = code.Untyped
 of_local local.NotKnown = code.NotKnown
 
 -- a local hides a function and a global of its name

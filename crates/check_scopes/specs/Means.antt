@@ -34,9 +34,10 @@ meaning_of (named.Function s) = code.Function s.now
 meaning_of (named.Builtin n) = code.Builtin n
 meaning_of (named.Tag u n) = code.Tag u n
 meaning_of (named.FaultyTag n) = code.FaultyTag n
+meaning_of named.Untyped = code.Untyped
 meaning_of named.NotKnown = code.NotKnown
 
--- What the rules know of a name, and what is known of it in code. A name of no known type and a function at fault are those that aren't known.
+-- What the rules know of a name, and what is known of it in code. A variable and a function with a fault are those that aren't known.
 pub data Means : Option Entry → Option Meaning → Type 0 where
   NoName : Means None None
   Variable : (t : CType) (r : RegionId) → Means (Some (OfValue (Stored (static_type t) (region_of r)))) (Some (code.Variable t r))
@@ -44,7 +45,8 @@ pub data Means : Option Entry → Option Meaning → Type 0 where
   CounterValue : Means (Some (OfValue Counter)) (Some code.Counter)
   Function : (s : head.Signature) → Means (Some (OfFunction (signature_of s))) (Some (code.Function s))
   Builtin : (n : ℕ) → Means (Some (OfBuiltin n)) (Some (code.Builtin n))
-  UnknownValue : Means (Some (OfValue Unknown)) (Some code.NotKnown)
+  UntypedValue : Means (Some (OfValue (Unknown true))) (Some code.Untyped)
+  UnknownValue : Means (Some (OfValue (Unknown false))) (Some code.NotKnown)
   UnsoundFunction : (s : Signature) → s.sound ≡ false → Means (Some (OfFunction s)) (Some code.NotKnown)
   SoundTag : (t : Tag) → t.sound ≡ true → Means (Some (OfTag t)) (Some (code.Tag t.is_union t.regions))
   UnsoundTag : (t : Tag) → t.sound ≡ false → Means (Some (OfTag t)) (Some (code.FaultyTag t.regions))
@@ -54,4 +56,5 @@ pub data WhatIs : rules.What → What → Type 0 where
   Variable : (t : CType) (r : RegionId) → WhatIs (Stored (static_type t) (region_of r)) (local.Variable t r)
   Array : (t : CType) (r : RegionId) → WhatIs (Arrayed (static_type t) (region_of r)) (local.Array t r)
   Counted : WhatIs Counter local.Counter
-  NotKnown : WhatIs Unknown local.NotKnown
+  Untyped : WhatIs (Unknown true) local.Untyped
+  NotKnown : WhatIs (Unknown false) local.NotKnown

@@ -17,6 +17,8 @@ pub enum What<'p> {
     Array(CType<'p>, RegionId),
     /// The index of an array comprehension.
     Counter,
+    /// A variable whose type isn't known, though its own declaration has no error: a struct or union that it names has one.
+    Untyped,
     /// A local whose declaration has an error.
     NotKnown,
 }
@@ -26,7 +28,7 @@ impl Drop for What<'_> {
     fn drop(self) {
         match self {
             What::Variable(_of, _) | What::Array(_of, _) => {}
-            What::Counter | What::NotKnown => {}
+            What::Counter | What::Untyped | What::NotKnown => {}
         }
     }
 }

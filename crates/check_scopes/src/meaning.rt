@@ -50,6 +50,8 @@ pub enum Meaning<'p> {
     },
     /// A struct or union whose declaration has an error, with the number of its region parameters.
     FaultyTag(u32),
+    /// A variable whose type isn't known, though its own declaration has no error: a struct or union that it names has one.
+    Untyped,
     /// A global or a function whose declaration has an error.
     NotKnown,
 }
@@ -59,7 +61,8 @@ impl Drop for Meaning<'_> {
     fn drop(self) {
         match self {
             Meaning::Variable(_of, _) | Meaning::Array(_of, _) => {}
-            Meaning::Counter | Meaning::Builtin(_) | Meaning::NotKnown => {}
+            Meaning::Counter | Meaning::Builtin(_) => {}
+            Meaning::Untyped | Meaning::NotKnown => {}
             Meaning::Tag {
                 is_union: _,
                 regions: _,

@@ -35,6 +35,8 @@ pub enum Named<'a, 'p> {
     },
     /// A struct or union whose declaration has an error, with the number of its region parameters.
     FaultyTag(u32),
+    /// A variable whose type isn't known, though its own declaration has no error: a struct or union that it names has one.
+    Untyped,
     /// A local, a global or a function whose declaration has an error.
     NotKnown,
 }
@@ -71,6 +73,7 @@ fn named_local<'a, 'p>(what: &'a What<'p>) -> Named<'a, 'p>
         What::Variable(stored, region) => Named::Variable(stored, *region),
         What::Array(element, region) => Named::Array(element, *region),
         What::Counter => Named::Counter,
+        What::Untyped => Named::Untyped,
         What::NotKnown => Named::NotKnown,
     }
 }
@@ -90,6 +93,7 @@ fn named_global<'a, 'p>(meaning: &'a Meaning<'p>) -> Named<'a, 'p>
             regions: *regions,
         },
         Meaning::FaultyTag(regions) => Named::FaultyTag(*regions),
+        Meaning::Untyped => Named::Untyped,
         Meaning::NotKnown => Named::NotKnown,
     }
 }

@@ -42,7 +42,7 @@ same_added old before n r same x =
         alone None = sym (ap (λ (b : Bool). if b then Some r else None) h)
         alone (Some q) = refl
 
--- a name that is found is at fault
+-- a name that is found has a fault
 added_names : (o : Option Region) (at : ℕ) (x : List RegionNamed × List Fault) → (parameter_added o at x).0 ≡ x.0
 added_names None at x = refl
 added_names (Some r) at (ns, fs) = refl

@@ -13,7 +13,7 @@ use Rattle.check_types.specs.declared.tagged.TagName.TheVariants as code
 abbrev pub AreNames : TagNames → Tables → Type 0
 AreNames names g = (x : List ℕ) → IsNamed g x (tag_named names x)
 
--- what a name means to the members of a struct or union before it is judged: its own name isn't judged yet, and has `n` region parameters
+-- what a name means to the members of a struct or union before it is judged: its own name isn't checked yet, and has `n` region parameters
 abbrev pub head_named : List ℕ → ℕ → TagNames → List ℕ → TagName
 head_named own n others x = (if bytes_eq own x then code.NotJudged n else tag_named others x)
 

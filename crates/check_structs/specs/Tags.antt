@@ -107,7 +107,7 @@ pub record JudgedTo (all : Program) (i : ℕ) (rest : Program) (done : code_tags
   pub js : List Judged
   pub are : AreJudged js done
   pub goes : tags_from i js rest (first_from (bare_tags all) i rest) ≡ judged_tags all
-  -- a name that isn't judged yet is that of one of these, if of any
+  -- a name that isn't checked yet is that of one of these, if of any
   pub left : (x : List ℕ) → is_some (find (builtins (entries js)) x) ≡ false → find (first_tags all) x ≡ find (first_from (bare_tags all) i rest) x
   pub before : AreBefore i (entries js)
 

@@ -125,7 +125,7 @@ fn any_count(tag: TagName, of: &TypeName) -> Result<TagName, AllocError>
 /// What tags mean to the members of a struct or union before it is judged.
 #[derive(Clone, Copy)]
 struct HeadTags<'a, 'p> {
-    /// Its own name, which isn't judged.
+    /// Its own name, which isn't checked.
     own: &'a [u8],
     /// How many region parameters it has.
     regions: u32,
@@ -269,7 +269,7 @@ fn head_name(alloc: Global, tags: &TagNames<'_>, item: &Item) -> Result<TagName,
     }
 }
 
-/// What the names of a program are first known to mean, by what they mean where no tag is judged: a tag is at fault here where its
+/// What the names of a program are first known to mean, by what they mean where no tag is judged: a tag has a fault here where its
 /// fault hangs on no tag. Fails only where no host memory is left, or a struct or union has 2^32 region parameters.
 pub(crate) fn head_names<'p>(
     alloc: Global,

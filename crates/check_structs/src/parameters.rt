@@ -79,7 +79,7 @@ impl<'p> RegionParameters<'p> {
 }
 
 /// The region parameters of a struct or union, in the order of the text: a second one of a name, and a name that is the heap's or the unique
-/// region's, is at fault at it. Fails only where no host memory is left, or there are 2^32.
+/// region's, has a fault at it. Fails only where no host memory is left, or there are 2^32.
 pub(crate) fn region_parameters<'p>(
     alloc: Global,
     regions: &'p [RegionName],

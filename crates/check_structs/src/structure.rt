@@ -46,7 +46,7 @@ fn known_tag(judged: &TagNames<'_>, first: &TagNames<'_>, of: &TypeName) -> TagN
     }
 }
 
-/// A member's type: at fault at this place where no union, or else no struct, has such a member, or where it is a struct or union that
+/// A member's type: a fault at this place where no union, or else no struct, has such a member, or where it is a struct or union that
 /// isn't declared.
 fn fitting_member<'p>(
     of: CType<'p>,

@@ -14,7 +14,7 @@ use Rattle.cyc_types.specs.declared.tables.Tables as code_tables
 use Rattle.check_heads.proofs.Answered.{of_short}
 use Rattle.check_declarations.proofs.LocalTypes.{alike}
 use Rattle.check_declarations.proofs.Sizes.{bytes_are, is_fitting, too_large}
-use Rattle.check_scopes.specs.Means.{Array, Means, UnknownValue, Variable}
+use Rattle.check_scopes.specs.Means.{Array, Means, UntypedValue, UnknownValue, Variable}
 use Rattle.check_scopes.specs.declared.meaning.Meaning.TheVariants.{NotKnown as NotKnownName}
 use Rattle.source_meaning.specs.Sizes.{rounded_up}
 use Rattle.source_typing.specs.Declarations.{what_after, what_of}
@@ -27,7 +27,7 @@ use Rattle.source_typing.specs.Tables.{OfValue, Tables}
 use Rattle.source_typing.specs.Types.{StaticType}
 use Rattle.source_typing.specs.Verdicts.{Faulty, Of, Unjudged, Verdict, faults_of}
 use Rattle.check_faults.specs.Verdicts.{Is, NotJudged, Short, Wrong, shortened}
-use Rattle.check_tables.specs.Globals.{IsSized, bytes_by, bytes_of, faults_by, meaning_by}
+use Rattle.check_tables.specs.Globals.{IsSized, bytes_by, bytes_of, faults_by, meaning_by, untyped_by}
 use Rattle.cyc_tree.specs.Tree as tree
 use Rattle.check_faults.specs.Faults as found
 use Rattle.check_faults.specs.declared.fault.Fault as code
@@ -44,29 +44,26 @@ array_faults g i v n e = sym (append-nil (faults_of v)) ∙ ap (λ j. faults_by 
 
 -- ---- by what the type is
 
-unknown_means : (fs : List Fault) (count : Option ℕ) (v : Verdict StaticType) → what_of TheHeap count v ≡ what_of TheHeap count Unjudged
-    → Means (Some (OfValue (what_after fs (what_of TheHeap count v)))) (Some NotKnownName)
-unknown_means fs count v e = subst (λ w. Means (Some (OfValue (what_after fs w))) (Some NotKnownName)) (sym e) (by fs count)
-  where
-    by : (fs : List Fault) (count : Option ℕ) → Means (Some (OfValue (what_after fs (what_of TheHeap count Unjudged)))) (Some NotKnownName)
-    by [] None = UnknownValue
-    by [] (Some n) = UnknownValue
-    by (f ∷ fs) count = UnknownValue
-
--- a type at fault
+-- a type with a fault
 pub wrong_means : (fs : List Fault) (count : Option ℕ) (f : Fault) (v : Verdict StaticType) → Wrong f ≡ shortened v
     → Means (Some (OfValue (what_after fs (what_of TheHeap count v)))) (Some NotKnownName)
-wrong_means fs None f (Faulty h hs) e = unknown_means fs None (Faulty h hs) refl
-wrong_means fs (Some n) f (Faulty h hs) e = unknown_means fs (Some n) (Faulty h hs) refl
+wrong_means [] None f (Faulty h hs) e = UnknownValue
+wrong_means [] (Some n) f (Faulty h hs) e = UnknownValue
+wrong_means (x ∷ fs) count f (Faulty h hs) e = UnknownValue
 wrong_means fs count f Unjudged e = absurd cc
 wrong_means fs count f (Of s) e = absurd cc
 
--- a type that isn't judged
-pub unjudged_means : (fs : List Fault) (count : Option ℕ) (v : Verdict StaticType) → (let s : Short StaticType = NotJudged in s) ≡ shortened v
-    → Means (Some (OfValue (what_after fs (what_of TheHeap count v)))) (Some NotKnownName)
-unjudged_means fs count (Faulty h hs) e = absurd cc
-unjudged_means fs count Unjudged e = unknown_means fs count Unjudged refl
-unjudged_means fs count (Of s) e = absurd cc
+-- a type that isn't checked, by the fault of its global
+pub unjudged_means : (o : Option code.Fault) (fs : List Fault) (count : Option ℕ) (v : Verdict StaticType)
+    → (let s : Short StaticType = NotJudged in s) ≡ shortened v → found.faults_of o ≡ earliest fs
+    → Means (Some (OfValue (what_after fs (what_of TheHeap count v)))) (Some (untyped_by o))
+unjudged_means o fs count (Faulty h hs) e is = absurd cc
+unjudged_means None [] None Unjudged e is = UntypedValue
+unjudged_means None [] (Some n) Unjudged e is = UntypedValue
+unjudged_means (Some w) [] count Unjudged e is = absurd cc
+unjudged_means None (f ∷ fs) count Unjudged e is = absurd (sooner_none f (earliest fs) is)
+unjudged_means (Some w) (f ∷ fs) count Unjudged e is = UnknownValue
+unjudged_means o fs count (Of s) e is = absurd cc
 
 -- a type in order
 means_by : (o : Option code.Fault) (count : Option ℕ) (s : CType) (fs : List Fault) → found.faults_of o ≡ earliest fs

@@ -19,7 +19,7 @@ use Rattle.cyc_types.specs.declared.layer.Layer.{Layer}
 use Rattle.cyc_types.specs.declared.layer.Layer.TheVariants as pointer
 use Rattle.cyc_types.specs.declared.region.RegionId.TheVariants.{Heap}
 use Rattle.check_scopes.specs.declared.meaning.Meaning.{Meaning}
-use Rattle.check_scopes.specs.declared.meaning.Meaning.TheVariants.{Array, NotKnown, Variable}
+use Rattle.check_scopes.specs.declared.meaning.Meaning.TheVariants.{Array, NotKnown, Untyped, Variable}
 use Rattle.check_types.specs.Arguments.{named_spots}
 use Rattle.cyc_tree.specs.Tree as tree
 use Rattle.check_faults.specs.declared.fault.Fault as found
@@ -75,6 +75,11 @@ abbrev pub meaning_by : Option found.Fault → Option ℕ → CType → Meaning
 meaning_by None None t = Variable t Heap
 meaning_by None (Some n) t = Array t Heap
 meaning_by (Some f) count t = NotKnown
+
+-- the same of one whose type isn't checked
+abbrev pub untyped_by : Option found.Fault → Meaning
+untyped_by None = Untyped
+untyped_by (Some f) = NotKnown
 
 -- whether `n` elements are at least as many as a pointer leads to, if it is a thin one
 abbrev pub are_enough : ℕ → Option Layer → Bool

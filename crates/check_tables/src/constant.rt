@@ -135,7 +135,7 @@ fn constant_fault(given: &Constant, to: &Verdict<CType<'_>>) -> Option<Fault>
     }
 }
 
-/// The same of a constant by its value: one with a fault of its own isn't judged.
+/// The same of a constant by its value: one with a fault of its own isn't checked.
 #[tactic(auto, using(crate::proofs::Texts::of_value, crate::proofs::Texts::of_wrong, crate::proofs::Texts::of_unjudged))]
 fn string_fault(
     given: &Constant,

@@ -15,7 +15,7 @@ ghost use Rattle.source_typing.specs.Types.{StaticType};
 ghost use Rattle.check_faults.specs.Faults.{faults_of};
 ghost use Rattle.check_faults.specs.Verdicts.{short_of, shortened};
 ghost use Rattle.check_scopes.specs.Means.{Means};
-ghost use Rattle.check_tables.specs.Globals.{bytes_by, meaning_by};
+ghost use Rattle.check_tables.specs.Globals.{bytes_by, meaning_by, untyped_by};
 ghost use Rattle.check_tables.specs.Structs.{KnowsStructs};
 ghost use Rattle.check_scopes.specs.declared.meaning.Meaning.TheVariants.{NotKnown};
 ghost use Rattle.source_typing.specs.Verdicts as rules;
@@ -34,7 +34,7 @@ use std::alloc::{AllocError, Global};
 pub struct JudgedGlobal<'p> {
     pub fault: Option<Fault>,
     pub meaning: Meaning<'p>,
-    /// The size rounded up to 8, or 0 if the global has a fault or isn't judged.
+    /// The size rounded up to 8, or 0 if the global has a fault or isn't checked.
     pub bytes: u64,
 }
 
@@ -92,6 +92,22 @@ fn of_type<'p>(
     }
 }
 
+/// A global whose type isn't checked, by its fault.
+fn of_no_type<'p>(fault: Option<Fault>) -> JudgedGlobal<'p>
+    ensures fault { result.fault ≡ fault }
+    ensures meaning { result.meaning ≡ untyped_by fault }
+    ensures bytes { result.bytes ≡ 0 }
+{
+    match fault {
+        None => JudgedGlobal {
+            fault: None,
+            meaning: Meaning::Untyped,
+            bytes: 0,
+        },
+        Some(fault) => unknown(Some(fault)),
+    }
+}
+
 /// A global, by its type and size and its earliest fault.
 fn by_type<'p>(
     count: Option<u32>,
@@ -107,7 +123,7 @@ fn by_type<'p>(
 {
     match of {
         Verdict::Wrong(_) => unknown(fault),
-        Verdict::NotJudged => unknown(fault),
+        Verdict::NotJudged => of_no_type(fault),
         Verdict::Of(of) => of_type(count, of, bytes, fault),
     }
 }

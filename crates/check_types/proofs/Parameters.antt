@@ -21,7 +21,7 @@ use Rattle.cyc_tree.specs.Tree as tree
 
 -- ---- a pointer's region
 
--- a pointer's region is never at fault
+-- a pointer's region never has a fault
 pub no_fault_named : (vs : Variables) (n : tree.Name) (o : Option Region) → (take_named vs n o).faults ≡ []
 no_fault_named vs n None = refl
 no_fault_named vs n (Some r) = refl

@@ -24,7 +24,7 @@ abbrev pub count_meets : List tree.RegionName → ℕ → Bool
 count_meets [] n = true
 count_meets (r ∷ rs) n = nat_eq (length (r ∷ rs)) n
 
--- of a parameter's arguments the unique region alone is at fault
+-- of a parameter's arguments the unique region alone has a fault
 abbrev pub unique_in : tree.RegionName → List Fault
 unique_in (tree.Unique at) = fault region_rule at ∷ []
 unique_in (tree.Heap at) = []

@@ -173,7 +173,7 @@ fn written_tagged<'p>(
 }
 
 /// A type as a text writes it, where the tag of a struct or union means this. An unknown tag, a tag of another kind and an unknown region
-/// name are at fault at the name, of several the earliest; and a pointer to `void` or to a key, and a unique fat pointer, are at fault at
+/// name have a fault at the name, of several the earliest; and a pointer to `void` or to a key, and a unique fat pointer, have a fault at
 /// its type.
 pub fn written_in<'p>(
     alloc: Global,

@@ -3,7 +3,7 @@
 use crate::ctype::CType;
 use crate::extent::Extent;
 
-/// A member of a struct or union. Its type isn't known where it is at fault.
+/// A member of a struct or union. Its type isn't known where it has a fault.
 #[derive(Drop)]
 pub struct Member<'p> {
     pub name: &'p [u8],

@@ -31,7 +31,7 @@ pub sequence_is : (b : Bool) (p q : Passage) (x y z w : Option Effects)
 sequence_is true p q x y z w = refl
 sequence_is false p q x y z w = refl
 
--- what isn't reachable isn't judged
+-- what isn't reachable isn't checked
 pub stopped_is : (b : Bool) (p : Passage) (x y : Option Effects) (w : Exits) → b ≡ false → exits_with b p x y ≡ exits_in_sequence (exits_with b p x y) w
 stopped_is false p x y w e = refl
 stopped_is true p x y w e = absurd cc

@@ -22,7 +22,7 @@ made_again_flows = refl
 made_again_passes : faults_of (fault_of_flow made_again) ≡ None
 made_again_passes = refl
 
--- One that isn't made again is gone at the head, so the turn itself is at fault.
+-- One that isn't made again is gone at the head, so the turn itself has a fault.
 -- int main() { int *`U p = NULL; while (1) { ufree(p); } return 0; }
 abbrev freed_again : tree.Program
 freed_again =

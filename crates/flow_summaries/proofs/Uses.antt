@@ -60,7 +60,7 @@ local_used g x (Stored t r) =
 local_used g x (Arrayed t r) =
     used_if (length g.locals) (not (is_copyable g.tables t)) (array_use x.at) (uses_of_array x.at) (array_used (length g.locals) x.at)
 local_used g x Counter = idle_used (length g.locals)
-local_used g x Unknown = idle_used (length g.locals)
+local_used g x (Unknown sound) = idle_used (length g.locals)
 
 pub name_used : (g : Env) (x : tree.Name) (l : Option Local) → UsesAs (length g.locals) (use_of_name g x l) (uses_of_name g x l)
 name_used g x (Some l) = local_used g x l.what

@@ -41,7 +41,7 @@ with_passage p w = record (exits_after p.effects w) { faults = both_faults p.fau
 abbrev pub joined_exits : Exits → Exits → Option Effects → Exits
 joined_exits v w falls = exits falls (met_ways v.breaks w.breaks) (met_ways v.continues w.continues) (both_faults v.faults w.faults)
 
--- what isn't reachable isn't judged
+-- what isn't reachable isn't checked
 abbrev pub followed_by : Option Effects → Exits → Exits → Exits
 followed_by None v w = v
 followed_by (Some d) v w = joined_exits v (exits_after d w) (then_way d w.falls)

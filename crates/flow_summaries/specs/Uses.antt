@@ -64,7 +64,7 @@ abbrev pub uses_of_local : Env → tree.Name → What → Uses
 uses_of_local g x (Stored t r) = uses_if (not (is_copyable g.tables t)) (uses_of_own g.locals x)
 uses_of_local g x (Arrayed t r) = uses_if (not (is_copyable g.tables t)) (uses_of_array x.at)
 uses_of_local g x Counter = uses_as_value unchanged
-uses_of_local g x Unknown = uses_as_value unchanged
+uses_of_local g x (Unknown sound) = uses_as_value unchanged
 
 -- a global is a place that is no local
 abbrev pub uses_of_name : Env → tree.Name → Option Local → Uses

@@ -144,7 +144,8 @@ module _ (w : World) where
   call_enough g x es (Some (OfValue (Stored u r))) t vs v k q p e = absurd cc
   call_enough g x es (Some (OfValue (Arrayed u r))) t vs v k q p e = absurd cc
   call_enough g x es (Some (OfValue Counter)) t vs v k q p e = absurd cc
-  call_enough g x es (Some (OfValue Unknown)) t vs v k q p e = absurd cc
+  call_enough g x es (Some (OfValue (Unknown true))) t vs v k q p e = absurd cc
+  call_enough g x es (Some (OfValue (Unknown false))) t vs v k q p e = absurd cc
   call_enough g x es (Some OfOther) t vs v k q p e = absurd cc
   call_enough g x es (Some (OfTag u)) t vs v k q p e = of u.is_union refl q
     where
@@ -358,5 +359,5 @@ calls_fit p judged x (OfTag t) q = by (judged.plain x (OfTag t) q)
 calls_fit p judged x (OfValue (Stored t r)) q = tt
 calls_fit p judged x (OfValue (Arrayed t r)) q = tt
 calls_fit p judged x (OfValue Counter) q = tt
-calls_fit p judged x (OfValue Unknown) q = tt
+calls_fit p judged x (OfValue (Unknown sound)) q = tt
 calls_fit p judged x OfOther q = tt

@@ -117,7 +117,7 @@ suffixes_first g v (Dot f es) w p =
 suffixes_first g v (Arrow f es) w p =
     let z : (a : Value) × (after v (arrow g f) ≡ Of a) = suffixes_first g (after v (arrow g f)) es w p in first_of_one v (arrow g f) z.0 z.1
 
--- what isn't judged is in order for no known part
+-- what isn't checked is in order for no known part
 pub by_parts_is : (at : ℕ) (misfits : Bool) (v : Verdict Value) (w : Value) → by_parts at misfits v ≡ Of w → v ≡ Of w
 by_parts_is at misfits (Faulty f fs) w e = e
 by_parts_is at true Unjudged w e = absurd cc

@@ -25,6 +25,7 @@ mod ProgramSamples2
 mod MakingSamples1
 mod MakingSamples2
 mod KnownParts
+mod Untyped
 mod CopySamples1
 mod CopySamples2
 mod BoundSamples

@@ -18,8 +18,9 @@ pub data Target : Type 0 where
   ToStruct : Tag → Target
   ToFunction : Signature → Target
 
+-- A variable can't be called, whatever its type is; one whose declaration has a fault isn't checked.
 abbrev pub target_of_value : What → ℕ → Verdict Target
-target_of_value Unknown at = Unjudged
+target_of_value (Unknown sound) at = other_kind sound at
 target_of_value w at = refuse type_rule at
 
 abbrev pub target_of_tag : Bool → Tag → ℕ → Verdict Target
@@ -128,7 +129,7 @@ if_union false tag f t = refuse type_rule tag.at
 abbrev pub union_tag : tree.Name → tree.Name → Option Entry → Verdict (Tag × Part)
 union_tag tag f None = refuse name_rule tag.at
 union_tag tag f (Some (OfTag t)) = if_sound t.sound (if_union t.is_union tag f t)
-union_tag tag f (Some (OfValue Unknown)) = Unjudged
+union_tag tag f (Some (OfValue (Unknown sound))) = other_kind sound tag.at
 union_tag tag f (Some (OfFunction s)) = other_kind s.sound tag.at
 union_tag tag f (Some e) = refuse type_rule tag.at
 

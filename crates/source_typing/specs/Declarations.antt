@@ -63,12 +63,13 @@ local_type g at count set source p = after (settled at p source) (fitting_local 
 abbrev pub what_of : Region → Option ℕ → Verdict StaticType → What
 what_of r None (Of t) = Stored t r
 what_of r (Some n) (Of t) = Arrayed t r
-what_of r count v = Unknown
+what_of r count (Faulty f fs) = Unknown false
+what_of r count Unjudged = Unknown true
 
--- a declaration with a fault makes its name one of no known type
+-- a declaration with a fault makes its name one of no known type, which isn't sound
 abbrev pub what_after : List Fault → What → What
 what_after [] w = w
-what_after (f ∷ fs) w = Unknown
+what_after (f ∷ fs) w = Unknown false
 
 -- ---- locals
 
@@ -83,13 +84,13 @@ abbrev pub converted_to : Env → Verdict Value → Verdict StaticType → List 
 converted_to g (Of v) (Of t) = converts g v t
 converted_to g v t = []
 
--- A use of a name whose declaration has a fault isn't judged, however it is used: where a tag is wanted, a global, a function or a local with a fault
+-- A use of a name whose declaration has a fault isn't checked, however it is used: where a tag is wanted, a global, a function or a local with a fault
 -- counts as a struct or union with a fault.
 abbrev pub faulty_tag : Entry
 faulty_tag = OfTag (record { text = []; is_union = false; order = 0; regions = 0; parts = []; sound = false })
 
 abbrev pub as_tagged : Entry → Entry
-as_tagged (OfValue Unknown) = faulty_tag
+as_tagged (OfValue (Unknown false)) = faulty_tag
 as_tagged (OfFunction f) = (if f.sound then OfFunction f else faulty_tag)
 as_tagged e = e
 
@@ -195,7 +196,8 @@ opened_region g r k =
 -- `region<r> h = open(k);` declares no region name; the region is live from here on.
 abbrev pub open_declared : Env → tree.Name → Verdict Region → Declared
 open_declared g x (Of r) = declared (second g x) (with_local x (Stored (Handle r) g.frame) (record g { regions = opened r g.regions }))
-open_declared g x v = declared (faults_of v ++ second g x) (with_local x Unknown g)
+open_declared g x (Faulty f fs) = declared ((f ∷ fs) ++ second g x) (with_local x (Unknown false) g)
+open_declared g x Unjudged = declared (second g x) (with_local x (Unknown true) g)
 
 -- ---- `alias`
 

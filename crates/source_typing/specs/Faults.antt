@@ -81,7 +81,7 @@ earliest (f ∷ fs) = sooner_of f (earliest fs)
 abbrev pub test : Bool → ℕ → ℕ → List Fault
 test fits kind at = (if fits then [] else fault kind at ∷ [])
 
--- A phrase with a fault in a part isn't judged itself: the faults of its parts, or else its own.
+-- A phrase with a fault in a part isn't checked itself: the faults of its parts, or else its own.
 abbrev pub own_after : List Fault → List Fault → List Fault
 own_after own [] = own
 own_after own (f ∷ fs) = f ∷ fs

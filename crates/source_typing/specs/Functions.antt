@@ -209,7 +209,7 @@ function_scope lenient g i h = block_entered (record (at_item lenient g i) {
 })
 
 abbrev pub what_of_known : Region → Option StaticType → What
-what_of_known r None = Unknown
+what_of_known r None = Unknown true
 what_of_known r (Some t) = Stored t r
 
 -- parameters live in the body's block

@@ -57,7 +57,7 @@ abbrev pub global_type : Env → tree.Global → Verdict StaticType
 global_type g x = global_type_by g x (foreign_names (spots_of g.tables x.of))
 
 -- A thin pointer to a string has no greater bound than the string has elements: its bytes, and a 0 behind them. The bound of a string that is too long
--- isn't judged.
+-- isn't checked.
 abbrev pub string_faults : Verdict Value → Constant → Verdict StaticType → List Fault
 string_faults (Of v) (Constant.Text at bytes) (Of (Thin n r t)) = test (nat_le (elements_of n) (length bytes + 1)) type_rule at
 string_faults v c t = []
@@ -76,7 +76,7 @@ global_entry g x = OfValue (what_after (global_faults g x) (what_of TheHeap (cou
 
 -- ---- sizes
 
--- how many bytes a global has; one that has a fault or isn't judged counts as nothing
+-- how many bytes a global has; one that has a fault or isn't checked counts as nothing
 abbrev pub typed_size : Env → tree.Global → Verdict StaticType → ℕ
 typed_size g x (Of t) = variable_size g.tables (count_of x.initial) t
 typed_size g x v = 0

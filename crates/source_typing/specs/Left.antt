@@ -36,7 +36,7 @@ after_passed p rest = record (rest p.states) { faults = p.faults ++ (rest p.stat
 abbrev pub joined : Left → Left → Option States → Left
 joined a b falls = left falls (meet_ways a.breaks b.breaks) (meet_ways a.continues b.continues) (a.faults ++ b.faults)
 
--- What isn't reachable isn't judged.
+-- What isn't reachable isn't checked.
 abbrev pub followed : Option States → Left → (States → Left) → Left
 followed None a rest = a
 followed (Some s) a rest = joined a (rest s) (rest s).falls
@@ -75,7 +75,7 @@ abbrev pub begins_as : Env → What → State
 begins_as g (Stored t r) = (if is_copyable g.tables t then Plain else Held)
 begins_as g (Arrayed t r) = Plain
 begins_as g Counter = Plain
-begins_as g Unknown = Plain
+begins_as g (Unknown sound) = Plain
 
 abbrev pub states_of : Env → List Local → States
 states_of g ls = map (λ l. begins_as g l.what) ls

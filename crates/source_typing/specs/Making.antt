@@ -47,7 +47,7 @@ inside goal g = record g { enclosing = enclosed goal }
 abbrev pub with_counter : tree.Name → Env → Env
 with_counter index g = record g { locals = record { name = index.text; what = Counter; block = g.block } ∷ g.locals }
 
--- A making that isn't judged, since a part of it isn't, is Type all the same where a part that is known is of no such making.
+-- A making that isn't checked, since a part of it isn't, is Type all the same where a part that is known is of no such making.
 abbrev pub by_parts : ℕ → Bool → Verdict Value → Verdict Value
 by_parts at misfits (Faulty f fs) = Faulty f fs
 by_parts at true Unjudged = refuse type_rule at

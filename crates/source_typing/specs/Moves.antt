@@ -73,7 +73,7 @@ abbrev pub use_of_local : Env → tree.Name → What → Use
 use_of_local g x (Stored t r) = if_moved (not (is_copyable g.tables t)) (local_use g.locals x)
 use_of_local g x (Arrayed t r) = if_moved (not (is_copyable g.tables t)) (array_use x.at)
 use_of_local g x Counter = value_use nothing
-use_of_local g x Unknown = value_use nothing
+use_of_local g x (Unknown sound) = value_use nothing
 
 -- a global is a place that is no local
 abbrev pub use_of_name : Env → tree.Name → Option Local → Use

@@ -62,7 +62,7 @@ abbrev pub entries : List Judged → Tables
 entries [] = []
 entries (j ∷ js) = j.entry ∷ entries js
 
--- the tags in text order, by those before and by what is first known of those that aren't judged yet
+-- the tags in text order, by those before and by what is first known of those that aren't checked yet
 abbrev pub tags_from : ℕ → List Judged → List Item → Tables → List Judged
 tags_from i done [] later = done
 tags_from i done (item ∷ items) [] = done

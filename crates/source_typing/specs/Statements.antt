@@ -52,13 +52,13 @@ parts_of_chosen g None = []
 parts_of_chosen g (Some c) = parts_in g.tables c.tag
 
 abbrev pub part_what : Region → List Region → Option StaticType → What
-part_what r rs None = Unknown
+part_what r rs None = Unknown true
 part_what r rs (Some t) = Stored (renamed (argument rs) t) r
 
 -- the name of a clause stands for a copy of the member
 abbrev pub bound_what : Region → Option Chosen → Option Part → What
 bound_what r (Some c) (Some p) = part_what r c.regions p.type
-bound_what r c p = Unknown
+bound_what r c p = Unknown true
 
 -- A clause is a block, with its name.
 abbrev pub clause_scope : Env → Option Chosen → tree.Pattern → Env

@@ -4,14 +4,13 @@ use Rattle.source_typing.specs.Regions.{Level, Region, TheHeap}
 use Rattle.source_meaning.specs.Shapes.{may_be_null}
 use Rattle.source_typing.specs.Types.{Char, Fat, Int, Key, StaticType, Struct, Thin, Unique, Unsigned}
 
--- What a name of a value is: a variable or an array, with the region in which it lies; the index of `for`; or one whose type isn't known since its
--- declaration is at
--- fault.
+-- What a name of a value is: a variable or an array, with the region in which it lies; the index of `for`; or one whose type isn't known. That is sound
+-- where its own declaration has no fault: a struct or union that it names has one then.
 pub data What : Type 0 where
   Stored : StaticType → Region → What
   Arrayed : StaticType → Region → What
   Counter : What
-  Unknown : What
+  Unknown : Bool → What
 
 -- a member of a struct or union; its type isn't known where it has a fault
 pub record Part : Type 0 where

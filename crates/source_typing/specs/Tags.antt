@@ -76,7 +76,7 @@ abbrev pub all_typed : List Part → Bool
 all_typed [] = true
 all_typed (p ∷ ps) = is_some p.type && all_typed ps
 
--- how many bytes a struct of these members has; a struct with a member of no known type isn't judged
+-- how many bytes a struct of these members has; a struct with a member of no known type isn't checked
 abbrev pub struct_bytes : Tables → tree.Structure → List Part → ℕ
 struct_bytes g s ps =
     (struct_extent (layouts_of true g) (record { tag = s.tag.text; parts = part_shapes ps } ∷ layouts_of false g) s.tag.text).size

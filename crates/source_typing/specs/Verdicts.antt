@@ -2,7 +2,7 @@
 use Rattle.std.specs.Prelude.{Bool, List, None, Option, Some, false, true, ℕ, [], ◌∷◌, ◌++◌}
 use Rattle.source_typing.specs.Faults.{Fault, fault, type_rule}
 
--- A phrase is invalid, with a first fault and others; or it isn't judged, since the declaration of a name in it has a fault; or it is in order.
+-- A phrase is invalid, with a first fault and others; or it isn't checked, since the declaration of a name in it has a fault; or it is in order.
 pub data Verdict (A : Type 0) : Type 0 where
   Faulty : Fault → List Fault → Verdict A
   Unjudged : Verdict A
@@ -28,13 +28,13 @@ abbrev pub unless_faulty : {A : Type 0} → List Fault → Verdict A → Verdict
 unless_faulty [] v = v
 unless_faulty (f ∷ fs) v = Faulty f fs
 
--- a phrase of one part: its faults; or it isn't judged, as the part isn't; or the rule on what the part is
+-- a phrase of one part: its faults; or it isn't checked, as the part isn't; or the rule on what the part is
 abbrev pub after : {A B : Type 0} → Verdict A → (A → Verdict B) → Verdict B
 after (Faulty f fs) rule = Faulty f fs
 after Unjudged rule = Unjudged
 after (Of a) rule = rule a
 
--- a phrase of two parts: all faults of both; or it isn't judged; or the rule on what they are
+-- a phrase of two parts: all faults of both; or it isn't checked; or the rule on what they are
 abbrev pub both : {A B C : Type 0} → Verdict A → Verdict B → (A → B → Verdict C) → Verdict C
 both (Faulty f fs) (Faulty g gs) rule = Faulty f (fs ++ g ∷ gs)
 both (Faulty f fs) Unjudged rule = Faulty f fs
@@ -51,7 +51,7 @@ abbrev pub if_fits : {A : Type 0} → Bool → ℕ → A → Verdict A
 if_fits true at a = Of a
 if_fits false at a = refuse type_rule at
 
--- a name of another kind than its use needs; where its declaration has a fault, the use isn't judged
+-- a name of another kind than its use needs; where its declaration has a fault, the use isn't checked
 abbrev pub other_kind : {A : Type 0} → Bool → ℕ → Verdict A
 other_kind true at = refuse type_rule at
 other_kind false at = Unjudged

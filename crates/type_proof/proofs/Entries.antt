@@ -62,7 +62,7 @@ pub declared_means : (world : World) (x : List ℕ) (e : Entry) → PlainEntry w
 declared_means world x (OfValue (Stored t r)) h = h
 declared_means world x (OfValue (Arrayed t r)) h = h
 declared_means world x (OfValue Counter) h = absurd h
-declared_means world x (OfValue Unknown) h = absurd h
+declared_means world x (OfValue (Unknown sound)) h = absurd h
 declared_means world x (OfTag t) h = h
 declared_means world x (OfFunction s) h = h
 declared_means world x (OfBuiltin c) h = h

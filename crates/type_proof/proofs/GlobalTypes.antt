@@ -162,7 +162,7 @@ abbrev pub held_type : What → Option StaticType
 held_type (Stored t r) = Some t
 held_type (Arrayed t r) = Some t
 held_type Counter = None
-held_type Unknown = None
+held_type (Unknown sound) = None
 
 -- a global whose type is the one that the tables have, if that has its shape
 pub record GlobalTyped (tables : typing.Tables) (x : tree.Global) : Type 0 where
@@ -220,7 +220,7 @@ global_typed world tables x plain j = by (find tables x.name.text) refl
     by (Some (OfValue (Arrayed t r))) e =
         let o : IsObjectType t = plain x.name.text (OfValue (Arrayed t r)) e in as_listed (Arrayed t r) t e refl o (objects_shaped t j.type o j.object)
     by (Some (OfValue Counter)) e = no_type Counter refl e
-    by (Some (OfValue Unknown)) e = no_type Unknown refl e
+    by (Some (OfValue (Unknown sound))) e = no_type (Unknown sound) refl e
     by None e = no_value None e (λ v q. cc)
     by (Some (OfTag t)) e = no_value (Some (OfTag t)) e (λ v q. cc)
     by (Some (OfFunction s)) e = no_value (Some (OfFunction s)) e (λ v q. cc)

@@ -119,13 +119,13 @@ module _ (d : Tables) (tables : typing.Tables) (w : Ghost) where
       by (Initial.Given c) at n q laid = absurd (apart h.type n (shape_of t) (let y : shape_of h.type ≡ ArrayShape n (shape_of t) = cc in y))
       by (Initial.Elements c) at n q laid = laid_array t h.type n c at h.at (h.same (Arrayed t r) t found refl) q laid
   laid_entity b h Counter found = tt
-  laid_entity b h Unknown found = tt
+  laid_entity b h (Unknown sound) found = tt
 
   laid_none : (v : What) → LaidAs d (λ a. heap) w None v
   laid_none (Stored t r) = λ at q. absurd cc
   laid_none (Arrayed t r) = λ at n q. absurd cc
   laid_none Counter = tt
-  laid_none Unknown = tt
+  laid_none (Unknown sound) = tt
 
   laid_global : (bs : List Binding) (x : List ℕ) (v : What) → EachTyped d tables w bs → find tables x ≡ Some (OfValue v)
       → LaidAs d (λ a. heap) w (bound_to bs x) v
@@ -196,7 +196,7 @@ module _ (p : Program) (tables : typing.Tables) (judged : ProgramJudged p tables
             record { at = heap_spot z.number; is = z.is; region = refl; within = subst (λ (q : NameOf). Below 0 q) (sym z.region) tt; below = z.below },
           )
       found x Counter e = absurd (judged.plain x (OfValue Counter) e)
-      found x Unknown e = tt
+      found x (Unknown sound) e = tt
 
   -- `main` is entered once the globals are stored
   runs_main : (n : ℕ) (w : Ghost) (m : Memory) → Inv d w m → EachTyped d tables w world.globals → StringsLaid w world.strings

@@ -130,7 +130,7 @@ pub record MainFound (world : World) (tables : typing.Tables) : Type 0 where
   pub types : function.types ≡ []
   pub gives : function.gives ≡ Int
 
--- A program in which nothing is at fault, by these tables of its names.
+-- A program in which nothing has a fault, by these tables of its names.
 pub record ProgramJudged (p : Program) (tables : typing.Tables) : Type 0 where
   pub structs : StructsJudged (world_of p) tables
   pub unions : UnionsJudged (world_of p) tables

@@ -106,7 +106,7 @@ what_flow : (g : Env) (x : tree.Name) (w : What) → UsesFlow (use_of_local g x 
 what_flow g x (Stored t r) = moved_flow (not (is_copyable g.tables t)) (local_use g.locals x) (local_flow g.locals x)
 what_flow g x (Arrayed t r) = moved_flow (not (is_copyable g.tables t)) (array_use x.at) (array_flow x.at)
 what_flow g x Counter = nothing_flow
-what_flow g x Unknown = nothing_flow
+what_flow g x (Unknown sound) = nothing_flow
 
 name_flow : (g : Env) (x : tree.Name) (l : Option Local) → UsesFlow (use_of_name g x l)
 name_flow g x (Some l) = what_flow g x l.what

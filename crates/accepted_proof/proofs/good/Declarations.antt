@@ -57,7 +57,7 @@ module _ (expressions : ExpressionsJudged) where
 
 -- ---- locals
 
--- no name in scope is of a declaration at fault
+-- no name in scope is of a declaration with a fault
 tags_meant : (g : Env) → IsGood g → TagsAreMeant g
 tags_meant g h x = tagged_same (in_scope g) (good_tags g.regions.count (in_scope g) h.names) x
 

@@ -1,4 +1,4 @@
--- Each expression is at fault or in order, where all is known of each name in scope.
+-- Each expression has a fault or is in order, where all is known of each name in scope.
 use Rattle.std.proofs.Common.{ℕ, Bool, true, false, List, refl}
 use Rattle.cyc_tree.specs.declared.expression.Operator.{Operator}
 use Rattle.cyc_tree.specs.Tree.{Array, Arrow, Dot, Expression, Expressions, Index, Links, Made, MoreExpressions, MoreLinks, Name, NoExpressions, NoLinks}
@@ -40,7 +40,7 @@ use Rattle.accepted_proof.proofs.StructMembers.{tables_good}
 use Rattle.accepted_proof.proofs.Sure.{surely_after, surely_also, surely_both}
 
 module _ (g : Env) (good : IsGood g) where
-  -- an expression is at fault, or it is in order
+  -- an expression has a fault, or it is in order
   abbrev Judged : Expression → Type 0
   Judged e = Surely (λ v. IsGoodValue g v) (judge g e)
 
@@ -91,7 +91,7 @@ module _ (g : Env) (good : IsGood g) where
 
   -- ---- several operands
 
-  -- each operand is at fault, or it is in order
+  -- each operand has a fault, or it is in order
   abbrev AllJudged : Expressions → Type 0
   AllJudged NoExpressions = Unit {0}
   AllJudged (MoreExpressions e es) = Judged e × AllJudged es
@@ -140,7 +140,7 @@ module _ (g : Env) (good : IsGood g) where
   suffixable : (v : Value) → IsGoodValue g v → IsSuffixable v
   suffixable v h = record { type = h.type; below = h.below; seat = h.seat }
 
-  -- each subscript is at fault, or it is in order
+  -- each subscript has a fault, or it is in order
   abbrev SuffixesJudged : Suffixes → Type 0
   SuffixesJudged NoSuffixes = Unit {0}
   SuffixesJudged (Index index es) = Judged index × SuffixesJudged es
@@ -291,6 +291,6 @@ mutual
   each_linked NoLinks g good = tt
   each_linked (MoreLinks o e es) g good = (expression_judged e g good, each_linked es g good)
 
--- Each expression is judged: at fault, or in order.
+-- Each expression is checked: it has a fault, or is in order.
 pub expressions_judged : ExpressionsJudged
 expressions_judged e g h = expression_judged e g h

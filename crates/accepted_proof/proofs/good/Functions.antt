@@ -84,7 +84,7 @@ entry_more n (OfBuiltin k) h = h
 entry_more n (OfValue (Arrayed t r)) h =
     let least : 0 ≤ n = omega arith in (h.0, object_more 0 n t least h.0 h.1, below_more 0 n r least h.2)
 entry_more n (OfValue Counter) h = tt
-entry_more n (OfValue Unknown) h = absurd h
+entry_more n (OfValue (Unknown sound)) h = absurd h
 entry_more n (OfTag t) h = h
 entry_more n OfOther h = absurd h
 

@@ -1,4 +1,4 @@
--- Makings are at fault or in order, where their handles and what they make are.
+-- Makings have a fault or are in order, where their handles and what they make are.
 use Rattle.std.proofs.Common.{◌≡◌, ℕ, Bool, true, false, List, refl}
 use Rattle.cyc_tree.specs.Tree.{Array, Expression, Name, One}
 use Rattle.source_meaning.specs.Shapes.{NeverNull}
@@ -74,7 +74,7 @@ module _ (g : Env) where
   handled_good at (Struct tag rs) h = tt
   handled_good at (Union tag rs) h = tt
 
-  -- where the handle is none, or at fault, so is the making, whether or not its operand is judged
+  -- where the handle is none, or has a fault, so has the making, whether or not its operand is judged
   surely_parts : (at : ℕ) (misfits : Bool) (v : Verdict Value) → Surely (λ w. IsGoodValue g w) v → Surely (λ w. IsGoodValue g w) (by_parts at misfits v)
   surely_parts at misfits (Faulty f fs) h = tt
   surely_parts at misfits Unjudged h = absurd h

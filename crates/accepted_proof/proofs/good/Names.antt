@@ -82,7 +82,8 @@ target_judged count at (Some (OfTag t)) h = by t.is_union
 target_judged count at (Some (OfValue (Stored t r))) h = tt
 target_judged count at (Some (OfValue (Arrayed t r))) h = tt
 target_judged count at (Some (OfValue Counter)) h = tt
-target_judged count at (Some (OfValue Unknown)) h = absurd h
+target_judged count at (Some (OfValue (Unknown true))) h = absurd h
+target_judged count at (Some (OfValue (Unknown false))) h = absurd h
 target_judged count at (Some OfOther) h = absurd h
 
 -- ---- regions in place of region variables
@@ -129,7 +130,7 @@ all_are_known : (ts : List StaticType) → all_known (some_types ts) ≡ true
 all_are_known [] = refl
 all_are_known (t ∷ ts) = all_are_known ts
 
--- Arguments fit parameters that are objects, and the region variables then stand for regions in scope; or they are at fault.
+-- Arguments fit parameters that are objects, and the region variables then stand for regions in scope; or they have a fault.
 pub arguments_judged : (g : Env) (at n : ℕ) (ts : List StaticType) (vs : List Value) → IsAround g.regions.count g.enclosing → AreObjects ts
     → ValuesBelow g.regions.count vs → Surely (λ (rs : List Region). AllBelow g.regions.count rs) (arguments_fit g at n (some_types ts) vs)
 arguments_judged g at n ts vs e w h = by (nat_eq (length (some_types ts)) (length vs))
@@ -252,7 +253,8 @@ union_judged count tag f (Some (OfBuiltin n)) h = tt
 union_judged count tag f (Some (OfValue (Stored t r))) h = tt
 union_judged count tag f (Some (OfValue (Arrayed t r))) h = tt
 union_judged count tag f (Some (OfValue Counter)) h = tt
-union_judged count tag f (Some (OfValue Unknown)) h = absurd h
+union_judged count tag f (Some (OfValue (Unknown true))) h = absurd h
+union_judged count tag f (Some (OfValue (Unknown false))) h = absurd h
 union_judged count tag f (Some OfOther) h = absurd h
 
 pub union_made_judged : (g : Env) (at : ℕ) (tp : Tag × Part) (v : Value) → IsAround g.regions.count g.enclosing → IsGoodMember tp

@@ -1,4 +1,4 @@
--- Operators on objects, `NULL` and nothing: what they give is a word and no place, or they are at fault.
+-- Operators on objects, `NULL` and nothing: what they give is a word and no place, or they have a fault.
 use Rattle.std.proofs.Common.{◌≡◌, ℕ, Bool, true, false, List, refl, sym, subst}
 use Rattle.std.specs.Prelude.{length, nat_lt, ◌&&◌, ◌||◌, ◌++◌}
 use Rattle.std.proofs.lemmas.Bool.{and_parts}

@@ -54,7 +54,7 @@ variable_judged g at (Some (OfValue (Arrayed t r))) h =
     valued g (record { at = at; type = Fat r t; seat = Nowhere }) (record { type = h.0; below = (h.2, h.1); nowhere = refl })
 variable_judged g at (Some (OfValue Counter)) h =
     valued g (record { at = at; type = Unsigned; seat = Nowhere }) (record { type = tt; below = tt; nowhere = refl })
-variable_judged g at (Some (OfValue Unknown)) h = absurd h
+variable_judged g at (Some (OfValue (Unknown sound))) h = absurd h
 variable_judged g at (Some (OfTag t)) h = surely_other (λ v. IsGoodValue g v) t.sound at h.sound
 variable_judged g at (Some (OfFunction s)) h = surely_other (λ v. IsGoodValue g v) s.sound at h.sound
 variable_judged g at (Some (OfBuiltin n)) h = tt

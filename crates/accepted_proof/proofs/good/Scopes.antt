@@ -30,7 +30,7 @@ pub entry_up : (n : ℕ) (e : Entry) → IsGoodEntry n e → IsGoodEntry (n + 1)
 entry_up n (OfValue (Stored t r)) h = (h.0, type_up n t h.1, below_up n r h.2)
 entry_up n (OfValue (Arrayed t r)) h = (h.0, type_up n t h.1, below_up n r h.2)
 entry_up n (OfValue Counter) h = tt
-entry_up n (OfValue Unknown) h = absurd h
+entry_up n (OfValue (Unknown sound)) h = absurd h
 entry_up n (OfTag t) h = h
 entry_up n (OfFunction s) h = h
 entry_up n (OfBuiltin k) h = h

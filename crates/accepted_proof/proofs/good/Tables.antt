@@ -28,7 +28,7 @@ use Rattle.accepted_proof.proofs.Named.{AreNamed, TagKnown}
 
 -- ---- the faults of a program
 
--- what is at fault nowhere: its tags, its names, its items, `main`, and its sizes
+-- what has no fault anywhere: its tags, its names, its items, `main`, and its sizes
 pub record IsClean (p : Program) : Type 0 where
   pub tags : all_tag_faults (judged_tags p) ≡ []
   pub names : second_names (codes "getchar" ∷ codes "putchar" ∷ []) p ≡ []

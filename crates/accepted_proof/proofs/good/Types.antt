@@ -46,14 +46,14 @@ use Rattle.accepted_proof.proofs.good.Pointers.{IsWritten, WritesKey, WritesObje
 
 -- ---- tags
 
--- what a name in a type may mean: a struct or a union without fault; no name is of a declaration at fault
+-- what a name in a type may mean: a struct or a union without fault; no name is of a declaration with a fault
 abbrev pub IsKnownEntry : Entry → Type 0
 IsKnownEntry (OfTag t) = (t.sound ≡ true)
 IsKnownEntry (OfFunction s) = (s.sound ≡ true)
 IsKnownEntry (OfValue (Stored t r)) = Unit {0}
 IsKnownEntry (OfValue (Arrayed t r)) = Unit {0}
 IsKnownEntry (OfValue Counter) = Unit {0}
-IsKnownEntry (OfValue Unknown) = ⊥
+IsKnownEntry (OfValue (Unknown sound)) = ⊥
 IsKnownEntry (OfBuiltin n) = Unit {0}
 IsKnownEntry OfOther = Unit {0}
 
@@ -71,7 +71,8 @@ entry_tagged (OfFunction s) h = ap (λ (b : Bool). if b then OfFunction s else f
 entry_tagged (OfValue (Stored t r)) h = refl
 entry_tagged (OfValue (Arrayed t r)) h = refl
 entry_tagged (OfValue Counter) h = refl
-entry_tagged (OfValue Unknown) h = absurd h
+entry_tagged (OfValue (Unknown true)) h = absurd h
+entry_tagged (OfValue (Unknown false)) h = absurd h
 entry_tagged (OfBuiltin n) h = refl
 entry_tagged OfOther h = refl
 
@@ -85,7 +86,7 @@ tagged_same g k x = find_tagged g x ∙ by (find g x) (k x)
 pub tagged_known : (g : Tables) → KnowsTags g → KnowsTags (tagged g)
 tagged_known g k x = subst (λ (o : Option Entry). MeansKnown o) (sym (tagged_same g k x)) (k x)
 
--- a tag has its count of region parameters, or is at fault
+-- a tag has its count of region parameters, or has a fault
 tag_judged : (at : ℕ) (union : Bool) (o : Option Entry) → MeansKnown o → Surely (λ n. n ≡ regions_of_tag (as_tag o)) (tag_of o union at)
 tag_judged at union None h = tt
 tag_judged at union (Some (OfTag t)) h =
@@ -98,7 +99,8 @@ tag_judged at union (Some (OfFunction s)) h = tt
 tag_judged at union (Some (OfValue (Stored t r))) h = tt
 tag_judged at union (Some (OfValue (Arrayed t r))) h = tt
 tag_judged at union (Some (OfValue Counter)) h = tt
-tag_judged at union (Some (OfValue Unknown)) h = absurd h
+tag_judged at union (Some (OfValue (Unknown true))) h = absurd h
+tag_judged at union (Some (OfValue (Unknown false))) h = absurd h
 tag_judged at union (Some (OfBuiltin n)) h = tt
 tag_judged at union (Some OfOther) h = tt
 
@@ -225,7 +227,7 @@ entry_known n (OfFunction s) h = h.sound
 entry_known n (OfValue (Stored t r)) h = tt
 entry_known n (OfValue (Arrayed t r)) h = tt
 entry_known n (OfValue Counter) h = tt
-entry_known n (OfValue Unknown) h = absurd h
+entry_known n (OfValue (Unknown sound)) h = absurd h
 entry_known n (OfBuiltin k) h = tt
 entry_known n OfOther h = tt
 

@@ -1,4 +1,4 @@
--- What is known of a phrase where it is in order, and nothing where it is at fault or isn't judged: how a phrase follows its parts.
+-- What is known of a phrase where it is in order, and nothing where it has a fault or isn't checked: how a phrase follows its parts.
 use Rattle.std.proofs.Common.{ℕ, Bool, true, false, List, [], ◌∷◌, ◌≡◌, subst}
 use Rattle.std.specs.Prelude.{◌||◌}
 use Rattle.source_typing.specs.Faults.{Fault}
@@ -69,7 +69,7 @@ pub perhaps_fitting : {A B : Type 0} (Q : B → Type 0) (b : Bool) (at : ℕ) (a
 perhaps_fitting Q true at a rule h = h
 perhaps_fitting Q false at a rule h = tt
 
--- a name of another kind, and one whose declaration is at fault
+-- a name of another kind, and one whose declaration has a fault
 pub perhaps_other : {A : Type 0} (P : A → Type 0) (sound : Bool) (at : ℕ) → Perhaps P (other_kind sound at)
 perhaps_other P true at = tt
 perhaps_other P false at = tt

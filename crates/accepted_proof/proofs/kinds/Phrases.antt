@@ -66,7 +66,7 @@ module _ (P : List ℕ → Type 0) where
   variable_named at x (Some (OfValue (Stored t r))) h = h
   variable_named at x (Some (OfValue (Arrayed t r))) h = h
   variable_named at x (Some (OfValue Counter)) h = tt
-  variable_named at x (Some (OfValue Unknown)) h = tt
+  variable_named at x (Some (OfValue (Unknown sound))) h = tt
   variable_named at x (Some (OfTag t)) h = perhaps_other (λ a. ValueNames P a) t.sound at
   variable_named at x (Some (OfFunction s)) h = perhaps_other (λ a. ValueNames P a) s.sound at
   variable_named at x (Some (OfBuiltin n)) h = tt
@@ -91,7 +91,8 @@ module _ (P : List ℕ → Type 0) where
   target_named at x (Some (OfValue (Stored t r))) h = tt
   target_named at x (Some (OfValue (Arrayed t r))) h = tt
   target_named at x (Some (OfValue Counter)) h = tt
-  target_named at x (Some (OfValue Unknown)) h = tt
+  target_named at x (Some (OfValue (Unknown true))) h = tt
+  target_named at x (Some (OfValue (Unknown false))) h = tt
   target_named at x (Some OfOther) h = tt
 
   typed_named : (at : ℕ) (rs : List Region) (o : Option StaticType) → NamesIfKnown P o → Named (typed_result at rs o)

@@ -285,7 +285,8 @@ module _ (w : World) (names : List Named) where
     call_taken x es (Some (OfValue (Stored u r))) t vs v k q h e = absurd cc
     call_taken x es (Some (OfValue (Arrayed u r))) t vs v k q h e = absurd cc
     call_taken x es (Some (OfValue Counter)) t vs v k q h e = absurd cc
-    call_taken x es (Some (OfValue Unknown)) t vs v k q h e = absurd cc
+    call_taken x es (Some (OfValue (Unknown true))) t vs v k q h e = absurd cc
+    call_taken x es (Some (OfValue (Unknown false))) t vs v k q h e = absurd cc
     call_taken x es (Some OfOther) t vs v k q h e = absurd cc
     call_taken x es (Some (OfTag u)) t vs v k q h e = of u.is_union refl (k (OfTag u) refl)
       where

@@ -101,7 +101,7 @@ module _ (w : World) (names : List Named) (g : Env) (scope : IsKnownScope w name
         takes = subst (λ (s : Shape). IsOperandShape s) (sym shape) tt;
         shape = stands_same (static_shape w names (Expression.Variable x)) UnsignedShape shape;
       }) (λ z. z)
-  variable_taken x (Some (OfValue Unknown)) v q e = absurd cc
+  variable_taken x (Some (OfValue (Unknown sound))) v q e = absurd cc
   variable_taken x (Some (OfTag t)) v q e = absurd (no_kind t.sound x.at v e)
   variable_taken x (Some (OfFunction s)) v q e = absurd (no_kind s.sound x.at v e)
   variable_taken x (Some (OfBuiltin n)) v q e = absurd cc

@@ -107,7 +107,7 @@ abbrev pub KnownEntry : World → List Named → List ℕ → Entry → Type 0
 KnownEntry w names x (OfValue (Stored t r)) = StandsAs (named_shape w names x) (shape_of t) × IsKnown w (shape_of t)
 KnownEntry w names x (OfValue (Arrayed t r)) = (count : ℕ) × (named_shape w names x ≡ ArrayShape count (shape_of t)) × IsKnown w (shape_of t)
 KnownEntry w names x (OfValue Counter) = (named_shape w names x ≡ UnsignedShape)
-KnownEntry w names x (OfValue Unknown) = ⊥
+KnownEntry w names x (OfValue (Unknown sound)) = ⊥
 KnownEntry w names x (OfTag t) = KnownKind w t.is_union x t
 KnownEntry w names x (OfFunction s) = KnownFunction w x s
 KnownEntry w names x (OfBuiltin n) = Builtin x n × (has_tag w.structs x ≡ false)

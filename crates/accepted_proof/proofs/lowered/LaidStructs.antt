@@ -1,4 +1,4 @@
--- The structs and unions of a program in which no tag is at fault, one after another as they are judged: lowering takes each, by those before it.
+-- The structs and unions of a program in which no tag has a fault, one after another as they are judged: lowering takes each, by those before it.
 use Rattle.std.proofs.Common.{◌≡◌, ℕ, Bool, true, false, Option, Some, None, List, [], ◌∷◌, ◌++◌, refl, sym, subst, ap, ap₂, ◌∙◌}
 use Rattle.std.specs.Prelude.{bytes_eq, codes, if◌then◌else◌, length, map}
 use Rattle.std.proofs.lemmas.Slice.Eq.{bytes_eq-Decides}

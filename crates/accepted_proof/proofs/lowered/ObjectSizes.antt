@@ -114,7 +114,7 @@ fitting_few g at count fits t u e =
 
 -- the meaning of the last name
 abbrev first_what : List Local → What
-first_what [] = Unknown
+first_what [] = Unknown true
 first_what (l ∷ ls) = l.what
 
 array_is : (v : Verdict StaticType) (n : ℕ) (r : Region) (t : StaticType) → what_of r (Some n) v ≡ Arrayed t r → v ≡ Of t

@@ -37,7 +37,7 @@ module _ (w : World) where
       (stands_from (named_shape w others x) (named_shape w names x) (shape_of t) q h.0, h.1)
   entry_kept names others x (OfValue (Arrayed t r)) q h = (h.0, q ∙ h.1, h.2)
   entry_kept names others x (OfValue Counter) q h = q ∙ h
-  entry_kept names others x (OfValue Unknown) q h = h
+  entry_kept names others x (OfValue (Unknown sound)) q h = h
   entry_kept names others x (OfTag t) q h = h
   entry_kept names others x (OfFunction s) q h = h
   entry_kept names others x (OfBuiltin n) q h = h
@@ -52,12 +52,12 @@ module _ (w : World) where
   kind_sound false x t k = k.sound
   kind_sound true x t k = k.sound
 
-  -- no name in scope is of a declaration at fault
+  -- no name in scope is of a declaration with a fault
   entry_clean : (names : List Named) (x : List ℕ) (e : Entry) → KnownEntry w names x e → IsKnownEntry e
   entry_clean names x (OfValue (Stored t r)) k = tt
   entry_clean names x (OfValue (Arrayed t r)) k = tt
   entry_clean names x (OfValue Counter) k = tt
-  entry_clean names x (OfValue Unknown) k = k
+  entry_clean names x (OfValue (Unknown sound)) k = k
   entry_clean names x (OfTag t) k = kind_sound t.is_union x t k
   entry_clean names x (OfFunction s) k = k.sound
   entry_clean names x (OfBuiltin n) k = tt

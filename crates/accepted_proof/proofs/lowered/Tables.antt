@@ -265,7 +265,7 @@ module _ (p : Program) (judged : ProgramJudged p (tables_of false p)) (found : S
         let v : ArrayFound world x t r = judged.arrays x t r q in
         (v.count, ap (λ (o : Option Entity). entity_shape o) v.is, found_types world tables x (OfValue (Arrayed t r)) known q)
     entry_known x (OfValue Counter) q = absurd (judged.plain x (OfValue Counter) q)
-    entry_known x (OfValue Unknown) q = absurd (judged.plain x (OfValue Unknown) q)
+    entry_known x (OfValue (Unknown sound)) q = absurd (judged.plain x (OfValue (Unknown sound)) q)
     entry_known x (OfTag t) q = tag_known x t q
     entry_known x (OfFunction s) q = function_known x s q
     entry_known x (OfBuiltin n) q = (judged.plain x (OfBuiltin n) q, not_made p x (OfBuiltin n) found q (λ t z. cc))

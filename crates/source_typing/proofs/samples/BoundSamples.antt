@@ -247,7 +247,7 @@ bound_26 : typing_fault false
     ≡ Some (fault type_rule 13)
 bound_26 = refl
 
--- a string that is too long: its bound isn't judged
+-- a string that is too long: its bound isn't checked
 -- char *{5000} g = "aaaaaaaaaaaaaaaaaaaaaaaaaaaaaaaaaaaaa .. aaaaaaaaaaaaaaaaaaaaaaaaa"; int main() { return 0; }
 bound_27 : typing_fault false
     ((tree.GlobalItem (global (type_at 0 tree.Char ((pointer (sign.Nullable 5000) None) ∷ [])) (name_at 13 "g") (Initial.Given (Constant.Text 17 (replicate

@@ -343,7 +343,7 @@ consumed_flow_33 : first_fault
     ≡ None
 consumed_flow_33 = refl
 
--- what is not reachable is not judged
+-- what is not reachable is not checked
 -- int f(int *`U p) { ufree(p); return 0; ufree(p); } int main() { return 0; }
 consumed_flow_34 : first_fault
     ((tree.FunctionItem (routine (int_at 0) (name_at 4 "f") ((member (type_at 6 tree.Int ((pointer (sign.Nullable 1) (Some (tree.Unique 11))) ∷ [])) (name_at 14

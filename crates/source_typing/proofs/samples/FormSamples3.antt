@@ -61,7 +61,7 @@ form_77 : first_fault
     ≡ Some (fault type_rule 20)
 form_77 = refl
 
--- the call is a part at fault
+-- the call is a part with a fault
 -- int f() { return 1; } int main() { int x; x :=: f(); return 0; }
 form_78 : first_fault
     ((tree.FunctionItem (routine (int_at 0) (name_at 4 "f") [] None [] (Execute (returns 10 (number 17 1)) NoItems) 20)) ∷ (main_at 22 (Declare (tree.Local

@@ -1,4 +1,4 @@
--- Makings of which a part isn't judged, since its name's declaration has a fault: they are judged by the parts that are known.
+-- Makings of which a part isn't checked, since its name's declaration has a fault: they are judged by the parts that are known.
 use Rattle.std.proofs.Common.{◌≡◌, refl, false, Some, [], ◌∷◌}
 use Rattle.cyc_tree.specs.declared.expression.Prefix.TheVariants.{AddressOf}
 use Rattle.cyc_tree.specs.Tree as tree

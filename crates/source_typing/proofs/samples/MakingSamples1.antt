@@ -40,7 +40,7 @@ making_4 : first_fault
     ≡ Some (fault type_rule 29)
 making_4 = refl
 
--- the operand is not judged, since nothing fixes its region
+-- the operand is not checked, since nothing fixes its region
 -- int *`r f(int *`r p) { return p; } int main() { int h; int *p = rnew(h) f(NULL); return 0; }
 making_5 : first_fault
     ((tree.FunctionItem (routine (type_at 0 tree.Int ((pointer (sign.Nullable 1) (Some (region_at 5 "r"))) ∷ [])) (name_at 8 "f") ((member (type_at 10 tree.Int
@@ -231,7 +231,7 @@ making_25 : first_fault
     ≡ Some (fault type_rule 42)
 making_25 = refl
 
--- the other arguments are not judged
+-- the other arguments are not checked
 -- int f(int x) { return x; } int main() { f(y, NULL); return 0; }
 making_26 : first_fault
     ((tree.FunctionItem (routine (int_at 0) (name_at 4 "f") ((member (int_at 6) (name_at 10 "x")) ∷ []) None [] (Execute (returns 15 (variable_at 22 "x"))

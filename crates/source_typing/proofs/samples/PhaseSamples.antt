@@ -13,7 +13,7 @@ use Rattle.source_typing.specs.Answers.{effect_fault}
 use Rattle.source_typing.proofs.samples.SampleTrees.{name_at, region_at, type_at, int_at, number, variable_at, returns, member, structure, global, bound}
 use Rattle.source_typing.proofs.samples.SampleTrees.{routine, main_at, main_returns}
 
--- with the rules on liveness the initializer is at fault, and the conversion is not judged
+-- with the rules on liveness the initializer has a fault, and the conversion is not checked
 -- struct P { int x; }; int f(struct P *`b p; {}) { int x = *p; return 0; } int main() { return 0; }
 live_1 : first_fault
     ((tree.StructItem (structure 0 (name_at 7 "P") [] ((member (int_at 11) (name_at 15 "x")) ∷ []))) ∷ (tree.FunctionItem (routine (int_at 21) (name_at 25 "f")

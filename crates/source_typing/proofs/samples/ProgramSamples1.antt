@@ -171,7 +171,7 @@ program_15 : first_fault
     ≡ Some (fault name_rule 4294967295)
 program_15 = refl
 
--- a use of a name whose declaration is at fault is not judged
+-- a use of a name whose declaration has a fault is not checked
 -- int main() { return g(); } void g;
 program_16 : first_fault
     ((main_at 0 (Execute (returns 13 (Expression.Call (name_at 20 "g") NoExpressions)) NoItems) 25) ∷ (tree.GlobalItem (global (type_at 27 tree.Void [])
@@ -210,7 +210,7 @@ program_20 : first_fault
     ≡ Some (fault type_rule 11)
 program_20 = refl
 
--- the later tag is at fault by its own, so its use is not judged
+-- the later tag has a fault by its own, so its use is not checked
 -- struct A { struct B<`H, `H> *p; }; struct B<`r> { void x; }; int main() { return 0; }
 program_21 : first_fault
     ((tree.StructItem (structure 0 (name_at 7 "A") [] ((member (type_at 11 (tree.Struct (name_at 18 "B") ((tree.Heap 20) ∷ (tree.Heap 24) ∷ [])) ((pointer
@@ -302,7 +302,7 @@ program_32 : first_fault
     ≡ None
 program_32 = refl
 
--- a missing region of an initializer that is not judged
+-- a missing region of an initializer that is not checked
 -- int main() { int *p = f(1); char c = p; return 0; } int *f(int x, int x) { return NULL; }
 program_33 : first_fault
     ((main_at 0 (Declare (tree.Local (type_at 13 tree.Int ((pointer (sign.Nullable 1) None) ∷ [])) (name_at 18 "p") (Initializer.Value (Expression.Call (name_at 22

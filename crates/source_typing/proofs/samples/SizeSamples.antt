@@ -54,7 +54,7 @@ size_2 : first_fault
     ≡ Some (fault size_rule 297)
 size_2 = refl
 
--- a use of it is not judged
+-- a use of it is not checked
 -- struct A { int a; int b; int c; int d; int e; int f; int g; int h; }; struct B { struct A a; struct A b; struct A c; struct A d; struct A e; struct A f;
 -- struct A g; struct A h; }; struct C { struct B a; struct B b; struct B c; struct B d; struct B e; struct B f; struct B g; struct B h; }; struct D { char c;
 -- struct C a; struct C b; }; int main() { struct D d; d.nope = 1; return 0; }

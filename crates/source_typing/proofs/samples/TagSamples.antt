@@ -35,7 +35,7 @@ tag_3 : first_fault
     ≡ Some (fault type_rule 13)
 tag_3 = refl
 
--- a global that names one at fault further on
+-- a global that names one with a fault further on
 -- struct y *x; struct z *y; int main() { return 0; }
 tag_4 : first_fault
     ((tree.GlobalItem (global (type_at 0 (tree.Struct (name_at 7 "y") []) (pointer (sign.Nullable 1) None ∷ [])) (name_at 10 "x") Initial.Unset)) ∷
@@ -134,7 +134,7 @@ tag_11 : first_fault
     ≡ Some (fault type_rule 17)
 tag_11 = refl
 
--- what is at fault by itself isn't judged within itself
+-- what has a fault by itself isn't checked within itself
 -- struct S { struct S s; int x; int x; }; int main() { return 0; }
 tag_12 : first_fault
     ((tree.StructItem (structure 0 (name_at 7 "S") [] ((member (type_at 11 (tree.Struct (name_at 18 "S") []) []) (name_at 20 "s")) ∷ (member (int_at 23)

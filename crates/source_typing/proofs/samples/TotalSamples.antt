@@ -47,7 +47,7 @@ string_passed = refl
 item_passed : total_faults 1048568 (item_statics (at_item false [] 0) (begun (text_of 1))) ≡ fault size_rule 20 ∷ []
 item_passed = refl
 
--- a global that is at fault counts as nothing, and its string for itself
+-- a global that has a fault counts as nothing, and its string for itself
 at_fault : item_statics (at_item false [] 0) (tree.GlobalItem (global (int_at 20) (name_at 27 "s") (Initial.Given (text_of 8)))) ≡ (20, 0) ∷ (31, 16) ∷ []
 at_fault = refl
 

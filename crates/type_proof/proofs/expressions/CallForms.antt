@@ -162,7 +162,8 @@ module _ (n : ℕ) (d : Tables) (g : Env) (scope : Scope) (f : NameOf → Region
     called_entry at x (Some (OfValue (Stored u r))) t vs us es v p there m k h e = absurd cc
     called_entry at x (Some (OfValue (Arrayed u r))) t vs us es v p there m k h e = absurd cc
     called_entry at x (Some (OfValue Counter)) t vs us es v p there m k h e = absurd cc
-    called_entry at x (Some (OfValue Unknown)) t vs us es v p there m k h e = absurd cc
+    called_entry at x (Some (OfValue (Unknown true))) t vs us es v p there m k h e = absurd cc
+    called_entry at x (Some (OfValue (Unknown false))) t vs us es v p there m k h e = absurd cc
     called_entry at x (Some (OfTag u)) t vs us es v p there m k h e =
         called_tag at x u t vs us es v (p x (OfTag u) m) m k h e
     called_entry at x (Some OfOther) t vs us es v p there m k h e = absurd cc

@@ -54,7 +54,7 @@ seat_known g i strict (In r) l y = (l, strictly g r strict y)
 seat_known g i strict InBlock l y = tt
 
 module _ (n : ℕ) (d : Tables) (g : Env) (scope : Scope) (f : NameOf → Region) (b : ℕ) (low : ℕ) where
-  -- a place by what a pointer that is looked at leads to; what isn't in order with its use is at fault
+  -- a place by what a pointer that is looked at leads to; what isn't in order with its use has a fault
   pub denotes_contents : (i : Enclosing) → g.lenient ≡ false → Structs d scope.world g.tables
       → (at place : ℕ) (moves through : Bool) (a v : Value) (u : Use) (e : Sense) → (moves ≡ false → is_copyable g.tables v.type ≡ true)
       → (through ≡ false → (c : Bool) (t : StaticType) → a.type ≡ Unique c t → u.whole ≡ true)

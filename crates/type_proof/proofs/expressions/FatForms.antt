@@ -139,7 +139,7 @@ module _ (n : ℕ) (d : Tables) (g : Env) (scope : Scope) (f : NameOf → Region
           denotes_value n d g scope f b low v u.look Unsigned UnsignedShape _ tt tt r.1 refl
           (λ s q. gives_counted n d g scope f b low s (u.look s).states z.region z.to e.look it (shows s q))
 
-  -- a unique pointer is looked at where it is held; what isn't in order with its use is at fault
+  -- a unique pointer is looked at where it is held; what isn't in order with its use has a fault
   pub denotes_indexed : (i : Enclosing) → g.lenient ≡ false → Structs d scope.world g.tables
       → (place : ℕ) (moves through own : Bool) (a c v : Value) (ua uc : Use) (e index : Sense) → (moves ≡ false → is_copyable g.tables v.type ≡ true)
       → (through ≡ false → (c : Bool) (t : StaticType) → a.type ≡ Unique c t → ua.whole ≡ true)

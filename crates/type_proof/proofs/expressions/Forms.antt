@@ -304,7 +304,7 @@ module _ (n : ℕ) (d : Tables) (g : Env) (scope : Scope) (f : NameOf → Region
       by {at = at} (Some l) q h =
           let is : l.what ≡ Counter = (let a : Some (OfValue l.what) ≡ Some (OfValue Counter) = sym (local_meant g.locals g.tables x.text l q) ∙ m in cc) in
           subst (λ (y : What). Denotes v (use_of_local g x y) (place_sense scope.world UnsignedShape (give at))) (sym is) h
-  denotes_variable structs binds x (Some (OfValue Unknown)) v p m e l q = absurd (p x.text (OfValue Unknown) m)
+  denotes_variable structs binds x (Some (OfValue (Unknown sound))) v p m e l q = absurd (p x.text (OfValue (Unknown sound)) m)
   denotes_variable structs binds x (Some (OfTag t)) v p m e l q = absurd (never t.sound e)
     where
       never : (c : Bool) → other_kind c x.at ≡ Of v → ⊥

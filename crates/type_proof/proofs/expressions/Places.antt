@@ -51,7 +51,7 @@ pub none_moved : (ts : List RunType) → Copied ts → any_moved (map shape_of t
 none_moved [] h = refl
 none_moved (t ∷ ts) h = ap (λ (x : Bool). if x then true else any_moved (map shape_of ts)) h.0 ∙ none_moved ts h.1
 
--- what would not be copied is at fault
+-- what would not be copied has a fault
 pub uncopied : (c : Bool) (at : ℕ) (s : States) → (copy_if c at s).faults ≡ [] → (c ≡ false) × ((copy_if c at s).states ≡ s)
 uncopied true at s e = absurd cc
 uncopied false at s e = (refl, refl)

@@ -61,7 +61,7 @@ module _ (w : Ghost) (m : Memory) (w' : Ghost) (m' : Memory) (r : Rewrites w m w
     local_again (Stored t q) (Variable sh at) a h = λ c. cells_again a at _ (h c)
     local_again (Arrayed t q) e a h = tt
     local_again Counter e a h = tt
-    local_again Unknown e a h = tt
+    local_again (Unknown sound) e a h = tt
 
     -- what stores values where values were leaves all locals in their states
     pub all_again : (ls : List Local) (bs : List Binding) (s : States) → AllStand tables d f ls bs s w m → AllStand tables d f ls bs s w' m'

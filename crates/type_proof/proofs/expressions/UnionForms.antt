@@ -75,7 +75,8 @@ union_is at f (Some (OfTag t)) p e = by_sound t.sound e
 union_is at f (Some (OfValue (Stored t r))) p e = absurd cc
 union_is at f (Some (OfValue (Arrayed t r))) p e = absurd cc
 union_is at f (Some (OfValue Counter)) p e = absurd cc
-union_is at f (Some (OfValue Unknown)) p e = absurd cc
+union_is at f (Some (OfValue (Unknown true))) p e = absurd cc
+union_is at f (Some (OfValue (Unknown false))) p e = absurd cc
 union_is at f (Some (OfFunction s)) p e = absurd (never s.sound e)
   where
     never : (c : Bool) → other_kind c at.at ≡ Of p → ⊥

@@ -71,21 +71,21 @@ abbrev pub BoundAs : ℕ → (NameOf → Region) → Option Entity → What → 
 BoundAs count f e (Stored t r) = Bound count f e (shape_of t) t r
 BoundAs count f e (Arrayed t r) = (n : ℕ) × Bound count f e (ArrayShape n (shape_of t)) t r
 BoundAs count f e Counter = Numbered e
-BoundAs count f e Unknown = Unit {0}
+BoundAs count f e (Unknown sound) = Unit {0}
 
 -- in a region that is live
 abbrev pub LivesAs : (NameOf → Bool) → What → Type 0
 LivesAs live (Stored t r) = live r ≡ true
 LivesAs live (Arrayed t r) = live r ≡ true
 LivesAs live Counter = Unit {0}
-LivesAs live Unknown = Unit {0}
+LivesAs live (Unknown sound) = Unit {0}
 
 -- and its cells
 abbrev pub LaidAs : Tables → (NameOf → Region) → Ghost → Option Entity → What → Type 0
 LaidAs d f w e (Stored t r) = (at : Spot) → e ≡ Some (Variable (shape_of t) at) → Laid w at (flat heap d (renamed f t))
 LaidAs d f w e (Arrayed t r) = (at : Spot) (n : ℕ) → e ≡ Some (Variable (ArrayShape n (shape_of t)) at) → AllLaid w at n (flat heap d (renamed f t))
 LaidAs d f w e Counter = Unit {0}
-LaidAs d f w e Unknown = Unit {0}
+LaidAs d f w e (Unknown sound) = Unit {0}
 
 bound_alike : (n m : ℕ) (f h : NameOf → Region) (e : Option Entity) (s : Shape) (t : StaticType) (r : NameOf) → ((a : NameOf) → Below n a → Below m a)
     → ((u : StaticType) → TypeBelow n u → TypeBelow m u) → Alike n f h → Bound n f e s t r → Bound m h e s t r
@@ -98,14 +98,14 @@ pub bound_as_alike : (n m : ℕ) (f h : NameOf → Region) (e : Option Entity) (
 bound_as_alike n m f h e (Stored t r) up ups same p = bound_alike n m f h e (shape_of t) t r up ups same p
 bound_as_alike n m f h e (Arrayed t r) up ups same p = (p.0, bound_alike n m f h e (ArrayShape p.0 (shape_of t)) t r up ups same p.1)
 bound_as_alike n m f h e Counter up ups same p = p
-bound_as_alike n m f h e Unknown up ups same p = tt
+bound_as_alike n m f h e (Unknown sound) up ups same p = tt
 
 -- where more is live
 pub lives_more : (live more : NameOf → Bool) (v : What) → ((r : NameOf) → live r ≡ true → more r ≡ true) → LivesAs live v → LivesAs more v
 lives_more live more (Stored t r) up l = up r l
 lives_more live more (Arrayed t r) up l = up r l
 lives_more live more Counter up l = tt
-lives_more live more Unknown up l = tt
+lives_more live more (Unknown sound) up l = tt
 
 -- later, where the same names stand for the same
 pub laid_as_later : (n : ℕ) (d : Tables) (f h : NameOf → Region) (w w' : Ghost) (e : Option Entity) (v : What) → Alike n f h → BoundAs n f e v
@@ -116,14 +116,14 @@ laid_as_later n d f h w w' e (Arrayed t r) same p keep l = λ at c q.
     subst (λ (u : RunType). AllLaid w' at c (flat heap d u)) (sym (renamed_alike n f h t same p.1.below))
     (all_laid_kept w w' at c (flat heap d (renamed f t)) keep (l at c q))
 laid_as_later n d f h w w' e Counter same p keep l = tt
-laid_as_later n d f h w w' e Unknown same p keep l = tt
+laid_as_later n d f h w w' e (Unknown sound) same p keep l = tt
 
 pub laid_as_kept : (d : Tables) (f : NameOf → Region) (w w' : Ghost) (e : Option Entity) (v : What)
     → ((s : Spot) (t : RunType) → w.types s ≡ Some (Reached t) → w'.types s ≡ Some (Reached t)) → LaidAs d f w e v → LaidAs d f w' e v
 laid_as_kept d f w w' e (Stored t r) keep l = λ at q. laid_kept w w' at (flat heap d (renamed f t)) keep (l at q)
 laid_as_kept d f w w' e (Arrayed t r) keep l = λ at c q. all_laid_kept w w' at c (flat heap d (renamed f t)) keep (l at c q)
 laid_as_kept d f w w' e Counter keep l = tt
-laid_as_kept d f w w' e Unknown keep l = tt
+laid_as_kept d f w w' e (Unknown sound) keep l = tt
 
 -- the variables in scope and the globals, which lie in the heap, have their spots
 pub record Binds (g : Env) (scope : Scope) (f : NameOf → Region) : Type 0 where

@@ -54,7 +54,7 @@ module _ (tables : typing.Tables) (d : Tables) (f : NameOf → Region) where
   LocalStands (Stored t r) (Variable sh at) a w m = is_copyable tables t ≡ false → CellsStand a w m at (cells_type d f t)
   LocalStands (Arrayed t r) e a w m = Unit {0}
   LocalStands Counter e a w m = Unit {0}
-  LocalStands Unknown e a w m = Unit {0}
+  LocalStands (Unknown sound) e a w m = Unit {0}
 
   abbrev pub AllStand : List Local → List Binding → States → Ghost → Memory → Type 0
   AllStand [] [] [] w m = Unit {0}
@@ -66,7 +66,7 @@ module _ (tables : typing.Tables) (d : Tables) (f : NameOf → Region) where
   IsKind (Stored t r) a = is_copyable tables t ≡ false → a ≡ Plain → ⊥
   IsKind (Arrayed t r) a = Unit {0}
   IsKind Counter a = Unit {0}
-  IsKind Unknown a = Unit {0}
+  IsKind (Unknown sound) a = Unit {0}
 
   abbrev pub AreKinds : List Local → States → Type 0
   AreKinds [] [] = Unit {0}
@@ -117,7 +117,7 @@ module _ (tables : typing.Tables) (d : Tables) (f : NameOf → Region) (w : Ghos
   local_same (Stored t r) (Variable sh at) a k h = λ c. cells_same a w m w' m' at (cells_type d f t) (k sh at refl) (h c)
   local_same (Arrayed t r) e a k h = tt
   local_same Counter e a k h = tt
-  local_same Unknown e a k h = tt
+  local_same (Unknown sound) e a k h = tt
 
   -- where each is as it was
   pub all_same : (ls : List Local) (bs : List Binding) (s : States) → SameAll bs → AllStand tables d f ls bs s w m → AllStand tables d f ls bs s w' m'
@@ -218,14 +218,14 @@ module _ (tables : typing.Tables) (d : Tables) (f : NameOf → Region) where
   first_kind (Stored t r) (Variable sh at) a c w m n h = λ q. met_first a c w m at (cells_type d f t) (n q) (h q)
   first_kind (Arrayed t r) e a c w m n h = tt
   first_kind Counter e a c w m n h = tt
-  first_kind Unknown e a c w m n h = tt
+  first_kind (Unknown sound) e a c w m n h = tt
 
   second_kind : (v : What) (e : Entity) (a c : State) (w : Ghost) (m : Memory) → IsKind tables d f v a → LocalStands tables d f v e c w m
       → LocalStands tables d f v e (meet a c) w m
   second_kind (Stored t r) (Variable sh at) a c w m n h = λ q. met_second a c w m at (cells_type d f t) (n q) (h q)
   second_kind (Arrayed t r) e a c w m n h = tt
   second_kind Counter e a c w m n h = tt
-  second_kind Unknown e a c w m n h = tt
+  second_kind (Unknown sound) e a c w m n h = tt
 
   pub all_met_first : (ls : List Local) (bs : List Binding) (s t : States) (w : Ghost) (m : Memory) → AreKinds tables d f ls t → AllStand tables d f ls bs s w m
       → AllStand tables d f ls bs (meet_all s t) w m
@@ -254,7 +254,7 @@ module _ (tables : typing.Tables) (d : Tables) (f : NameOf → Region) where
   kind_is (Stored t r) (Variable sh at) a w m h = λ q z. subst (λ (c : State). CellsStand c w m at (cells_type d f t)) z (h q)
   kind_is (Arrayed t r) e a w m h = tt
   kind_is Counter e a w m h = tt
-  kind_is Unknown e a w m h = tt
+  kind_is (Unknown sound) e a w m h = tt
 
   pub are_kinds : (ls : List Local) (bs : List Binding) (s : States) (w : Ghost) (m : Memory) → AllStand tables d f ls bs s w m → AreKinds tables d f ls s
   are_kinds [] [] [] w m h = tt
@@ -285,7 +285,7 @@ module _ (tables : typing.Tables) (d : Tables) (f : NameOf → Region) where
   effect_kind (Stored t r) e a h = λ q. becomes_kind e a (h q)
   effect_kind (Arrayed t r) e a h = tt
   effect_kind Counter e a h = tt
-  effect_kind Unknown e a h = tt
+  effect_kind (Unknown sound) e a h = tt
 
   pub kinds_after : (n : ℕ) (e : Effects) (ls : List Local) (s : States) → AreKinds tables d f ls s → AreKinds tables d f ls (states_after n e s)
   kinds_after zero e ls s h = h
@@ -301,7 +301,7 @@ abbrev pub WhatBelow : ℕ → What → Type 0
 WhatBelow c (Stored t r) = TypeBelow c t
 WhatBelow c (Arrayed t r) = Unit {0}
 WhatBelow c Counter = Unit {0}
-WhatBelow c Unknown = Unit {0}
+WhatBelow c (Unknown sound) = Unit {0}
 
 abbrev pub LocalsBelow : ℕ → List Local → Type 0
 LocalsBelow c [] = Unit {0}
@@ -315,7 +315,7 @@ module _ (tables : typing.Tables) (d : Tables) (f h : NameOf → Region) (c : �
       (sym (renamed_alike c f h t same below)) (s q)
   local_alike (Arrayed t r) e a w m same below s = tt
   local_alike Counter e a w m same below s = tt
-  local_alike Unknown e a w m same below s = tt
+  local_alike (Unknown sound) e a w m same below s = tt
 
   pub all_alike : (ls : List Local) (bs : List Binding) (s : States) (w : Ghost) (m : Memory) → Alike c f h → LocalsBelow c ls
       → AllStand tables d f ls bs s w m → AllStand tables d h ls bs s w m
@@ -362,7 +362,7 @@ abbrev pub owns : typing.Tables → What → Bool
 owns tables (Stored t r) = not (is_copyable tables t)
 owns tables (Arrayed t r) = not (is_copyable tables t)
 owns tables Counter = false
-owns tables Unknown = false
+owns tables (Unknown sound) = false
 
 -- the same of a name, by the local that it is of
 abbrev pub is_own : typing.Tables → Option Local → Bool

@@ -56,7 +56,7 @@ bound_lives : (live : Bool) (g : Regions) (f : NameOf → Region) (e : Option En
 bound_lives live g f e (Stored t r) p l = lives_in_name live g r p.within l
 bound_lives live g f e (Arrayed t r) p l = lives_in_name live g r p.1.within l
 bound_lives live g f e Counter p l = tt
-bound_lives live g f e Unknown p l = tt
+bound_lives live g f e (Unknown sound) p l = tt
 
 pub surrounds_name : (live : Bool) (d : Tables) (world : World) (tables : typing.Tables) (g : Env) (scope : Scope) (f : NameOf → Region) (gives : RunType)
     (names : List RegionNamed) (q : Region)

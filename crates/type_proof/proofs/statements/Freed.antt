@@ -147,7 +147,7 @@ own_of d g scope f x l v of binds found judged is moved number array = by l.what
     })
     by (Arrayed t r) e = absurd (array r t (sym (type_is (Fat r t) Nowhere (value_is (Arrayed t r) e))))
     by Counter e = absurd (number (sym (type_is Unsigned Nowhere (value_is Counter e))))
-    by Unknown e = absurd (let z = value_is Unknown e in cc)
+    by (Unknown sound) e = absurd (let z = value_is (Unknown sound) e in cc)
 
 -- a unique pointer
 pub unique_own : (d : Tables) (g : Env) (scope : Scope) (f : NameOf → Region) (x : tree.Name) (l : Local) → Binds g scope f

@@ -75,7 +75,7 @@ module _ (d : Tables) (world : World) (tables : typing.Tables) (sources : Source
     global_lives e (Stored t r) p = heap_lives r p.within
     global_lives e (Arrayed t r) p = heap_lives r p.1.within
     global_lives e Counter p = tt
-    global_lives e Unknown p = tt
+    global_lives e (Unknown sound) p = tt
 
     result_is : (t : StaticType) → F.gives ≡ t → ResultIs (block_entered judged.outside) entry_scope entry_names (renamed h F.gives) t
     result_is t e = subst (λ (u : StaticType). ResultIs (block_entered judged.outside) entry_scope entry_names (renamed h F.gives) u) e (record {

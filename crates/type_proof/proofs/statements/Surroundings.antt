@@ -311,7 +311,7 @@ what_up : (n : ℕ) (v : What) → WhatBelow n v → WhatBelow (n + 1) v
 what_up n (Stored t r) h = type_up n t h
 what_up n (Arrayed t r) h = tt
 what_up n Counter h = tt
-what_up n Unknown h = tt
+what_up n (Unknown sound) h = tt
 
 pub locals_up : (n : ℕ) (ls : List Local) → LocalsBelow n ls → LocalsBelow (n + 1) ls
 locals_up n [] h = tt

@@ -23,4 +23,4 @@ returns-in-Wrong c t e =
 pub returns-in-NotJudged : goal.returns-in-NotJudged
 returns-in-NotJudged c t e =
     let h = ap (short_of static_type) (sym c.in-NotJudged.is) ∙ e in
-    subst (λ w. WhatIs w local.NotKnown) (sym (unjudged_what (region_of c.args.frame) c.args.count t h)) WhatIs.NotKnown
+    subst (λ w. WhatIs w local.Untyped) (sym (unjudged_what (region_of c.args.frame) c.args.count t h)) WhatIs.Untyped

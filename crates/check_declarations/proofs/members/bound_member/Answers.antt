@@ -14,8 +14,8 @@ pub returns-in-None : goal.returns-in-None
 returns-in-None c = λ g has.
     let union = c.args.union.now in
     let u = Some (switched_in union) in
-    subst (λ p. WhatIs (bound_what (region_of c.args.frame) u p) local.NotKnown)
+    subst (λ p. WhatIs (bound_what (region_of c.args.frame) u p) local.Untyped)
     (ap (λ (o : Option (Bor Member)). option_map (λ m. member_of m.now) o) (sym c.in-None.is) ∙ c.member.ensures
     ∙ ap (λ (x : List ℕ). part_named (Some union) x) c.deref.ensures.value
     ∙ has.parts (name_tree c.args.field.now).text)
-    WhatIs.NotKnown
+    WhatIs.Untyped

@@ -12,5 +12,5 @@ use Rattle.check_declarations.proofs.members.bound_what.Goals as goal
 pub returns-in-None : goal.returns-in-None
 returns-in-None c = λ g has.
     let x = (name_tree c.args.field.now).text in
-    subst (λ o. let u = option_map switched_in o in WhatIs (bound_what (region_of c.args.frame) u (part_in (parts_of_chosen g u) x)) local.NotKnown)
-    (sym c.in-None.is) WhatIs.NotKnown
+    subst (λ o. let u = option_map switched_in o in WhatIs (bound_what (region_of c.args.frame) u (part_in (parts_of_chosen g u) x)) local.Untyped)
+    (sym c.in-None.is) WhatIs.Untyped

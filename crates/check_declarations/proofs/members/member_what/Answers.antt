@@ -19,5 +19,5 @@ returns-in_ok-renamed-in-Some c =
 
 pub returns-in-None : goal.returns-in-None
 returns-in-None c =
-    subst (λ (o : Option CType). WhatIs (part_what (region_of c.args.frame) (regions_of c.args.regions.now) (option_map static_type o)) local.NotKnown)
-    (sym c.in-None.is) WhatIs.NotKnown
+    subst (λ (o : Option CType). WhatIs (part_what (region_of c.args.frame) (regions_of c.args.regions.now) (option_map static_type o)) local.Untyped)
+    (sym c.in-None.is) WhatIs.Untyped

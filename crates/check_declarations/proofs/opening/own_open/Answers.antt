@@ -43,10 +43,10 @@ returns-in-Wrong-clause-judged c = λ g at x known suits.
     let r = region_tree c.args.region.now in
     let k = name_tree c.args.key.now in
     let v = opened_region g r k in
-    let d = c.unknown_local.result in
+    let d = c.faulty_local.result in
     let e = ap (short_of region_of) (sym c.in-Wrong.is) ∙ c.in_ok-opened.ensures g known suits.names in
     subst (λ w. Matches (verdict.faults_of v) w d) (sym (wrong_opened g.frame v _ e))
-    (c.unknown_local.ensures (verdict.faults_of v) (ap fault_in e ∙ earliest_in v))
+    (c.faulty_local.ensures (verdict.faults_of v) (ap fault_in e ∙ earliest_in v))
 
 pub returns-in-Wrong-clause-stands : goal.returns-in-Wrong-clause-stands
 returns-in-Wrong-clause-stands c = λ g at x outer h.
@@ -62,10 +62,10 @@ returns-in-NotJudged-clause-judged c = λ g at x known suits.
     let r = region_tree c.args.region.now in
     let k = name_tree c.args.key.now in
     let v = opened_region g r k in
-    let d = c.unknown_local-in-NotJudged.result in
+    let d = c.untyped_local.result in
     let e = ap (short_of region_of) (sym c.in-NotJudged.is) ∙ c.in_ok-opened.ensures g known suits.names in
     subst (λ w. Matches (verdict.faults_of v) w d) (sym (unjudged_opened g.frame v e))
-    (c.unknown_local-in-NotJudged.ensures (verdict.faults_of v) (ap fault_in e ∙ earliest_in v))
+    (c.untyped_local.ensures (verdict.faults_of v) (ap fault_in e ∙ earliest_in v))
 
 pub returns-in-NotJudged-clause-stands : goal.returns-in-NotJudged-clause-stands
 returns-in-NotJudged-clause-stands c = λ g at x outer h.

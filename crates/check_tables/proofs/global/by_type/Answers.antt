@@ -17,8 +17,8 @@ returns-in-Wrong-clause-meaning c fs v e is =
 
 pub returns-in-NotJudged-clause-meaning : goal.returns-in-NotJudged-clause-meaning
 returns-in-NotJudged-clause-meaning c fs v e is =
-    subst (λ m. Means (Some (OfValue (what_after fs (what_of TheHeap c.args.count v)))) (Some m)) (sym c.unknown-in-NotJudged.ensures.meaning)
-    (unjudged_means fs c.args.count v (sym (ap (λ o. short_of static_type o) c.in-NotJudged.is) ∙ e))
+    subst (λ m. Means (Some (OfValue (what_after fs (what_of TheHeap c.args.count v)))) (Some m)) (sym c.of_no_type.ensures.meaning)
+    (unjudged_means c.args.fault fs c.args.count v (sym (ap (λ o. short_of static_type o) c.in-NotJudged.is) ∙ e) is)
 
 pub returns-in-Of-clause-meaning : goal.returns-in-Of-clause-meaning
 returns-in-Of-clause-meaning c fs v e is =
@@ -32,7 +32,7 @@ returns-in-Wrong-clause-bytes c fs g v e is b =
 
 pub returns-in-NotJudged-clause-bytes : goal.returns-in-NotJudged-clause-bytes
 returns-in-NotJudged-clause-bytes c fs g v e is b =
-    c.unknown-in-NotJudged.ensures.bytes ∙ unjudged_bytes fs g c.args.count v (sym (ap (λ o. short_of static_type o) c.in-NotJudged.is) ∙ e)
+    c.of_no_type.ensures.bytes ∙ unjudged_bytes fs g c.args.count v (sym (ap (λ o. short_of static_type o) c.in-NotJudged.is) ∙ e)
 
 pub returns-in-Of-clause-bytes : goal.returns-in-Of-clause-bytes
 returns-in-Of-clause-bytes c fs g v e is b =

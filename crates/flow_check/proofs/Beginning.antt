@@ -32,25 +32,36 @@ module _ (g : Env) where
       ap (λ (x : CType). if is_copyable g.tables (static_type x) then Plain else Held) same
   variable_begins w v t r (means.WhatIs.Array u s) e = absurd cc
   variable_begins w v t r means.WhatIs.Counted e = absurd cc
+  variable_begins w v t r means.WhatIs.Untyped e = absurd cc
   variable_begins w v t r means.WhatIs.NotKnown e = absurd cc
 
   pub array_begins : (w : What) (v : code.What) (t : CType) (r : RegionId) → WhatIs w v → v ≡ local.Array t r → Plain ≡ begins_as g w
   array_begins w v t r (means.WhatIs.Variable u s) e = absurd cc
   array_begins w v t r (means.WhatIs.Array u s) e = refl
   array_begins w v t r means.WhatIs.Counted e = absurd cc
+  array_begins w v t r means.WhatIs.Untyped e = absurd cc
   array_begins w v t r means.WhatIs.NotKnown e = absurd cc
 
   pub counter_begins : (w : What) (v : code.What) → WhatIs w v → v ≡ local.Counter → Plain ≡ begins_as g w
   counter_begins w v (means.WhatIs.Variable u s) e = absurd cc
   counter_begins w v (means.WhatIs.Array u s) e = absurd cc
   counter_begins w v means.WhatIs.Counted e = refl
+  counter_begins w v means.WhatIs.Untyped e = absurd cc
   counter_begins w v means.WhatIs.NotKnown e = absurd cc
 
   pub unknown_begins : (w : What) (v : code.What) → WhatIs w v → v ≡ local.NotKnown → Plain ≡ begins_as g w
   unknown_begins w v (means.WhatIs.Variable u s) e = absurd cc
   unknown_begins w v (means.WhatIs.Array u s) e = absurd cc
   unknown_begins w v means.WhatIs.Counted e = absurd cc
+  unknown_begins w v means.WhatIs.Untyped e = absurd cc
   unknown_begins w v means.WhatIs.NotKnown e = refl
+
+  pub untyped_begins : (w : What) (v : code.What) → WhatIs w v → v ≡ local.Untyped → Plain ≡ begins_as g w
+  untyped_begins w v (means.WhatIs.Variable u s) e = absurd cc
+  untyped_begins w v (means.WhatIs.Array u s) e = absurd cc
+  untyped_begins w v means.WhatIs.Counted e = absurd cc
+  untyped_begins w v means.WhatIs.Untyped e = refl
+  untyped_begins w v means.WhatIs.NotKnown e = absurd cc
 
   -- the local that is found under its name is the one that was added
   pub found_begins : (meant : Option code.What) (what : code.What) (b : Begun) (states : States) → Begins g meant states → meant ≡ Some what

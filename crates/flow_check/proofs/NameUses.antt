@@ -28,16 +28,18 @@ use Rattle.flow_check.specs.Within.{IsWithin, SameLocal}
 
 -- ---- what a local is by the rules
 
-abbrev rule_of : code.What → What
+abbrev pub rule_of : code.What → What
 rule_of (local.Variable t r) = Stored (static_type t) (region_of r)
 rule_of (local.Array t r) = Arrayed (static_type t) (region_of r)
 rule_of local.Counter = Counter
-rule_of local.NotKnown = Unknown
+rule_of local.Untyped = Unknown true
+rule_of local.NotKnown = Unknown false
 
 is_rule : (w : What) (v : code.What) → WhatIs w v → w ≡ rule_of v
 is_rule w v (WhatIs.Variable t r) = refl
 is_rule w v (WhatIs.Array t r) = refl
 is_rule w v WhatIs.Counted = refl
+is_rule w v WhatIs.Untyped = refl
 is_rule w v WhatIs.NotKnown = refl
 
 -- ---- what a name does
@@ -77,14 +79,6 @@ module _ (g : Env) (x : tree.Name) (p : Option ℕ) where
   array_uses t r None n h = absurd h
   array_uses t r (Some l) n h = ap (uses_of_local g x) (is_rule l.what (local.Array t r) h.0)
 
-  pub counter_uses : (o : Option Local) (n : Option ℕ) → SameLocal false (Some local.Counter) p o n → uses_of_name g x o ≡ uses_as_value unchanged
-  counter_uses None n h = absurd h
-  counter_uses (Some l) n h = ap (uses_of_local g x) (is_rule l.what local.Counter h.0)
-
-  pub unknown_uses : (o : Option Local) (n : Option ℕ) → SameLocal false (Some local.NotKnown) p o n → uses_of_name g x o ≡ uses_as_value unchanged
-  unknown_uses None n h = absurd h
-  unknown_uses (Some l) n h = ap (uses_of_local g x) (is_rule l.what local.NotKnown h.0)
-
   -- by its form, and by whether it is copied
   pub variable_copied : (w : code.What) (t : CType) (r : RegionId) (o : Option Local) (n : Option ℕ) → w ≡ local.Variable t r
       → is_copyable g.tables (static_type t) ≡ true → SameLocal false (Some w) p o n → uses_as_value unchanged ≡ uses_of_name g x o
@@ -106,13 +100,11 @@ module _ (g : Env) (x : tree.Name) (p : Option ℕ) where
   array_owned w t r o n is copies h =
       sym (array_uses t r o n (subst (λ v. SameLocal false (Some v) p o n) is h) ∙ ap (λ b. uses_if (not b) (uses_of_array x.at)) copies)
 
-  pub index_found : (w : code.What) (o : Option Local) (n : Option ℕ) → w ≡ local.Counter → SameLocal false (Some w) p o n
-      → uses_as_value unchanged ≡ uses_of_name g x o
-  index_found w o n is h = sym (counter_uses o n (subst (λ v. SameLocal false (Some v) p o n) is h))
-
-  pub unknown_found : (w : code.What) (o : Option Local) (n : Option ℕ) → w ≡ local.NotKnown → SameLocal false (Some w) p o n
-      → uses_as_value unchanged ≡ uses_of_name g x o
-  unknown_found w o n is h = sym (unknown_uses o n (subst (λ v. SameLocal false (Some v) p o n) is h))
+  -- what is neither a variable nor an array of a known type
+  pub idle_found : (w : code.What) (o : Option Local) (n : Option ℕ) → uses_of_local g x (rule_of w) ≡ uses_as_value unchanged
+      → SameLocal false (Some w) p o n → uses_as_value unchanged ≡ uses_of_name g x o
+  idle_found w None n idle h = absurd h
+  idle_found w (Some l) n idle h = sym (ap (uses_of_local g x) (is_rule l.what w h.0) ∙ idle)
 
 -- a name that is no local
 pub global_uses : (g : Env) (x : tree.Name) (moves : Bool) → find_local g.locals x.text ≡ None → moves ≡ is_moved g (variable x.at (meant g x.text))

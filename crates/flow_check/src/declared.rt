@@ -101,6 +101,7 @@ fn begins(tables: &Tables<'_>, what: &What<'_>) -> Begun
         }
         What::Array(_, _) => Begun::Plain,
         What::Counter => Begun::Plain,
+        What::Untyped => Begun::Plain,
         What::NotKnown => Begun::Plain,
     }
 }

@@ -88,21 +88,18 @@ pub(crate) fn seen<'p>(
             if links.is_empty() {
                 return seen(scope, alloc, around, how, first);
             }
-            let first = looked(scope, alloc, around, first)?;
             linked(scope, alloc, around, first, links)
         }
         Expression::AllOf(first, others) => {
             if others.is_empty() {
                 return seen(scope, alloc, around, how, first);
             }
-            let first = looked(scope, alloc, around, first)?;
             all_tested(scope, alloc, around, first, others)
         }
         Expression::AnyOf(first, others) => {
             if others.is_empty() {
                 return seen(scope, alloc, around, how, first);
             }
-            let first = looked(scope, alloc, around, first)?;
             all_tested(scope, alloc, around, first, others)
         }
         Expression::Assign(to, from) => {
@@ -178,28 +175,39 @@ fn looked<'p>(
             if links.is_empty() {
                 return looked(scope, alloc, around, first);
             }
-            let first = looked(scope, alloc, around, first)?;
             linked(scope, alloc, around, first, links)
+        }
+        Expression::AllOf(first, others) => {
+            if others.is_empty() {
+                return looked(scope, alloc, around, first);
+            }
+            all_tested(scope, alloc, around, first, others)
+        }
+        Expression::AnyOf(first, others) => {
+            if others.is_empty() {
+                return looked(scope, alloc, around, first);
+            }
+            all_tested(scope, alloc, around, first, others)
         }
         Expression::Call(name, arguments) => called(scope, alloc, around, name, arguments),
         _ => seen(scope, alloc, around, Usage::Look, expression),
     }
 }
 
-/// A chain of operators of one level, of which the first operand is given.
+/// A chain of operators of one level. Its first operand is looked at here, so that whoever calls this keeps nothing of it.
 #[cycle(seen)]
 fn linked<'p>(
     scope: &Scope<'_, 'p>,
     alloc: Global,
     around: Around<'_>,
-    first: Seen<'p>,
+    first: &Expression,
     links: &[Link],
 ) -> Result<Seen<'p>, AllocError>
-    ensures { (g : Env) (how : TheUsage) → IsWithin scope.now around.entry g → let ls = links_of (map link_tree links.now) in
-        IfOk result (IsSeen how (short_links g (short_of value_of first.entry.judged) ls)
-        (uses_as_value (passed_links g (passage_of first.entry.used.passed) ls))) }
+    ensures { (g : Env) (how : TheUsage) → IsWithin scope.now around.entry g → let e = expression_tree first.now in
+        let ls = links_of (map link_tree links.now) in
+        IfOk result (IsSeen how (short_links g (shortened (judge g e)) ls) (uses_as_value (passed_links g (uses_of g e).look ls))) }
 {
-    let mut found = first;
+    let mut found = looked(scope, alloc, around, first)?;
     'each: for link in links {
         let operand = looked(scope, alloc, around, &link.operand)?;
         found = applied(scope, alloc, link.operator, found, operand)?;
@@ -207,20 +215,20 @@ fn linked<'p>(
     Ok(found.as_value())
 }
 
-/// A chain of `&&` or `||`, of which the first operand is given.
+/// A chain of `&&` or `||`.
 #[cycle(seen)]
 fn all_tested<'p>(
     scope: &Scope<'_, 'p>,
     alloc: Global,
     around: Around<'_>,
-    first: Seen<'p>,
+    first: &Expression,
     others: &[Expression],
 ) -> Result<Seen<'p>, AllocError>
-    ensures { (g : Env) (how : TheUsage) → IsWithin scope.now around.entry g → let es = expressions_of (map expression_tree others.now) in
-        IfOk result (IsSeen how (short_tests g (short_of value_of first.entry.judged) es)
-        (uses_as_value (passed_tests g (passage_of first.entry.used.passed) es))) }
+    ensures { (g : Env) (how : TheUsage) → IsWithin scope.now around.entry g → let e = expression_tree first.now in
+        let es = expressions_of (map expression_tree others.now) in
+        IfOk result (IsSeen how (short_tests g (shortened (judge g e)) es) (uses_as_value (passed_tests g (uses_of g e).look es))) }
 {
-    let mut found = first;
+    let mut found = looked(scope, alloc, around, first)?;
     'each: for expression in others {
         let operand = looked(scope, alloc, around, expression)?;
         found = tested(alloc, found, operand);

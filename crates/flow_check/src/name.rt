@@ -64,6 +64,7 @@ fn uses_of_local(
             Ok(Used::array(name.at))
         }
         What::Counter => Ok(Used::value(Passed::nothing())),
+        What::Untyped => Ok(Used::value(Passed::nothing())),
         What::NotKnown => Ok(Used::value(Passed::nothing())),
     }
 }

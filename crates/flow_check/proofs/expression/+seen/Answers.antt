@@ -131,21 +131,17 @@ seen-returns-then-is_empty-2 t c = λ g h.
     (subst (λ x. IfOk c.seen-then-is_empty-2.result (SeenAs g c.args.how (expression_tree x))) c.deref-then-is_empty-2.ensures
     (c.seen-then-is_empty-2.ensures g h)))
 
-pub seen-returns-in_ok-first-in-Chain : goal.seen-returns-in_ok-first-in-Chain
-seen-returns-in_ok-first-in-Chain t c = λ g h.
+pub seen-returns-else-is_empty-2 : goal.seen-returns-else-is_empty-2
+seen-returns-else-is_empty-2 t c = λ g h.
     let e = c.in-Chain.first.value in
     let ls = c.in-Chain.links.items in
-    let found = c.in_ok-first-in-Chain.first in
-    let first : SeenAs g usage.Look (expression_tree e) found =
-    subst (λ x. SeenAs g usage.Look (expression_tree x) found) c.deref-in-Chain.ensures (c.in_ok-first-in-Chain.ensures g h) in
-    let does_it = λ (xs : List code_link.Link). IfOk c.linked.result (IsSeen c.args.how
-    (short_links g (short_of value_of found.judged) (links_of (map link_tree xs)))
-    (uses_as_value (passed_links g (passage_of found.used.passed) (links_of (map link_tree xs))))) in
+    let does_it = λ (y : code.Expression) (xs : List code_link.Link). IfOk c.linked.result (IsSeen c.args.how (short_links g (judged g y) (links_of (map link_tree xs)))
+    (uses_as_value (passed_links g (uses_of g (expression_tree y)).look (links_of (map link_tree xs))))) in
     seen_told g c.args.how c.linked.result c.args.expression.now (Expression.Chain (expression_tree e) (links_of (map link_tree ls)))
     (ap (λ e. expression_tree e) c.in-Chain.is ∙ chain_tree c.in-Chain.first c.in-Chain.links)
-    (linked_same g (λ s u. IfOk c.linked.result (IsSeen c.args.how s u)) e ls (short_of value_of found.judged) (passage_of found.used.passed)
-    (tested_length c.in-Chain.links c.is_empty-in-Chain.result c.is_empty-in-Chain.ensures ∙ c.if-is_empty-2.false) first.judged first.used.passed
-    (subst does_it c.deref-in-Chain-2.ensures.value (c.linked.ensures g c.args.how h)))
+    (linked_same g (λ s u. IfOk c.linked.result (IsSeen c.args.how s u)) e ls (judged g e) (uses_of g (expression_tree e)).look
+    (tested_length c.in-Chain.links c.is_empty-in-Chain.result c.is_empty-in-Chain.ensures ∙ c.if-is_empty-2.false) refl refl
+    (subst (λ y. does_it y ls) c.deref-in-Chain.ensures (subst (does_it c.deref-in-Chain.result.now) c.deref-in-Chain-2.ensures.value (c.linked.ensures g c.args.how h))))
 
 pub seen-returns-then-is_empty-3 : goal.seen-returns-then-is_empty-3
 seen-returns-then-is_empty-3 t c = λ g h.
@@ -158,21 +154,18 @@ seen-returns-then-is_empty-3 t c = λ g h.
     (subst (λ x. IfOk c.seen-then-is_empty-3.result (SeenAs g c.args.how (expression_tree x))) c.deref-then-is_empty-3.ensures
     (c.seen-then-is_empty-3.ensures g h)))
 
-pub seen-returns-in_ok-first-in-AllOf : goal.seen-returns-in_ok-first-in-AllOf
-seen-returns-in_ok-first-in-AllOf t c = λ g h.
+pub seen-returns-else-is_empty-3 : goal.seen-returns-else-is_empty-3
+seen-returns-else-is_empty-3 t c = λ g h.
     let e = c.in-AllOf.first.value in
     let es = c.in-AllOf.others.items in
-    let found = c.in_ok-first-in-AllOf.first in
-    let first : SeenAs g usage.Look (expression_tree e) found =
-    subst (λ x. SeenAs g usage.Look (expression_tree x) found) c.deref-in-AllOf.ensures (c.in_ok-first-in-AllOf.ensures g h) in
-    let does_it = λ (xs : List code.Expression). IfOk c.all_tested.result (IsSeen c.args.how
-    (short_tests g (short_of value_of found.judged) (expressions_of (map expression_tree xs)))
-    (uses_as_value (passed_tests g (passage_of found.used.passed) (expressions_of (map expression_tree xs))))) in
+    let does_it = λ (y : code.Expression) (xs : List code.Expression). IfOk c.all_tested.result (IsSeen c.args.how
+    (short_tests g (judged g y) (expressions_of (map expression_tree xs)))
+    (uses_as_value (passed_tests g (uses_of g (expression_tree y)).look (expressions_of (map expression_tree xs))))) in
     seen_told g c.args.how c.all_tested.result c.args.expression.now (Expression.AllOf (expression_tree e) (expressions_of (map expression_tree es)))
     (ap (λ e. expression_tree e) c.in-AllOf.is ∙ all_of_tree c.in-AllOf.first c.in-AllOf.others)
-    (tested_same g (λ s u. IfOk c.all_tested.result (IsSeen c.args.how s u)) e es (short_of value_of found.judged) (passage_of found.used.passed)
-    (tested_length c.in-AllOf.others c.is_empty-in-AllOf.result c.is_empty-in-AllOf.ensures ∙ c.if-is_empty-3.false) first.judged first.used.passed
-    (subst does_it c.deref-in-AllOf-2.ensures.value (c.all_tested.ensures g c.args.how h)))
+    (tested_same g (λ s u. IfOk c.all_tested.result (IsSeen c.args.how s u)) e es (judged g e) (uses_of g (expression_tree e)).look
+    (tested_length c.in-AllOf.others c.is_empty-in-AllOf.result c.is_empty-in-AllOf.ensures ∙ c.if-is_empty-3.false) refl refl
+    (subst (λ y. does_it y es) c.deref-in-AllOf.ensures (subst (does_it c.deref-in-AllOf.result.now) c.deref-in-AllOf-2.ensures.value (c.all_tested.ensures g c.args.how h))))
 
 pub seen-returns-then-is_empty-4 : goal.seen-returns-then-is_empty-4
 seen-returns-then-is_empty-4 t c = λ g h.
@@ -185,21 +178,18 @@ seen-returns-then-is_empty-4 t c = λ g h.
     (subst (λ x. IfOk c.seen-then-is_empty-4.result (SeenAs g c.args.how (expression_tree x))) c.deref-then-is_empty-4.ensures
     (c.seen-then-is_empty-4.ensures g h)))
 
-pub seen-returns-in_ok-first-in-AnyOf : goal.seen-returns-in_ok-first-in-AnyOf
-seen-returns-in_ok-first-in-AnyOf t c = λ g h.
+pub seen-returns-else-is_empty-4 : goal.seen-returns-else-is_empty-4
+seen-returns-else-is_empty-4 t c = λ g h.
     let e = c.in-AnyOf.first.value in
     let es = c.in-AnyOf.others.items in
-    let found = c.in_ok-first-in-AnyOf.first in
-    let first : SeenAs g usage.Look (expression_tree e) found =
-    subst (λ x. SeenAs g usage.Look (expression_tree x) found) c.deref-in-AnyOf.ensures (c.in_ok-first-in-AnyOf.ensures g h) in
-    let does_it = λ (xs : List code.Expression). IfOk c.all_tested-in-AnyOf.result (IsSeen c.args.how
-    (short_tests g (short_of value_of found.judged) (expressions_of (map expression_tree xs)))
-    (uses_as_value (passed_tests g (passage_of found.used.passed) (expressions_of (map expression_tree xs))))) in
+    let does_it = λ (y : code.Expression) (xs : List code.Expression). IfOk c.all_tested-in-AnyOf.result (IsSeen c.args.how
+    (short_tests g (judged g y) (expressions_of (map expression_tree xs)))
+    (uses_as_value (passed_tests g (uses_of g (expression_tree y)).look (expressions_of (map expression_tree xs))))) in
     seen_told g c.args.how c.all_tested-in-AnyOf.result c.args.expression.now (Expression.AnyOf (expression_tree e) (expressions_of (map expression_tree es)))
     (ap (λ e. expression_tree e) c.in-AnyOf.is ∙ any_of_tree c.in-AnyOf.first c.in-AnyOf.others)
-    (tested_same g (λ s u. IfOk c.all_tested-in-AnyOf.result (IsSeen c.args.how s u)) e es (short_of value_of found.judged) (passage_of found.used.passed)
-    (tested_length c.in-AnyOf.others c.is_empty-in-AnyOf.result c.is_empty-in-AnyOf.ensures ∙ c.if-is_empty-4.false) first.judged first.used.passed
-    (subst does_it c.deref-in-AnyOf-2.ensures.value (c.all_tested-in-AnyOf.ensures g c.args.how h)))
+    (tested_same g (λ s u. IfOk c.all_tested-in-AnyOf.result (IsSeen c.args.how s u)) e es (judged g e) (uses_of g (expression_tree e)).look
+    (tested_length c.in-AnyOf.others c.is_empty-in-AnyOf.result c.is_empty-in-AnyOf.ensures ∙ c.if-is_empty-4.false) refl refl
+    (subst (λ y. does_it y es) c.deref-in-AnyOf.ensures (subst (does_it c.deref-in-AnyOf.result.now) c.deref-in-AnyOf-2.ensures.value (c.all_tested-in-AnyOf.ensures g c.args.how h))))
 
 pub seen-returns-in_ok-to-in-Assign : goal.seen-returns-in_ok-to-in-Assign
 seen-returns-in_ok-to-in-Assign t c = λ g h.
@@ -302,19 +292,37 @@ looked-returns-in_ok-used-in-Variable = Looked.looked-returns-in_ok-used-in-Vari
 pub looked-returns-in_ok-first-in-Suffixed : goal.looked-returns-in_ok-first-in-Suffixed
 looked-returns-in_ok-first-in-Suffixed = Looked.looked-returns-in_ok-first-in-Suffixed
 
-pub looked-returns-in_ok-first-in-Chain : goal.looked-returns-in_ok-first-in-Chain
-looked-returns-in_ok-first-in-Chain = Looked.looked-returns-in_ok-first-in-Chain
+pub looked-returns-else-is_empty-2 : goal.looked-returns-else-is_empty-2
+looked-returns-else-is_empty-2 = Looked.looked-returns-else-is_empty-2
 
 pub looked-returns-in-Call : goal.looked-returns-in-Call
 looked-returns-in-Call = Looked.looked-returns-in-Call
 
+pub looked-returns-then-is_empty-3 : goal.looked-returns-then-is_empty-3
+looked-returns-then-is_empty-3 = Looked.looked-returns-then-is_empty-3
+
+pub looked-returns-else-is_empty-3 : goal.looked-returns-else-is_empty-3
+looked-returns-else-is_empty-3 = Looked.looked-returns-else-is_empty-3
+
+pub looked-returns-then-is_empty-4 : goal.looked-returns-then-is_empty-4
+looked-returns-then-is_empty-4 = Looked.looked-returns-then-is_empty-4
+
+pub looked-returns-else-is_empty-4 : goal.looked-returns-else-is_empty-4
+looked-returns-else-is_empty-4 = Looked.looked-returns-else-is_empty-4
+
 -- ---- parts one after another
+
+pub linked-each-init : goal.linked-each-init
+linked-each-init = Folded.linked-each-init
 
 pub linked-each-preserved : goal.linked-each-preserved
 linked-each-preserved = Folded.linked-each-preserved
 
 pub linked-returns : goal.linked-returns
 linked-returns = Folded.linked-returns
+
+pub all_tested-each-init : goal.all_tested-each-init
+all_tested-each-init = Folded.all_tested-each-init
 
 pub all_tested-each-preserved : goal.all_tested-each-preserved
 all_tested-each-preserved = Folded.all_tested-each-preserved

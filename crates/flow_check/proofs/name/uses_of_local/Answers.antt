@@ -3,11 +3,11 @@ use Rattle.cyc_tree.specs.View.{name_tree}
 use Rattle.cyc_types.proofs.Sameness.{copyable_same}
 use Rattle.cyc_types.specs.Types.{static_type}
 use Rattle.flow_summaries.specs.Passages.{unchanged}
-use Rattle.flow_summaries.specs.Uses.{number_of}
+use Rattle.flow_summaries.specs.Uses.{number_of, uses_of_local}
 use Rattle.source_typing.specs.Scope.{find_local}
 use Rattle.check_scopes.specs.Linked.{position_of}
 use Rattle.flow_effects.specs.Used.{IsUsed}
-use Rattle.flow_check.proofs.NameUses.{array_copied, array_owned, index_found, same_number, unknown_found, variable_copied, variable_owned}
+use Rattle.flow_check.proofs.NameUses.{array_copied, array_owned, idle_found, rule_of, same_number, variable_copied, variable_owned}
 use Rattle.flow_check.proofs.name.uses_of_local.Goals as goal
 
 pub returns-then-is_copyable : goal.returns-then-is_copyable
@@ -56,12 +56,22 @@ pub returns-in-Counter : goal.returns-in-Counter
 returns-in-Counter c = λ g has h.
     let x = name_tree c.args.name.now in
     subst (λ u. IsUsed c.args.how u c.value-in-Counter.result)
-    (index_found g x (position_of c.args.scope.now.locals x.text) c.args.what.now (find_local g.locals x.text) (number_of g.locals x.text) c.in-Counter.is h)
+    (idle_found g x (position_of c.args.scope.now.locals x.text) c.args.what.now (find_local g.locals x.text) (number_of g.locals x.text)
+    (ap (λ w. uses_of_local g x (rule_of w)) c.in-Counter.is) h)
     (c.value-in-Counter.ensures c.args.how unchanged c.nothing-in-Counter.ensures)
+
+pub returns-in-Untyped : goal.returns-in-Untyped
+returns-in-Untyped c = λ g has h.
+    let x = name_tree c.args.name.now in
+    subst (λ u. IsUsed c.args.how u c.value-in-Untyped.result)
+    (idle_found g x (position_of c.args.scope.now.locals x.text) c.args.what.now (find_local g.locals x.text) (number_of g.locals x.text)
+    (ap (λ w. uses_of_local g x (rule_of w)) c.in-Untyped.is) h)
+    (c.value-in-Untyped.ensures c.args.how unchanged c.nothing-in-Untyped.ensures)
 
 pub returns-in-NotKnown : goal.returns-in-NotKnown
 returns-in-NotKnown c = λ g has h.
     let x = name_tree c.args.name.now in
     subst (λ u. IsUsed c.args.how u c.value-in-NotKnown.result)
-    (unknown_found g x (position_of c.args.scope.now.locals x.text) c.args.what.now (find_local g.locals x.text) (number_of g.locals x.text) c.in-NotKnown.is h)
+    (idle_found g x (position_of c.args.scope.now.locals x.text) c.args.what.now (find_local g.locals x.text) (number_of g.locals x.text)
+    (ap (λ w. uses_of_local g x (rule_of w)) c.in-NotKnown.is) h)
     (c.value-in-NotKnown.ensures c.args.how unchanged c.nothing-in-NotKnown.ensures)

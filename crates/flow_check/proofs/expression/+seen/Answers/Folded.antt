@@ -3,6 +3,7 @@ use Rattle.std.proofs.Common.{IfOk, [], ap, arith, drop, map, subst, sym, ◌∙
 use Rattle.std.proofs.lemmas.List.{drop_all}
 use Rattle.cyc_tree.specs.View.{expression_tree, expressions_of, link_tree, links_of, name_tree}
 use Rattle.flow_summaries.specs.Passages.{in_turn, in_turn_or_not}
+use Rattle.flow_summaries.specs.Expressions.{uses_of}
 use Rattle.flow_summaries.specs.Uses.{uses_as_value}
 use Rattle.source_typing.specs.Operators.{applied, tested_both}
 use Rattle.check_faults.specs.Verdicts.{short_both, short_of, shortened}
@@ -17,19 +18,28 @@ use Rattle.flow_check.specs.Folded.{passed_all, passed_links, passed_tests}
 use Rattle.flow_check.specs.Seen.{IsSeen}
 use Rattle.flow_check.proofs.expression.+seen.Goals as goal
 
+pub linked-each-init : goal.linked-each-init
+linked-each-init t c = λ g h.
+    let ls = c.args.links.now in
+    let first = c.in_ok-found.ensures g h in
+    record {
+      judged = ap (λ s. links_from g s ls) first.judged;
+      passed = ap (λ p. passed_links g p (links_of (map link_tree ls))) first.used.passed;
+    }
+
 pub linked-each-preserved : goal.linked-each-preserved
 linked-each-preserved t c = λ g h.
     let so_far = c.each.found in
-    let next = c.in_ok-found.found in
+    let next = c.in_ok-found-2.found in
     let operand = c.in_ok-operand.ensures g h in
     record {
       judged = judging.links_step g c.args.links.now c.each.link-index c.link-item.result (short_of value_of so_far.judged) (short_of value_of next.judged)
           c.each-test.true c.link-item.is
-          (c.in_ok-found.ensures.judged g h.scope.sees
+          (c.in_ok-found-2.ensures.judged g h.scope.sees
           ∙ ap (λ s. short_both (short_of value_of so_far.judged) s (λ a b. shortened (applied g c.link-item.result.operator a b))) operand.judged)
           ∙ (c.each.invariant g h).judged;
       passed = links_step g c.args.links.now c.each.link-index c.link-item.result (passage_of so_far.used.passed) (passage_of next.used.passed)
-          c.each-test.true c.link-item.is (c.in_ok-found.ensures.passed ∙ ap (λ p. in_turn (passage_of so_far.used.passed) p) operand.used.passed)
+          c.each-test.true c.link-item.is (c.in_ok-found-2.ensures.passed ∙ ap (λ p. in_turn (passage_of so_far.used.passed) p) operand.used.passed)
           ∙ (c.each.invariant g h).passed;
     }
 
@@ -38,10 +48,19 @@ linked-returns t c = λ g how h.
     let ls = c.args.links.now in
     let done : drop c.each.link-index ls ≡ [] = drop_all c.each.link-index ls (omega (arith, c.each-test.false)) in
     let all = c.each.invariant g h in
-    subst (λ s. IsSeen how s (uses_as_value (passed_links g (passage_of c.args.first.used.passed) (links_of (map link_tree ls)))) c.as_value.result)
+    subst (λ s. IsSeen how s (uses_as_value (passed_links g (uses_of g (expression_tree c.args.first.now)).look (links_of (map link_tree ls)))) c.as_value.result)
     (ap (λ xs. links_from g (short_of value_of c.each.found.judged) xs) (sym done) ∙ all.judged)
-    (c.as_value.ensures how (passed_links g (passage_of c.args.first.used.passed) (links_of (map link_tree ls)))
+    (c.as_value.ensures how (passed_links g (uses_of g (expression_tree c.args.first.now)).look (links_of (map link_tree ls)))
     (ap (λ xs. passed_links g (passage_of c.each.found.used.passed) (links_of (map link_tree xs))) (sym done) ∙ all.passed))
+
+pub all_tested-each-init : goal.all_tested-each-init
+all_tested-each-init t c = λ g h.
+    let es = c.args.others.now in
+    let first = c.in_ok-found.ensures g h in
+    record {
+      judged = ap (λ s. tests_from g s es) first.judged;
+      passed = ap (λ p. passed_tests g p (expressions_of (map expression_tree es))) first.used.passed;
+    }
 
 pub all_tested-each-preserved : goal.all_tested-each-preserved
 all_tested-each-preserved t c = λ g h.
@@ -63,9 +82,9 @@ all_tested-returns t c = λ g how h.
     let es = c.args.others.now in
     let done : drop c.each.expression-index es ≡ [] = drop_all c.each.expression-index es (omega (arith, c.each-test.false)) in
     let all = c.each.invariant g h in
-    subst (λ s. IsSeen how s (uses_as_value (passed_tests g (passage_of c.args.first.used.passed) (expressions_of (map expression_tree es)))) c.as_value.result)
+    subst (λ s. IsSeen how s (uses_as_value (passed_tests g (uses_of g (expression_tree c.args.first.now)).look (expressions_of (map expression_tree es)))) c.as_value.result)
     (ap (λ xs. tests_from g (short_of value_of c.each.found.judged) xs) (sym done) ∙ all.judged)
-    (c.as_value.ensures how (passed_tests g (passage_of c.args.first.used.passed) (expressions_of (map expression_tree es)))
+    (c.as_value.ensures how (passed_tests g (uses_of g (expression_tree c.args.first.now)).look (expressions_of (map expression_tree es)))
     (ap (λ xs. passed_tests g (passage_of c.each.found.used.passed) (expressions_of (map expression_tree xs))) (sym done) ∙ all.passed))
 
 pub called-each-init : goal.called-each-init

@@ -256,7 +256,7 @@ fn more_tokens_than_a_text_has(rt: HostRuntime) -> Result<(), Fail> {
 fn fault_in_copy(alloc: Global, text: &str) -> Result<Option<u32>, Fail> {
     let program = program_of(alloc, text)?;
     let copy = typed(alloc, &program)?;
-    Ok(match copy.fault() {
+    Ok(match copy.fault(alloc)? {
         Some(fault) => Some(fault.at),
         None => None,
     })

@@ -129,8 +129,8 @@ command cycc compile a b --stack-pages=4096 -> Compile { input: "a", output: "b"
 command cycc run a -> Run { input: "a", pages: Pages { number: 1024 }, stack_pages: Pages { number: 256 }, steps: 4294967295, shows_ending: false, shows_why: false, shows_where: false, shows_values: false, shows_stats: false, shows_counts: false }
 command cycc run --ending --pages=4096 a --steps 18446744073709551615 -> Run { input: "a", pages: Pages { number: 4096 }, stack_pages: Pages { number: 256 }, steps: 18446744073709551615, shows_ending: true, shows_why: false, shows_where: false, shows_values: false, shows_stats: false, shows_counts: false }
 command cycc run a --pages 2 --stack-pages 1 -> Run { input: "a", pages: Pages { number: 2 }, stack_pages: Pages { number: 1 }, steps: 4294967295, shows_ending: false, shows_why: false, shows_where: false, shows_values: false, shows_stats: false, shows_counts: false }
-command cycc eval i -> Eval { input: "i", fuel: 4294967295, shows_ending: false, shows_why: false, shows_where: false }
-command cycc eval i --steps 7 --ending -> Eval { input: "i", fuel: 7, shows_ending: true, shows_why: false, shows_where: false }
+command cycc eval i -> Eval { input: "i", fuel: 4294967295, depth: None, memory: None, shows_ending: false, shows_why: false, shows_where: false }
+command cycc eval i --steps 7 --ending -> Eval { input: "i", fuel: 7, depth: None, memory: None, shows_ending: true, shows_why: false, shows_where: false }
 command cycc exec i --steps 2 -> Exec { input: "i", steps: 2, shows_ending: false, shows_where: false, shows_stats: false, shows_counts: false }
 command cycc exec i --where --stats --counts -> Exec { input: "i", steps: 4294967295, shows_ending: false, shows_where: true, shows_stats: true, shows_counts: true }
 command cycc dump i -> Dump { input: "i" }
@@ -140,8 +140,9 @@ command cycc compile --why a b -> Compile { input: "a", output: "b", map: None, 
 command cycc run a --why -> Run { input: "a", pages: Pages { number: 1024 }, stack_pages: Pages { number: 256 }, steps: 4294967295, shows_ending: false, shows_why: true, shows_where: false, shows_values: false, shows_stats: false, shows_counts: false }
 command cycc run a --where --stats -> Run { input: "a", pages: Pages { number: 1024 }, stack_pages: Pages { number: 256 }, steps: 4294967295, shows_ending: false, shows_why: false, shows_where: true, shows_values: false, shows_stats: true, shows_counts: false }
 command cycc run a --values -> Run { input: "a", pages: Pages { number: 1024 }, stack_pages: Pages { number: 256 }, steps: 4294967295, shows_ending: false, shows_why: false, shows_where: false, shows_values: true, shows_stats: false, shows_counts: false }
-command cycc eval i --why -> Eval { input: "i", fuel: 4294967295, shows_ending: false, shows_why: true, shows_where: false }
-command cycc eval i --where -> Eval { input: "i", fuel: 4294967295, shows_ending: false, shows_why: false, shows_where: true }
+command cycc eval i --depth 9 --memory 2 -> Eval { input: "i", fuel: 4294967295, depth: Some(9), memory: Some(2097152), shows_ending: false, shows_why: false, shows_where: false }
+command cycc eval i --why -> Eval { input: "i", fuel: 4294967295, depth: None, memory: None, shows_ending: false, shows_why: true, shows_where: false }
+command cycc eval i --where -> Eval { input: "i", fuel: 4294967295, depth: None, memory: None, shows_ending: false, shows_why: false, shows_where: true }
 command cycc explain 1 -> Explain { text: "The exit status 1:\nThe run ended with another status.\n" }
 command cycc explain status 1 -> Explain { text: "The exit status 1:\nThe run ended with another status.\n" }
 command cycc explain break -> Explain { text: "Break, a fault of the machine:\nEBREAK.\n\nCode that comes to it:\n    00100073\n" }

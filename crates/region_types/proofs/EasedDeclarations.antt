@@ -114,8 +114,8 @@ opened_same g (tree.Unique at) k = refl
 
 open_eased : (g : Env) (x : tree.Name) (v : Verdict Region) → open_declared (eased g) x v ≡ eased_after (open_declared g x v)
 open_eased g x (Of r) = ap (declared (second g x)) (local_eased x (Stored (Handle r) g.frame) (record g { regions = opened r g.regions }))
-open_eased g x (Faulty f fs) = ap (declared ((f ∷ fs) ++ second g x)) (local_eased x Unknown g)
-open_eased g x Unjudged = ap (declared (second g x)) (local_eased x Unknown g)
+open_eased g x (Faulty f fs) = ap (declared ((f ∷ fs) ++ second g x)) (local_eased x (Unknown false) g)
+open_eased g x Unjudged = ap (declared (second g x)) (local_eased x (Unknown true) g)
 
 alias_within : (g inside : Env) (r : tree.RegionName) (t : TypeName) (x p : tree.Name)
     → alias_declared (eased g) (eased inside) r t x p ≡ eased_after (alias_declared g inside r t x p)

@@ -68,7 +68,7 @@ head_eased g f ps none = ap (with_effect g f ps) (effect_same ps.variables_after
 abbrev pub parameters_in : Tables → tree.Function → Parameters
 parameters_in g f = read_parameters g (variables [] 0) f.parameters
 
--- no region name of the effect is at fault
+-- no region name of the effect has a fault
 abbrev pub HasCleanEffect : tree.Function → Parameters → Type 0
 HasCleanEffect f ps = all_faults (effect_of false ps.variables_after (key_regions ps.types) f.effect) ≡ []
 

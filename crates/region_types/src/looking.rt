@@ -19,7 +19,7 @@ pub fn type_fault(alloc: Global, program: &Program) -> Result<Option<Fault>, All
 }
 
 /// The same where this is the earliest fault by the rules on live regions and effects too: where these find none, the others find none.
-fn fault_without_effects(
+pub(crate) fn fault_without_effects(
     alloc: Global,
     program: &Program,
     effect_fault: Option<Fault>,
@@ -33,13 +33,12 @@ fn fault_without_effects(
     }
 }
 
-/// Looks at a program's names, types, regions, effects and sizes. A program without a fault is gone over once, and none is copied.
+/// Looks at a program's names, types, regions, effects and sizes. It is gone over once, and not copied.
 pub fn into_typed(alloc: Global, program: Program) -> Result<Typed, AllocError>
     ensures { IfOk result (λ t. t ≡ program) }
 {
     let effect_fault = program_fault(alloc, &program, false)?;
-    let fault = fault_without_effects(alloc, &program, effect_fault)?;
-    Ok(Typed::new(program, fault, effect_fault))
+    Ok(Typed::new(program, effect_fault))
 }
 
 /// The same of a copy of the program.

@@ -6,4 +6,5 @@ pub mod Progress
 pub mod Unstepped
 pub mod OtherEndings
 pub mod Watching
+pub mod Counting
 pub mod Quietly

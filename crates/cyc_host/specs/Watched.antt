@@ -1,11 +1,12 @@
--- What a watch says of a run: how many instructions began, and at which address the last of them is.
-use Rattle.std.specs.Prelude.{◌≡◌, ℕ, zero, suc, ◌+◌, ◌⊎◌, List, [], ◌∷◌, Option}
+-- What a watch says of a run: how many instructions began, at which address the last of them is, and how often each word of the code was executed.
+use Rattle.std.specs.Prelude.{◌≡◌, ℕ, zero, suc, ◌+◌, ◌-◌, ◌/◌, ◌⊎◌, List, [], ◌∷◌, Option, if◌then◌else◌, map, nat_le, replicate}
 use Rattle.cyc_words.specs.Devices.{one_more}
 use Rattle.rv32_machine.specs.State.{State, Areas, code_base}
 use Rattle.rv32_machine.specs.Run.{Run, run_step, from}
 use Rattle.cyc_host.specs.Hosted.{IsHosted}
 use Rattle.cyc_host.specs.declared.ending.Ending.{Ending}
 use Rattle.cyc_host.specs.declared.ending.Ending.TheVariants as ending
+use Rattle.cyc_host.specs.declared.watch.Count.{Count}
 use Rattle.cyc_host.specs.declared.watch.Watch.{Watch}
 
 -- the states of the machine at which the first `count` instructions of a run begin, in their order
@@ -13,26 +14,48 @@ abbrev pub visited : Areas → (count : ℕ) → Run → List State
 visited n zero r = []
 visited n (suc count) r = r.state ∷ visited n count (run_step n r)
 
--- How many instructions began, a number that stays at the greatest u64, and the address of the last of them.
+-- How many instructions began, the address of the last of them, and how often each word of the code was executed. Each number stays at the greatest u64.
 pub record Tally : Type 0 where
   pub steps : ℕ
   pub at : ℕ
+  pub executed : List ℕ
 
--- that of a run which hasn't begun
-abbrev pub nothing : Tally
-nothing = record { steps = 0; at = code_base }
+-- that of a run which hasn't begun, of a code of so many words
+abbrev pub nothing : ℕ → Tally
+nothing words = record { steps = 0; at = code_base; executed = replicate words 0 }
+
+-- how often each word was executed
+abbrev pub executed_in : List Count → List ℕ
+executed_in counts = map (λ (count : Count). count.executed) counts
 
 -- the tally that a watch has
 abbrev pub tally_of : Watch → Tally
-tally_of watch = record { steps = watch.steps; at = watch.last.pc }
+tally_of watch = record { steps = watch.steps; at = watch.last.pc; executed = executed_in watch.counts.items }
+
+-- the counts where they are as they were
+abbrev pub AreSameCounts : List Count → List Count → Type 0
+AreSameCounts old new = executed_in new ≡ executed_in old
 
 -- a watch that takes in something else has the tally that it had
-abbrev pub IsSameTally : Watch → Watch → Type 0
-IsSameTally old new = (new.sees ≡ old.sees) × ((new.steps ≡ old.steps) × (new.last ≡ old.last))
+pub record IsSameTally (old new : Watch) : Type 0 where
+  pub sees : new.sees ≡ old.sees
+  pub steps : new.steps ≡ old.steps
+  pub last : new.last ≡ old.last
+  pub executed : AreSameCounts old.counts.items new.counts.items
+
+-- one more of the word with this number, if there is one
+abbrev pub executed_once : List ℕ → (number : ℕ) → List ℕ
+executed_once [] number = []
+executed_once (count ∷ counts) zero = one_more count ∷ counts
+executed_once (count ∷ counts) (suc number) = count ∷ executed_once counts number
+
+-- one more of the word at this address, if it is of the code
+abbrev pub executed_at : ℕ → List ℕ → List ℕ
+executed_at at counts = (if nat_le code_base at then executed_once counts ((at - code_base) / 4) else counts)
 
 -- the tally when one more begins, at this state
 abbrev pub take_in : Tally → State → Tally
-take_in tally s = record { steps = one_more tally.steps; at = s.pc }
+take_in tally s = record { steps = one_more tally.steps; at = s.pc; executed = executed_at s.pc tally.executed }
 
 -- and when instructions begin at these states, one after the other
 abbrev pub taken_in : Tally → List State → Tally

@@ -1,6 +1,6 @@
 // How far a run goes ahead before a step that it makes by itself.
 
-ghost use Rattle.std.specs.Prelude.{◌≡◌, ◌≤◌, ℕ, Bool, false, true};
+ghost use Rattle.std.specs.Prelude.{◌≡◌, ◌≤◌, ℕ, Bool, [], false, true};
 ghost use Rattle.rv32_machine.specs.Arrays.{areas_of, arrays, state_of};
 ghost use Rattle.rv32_machine.specs.Quiet.{AreQuietSteps};
 ghost use Rattle.cyc_host.specs.Watched.{Tally, take_in};
@@ -31,7 +31,7 @@ pub struct Gliding;
 impl Pace for Gliding {
     ghost sees = { λ _. false };
 
-    ghost tally = { λ _. record { steps = 0; at = 0 } };
+    ghost tally = { λ _. record { steps = 0; at = 0; executed = [] } };
 
     fn advance<S: BlockStore>(&mut self, machine: &mut Machine<S>, limit: u64) -> u64 {
         machine.glide(limit)

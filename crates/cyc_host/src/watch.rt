@@ -1,8 +1,8 @@
 // What is seen of a run: how often it executed each instruction, its active calls, and the pages of its arena.
 
-ghost use Rattle.std.specs.Prelude.{◌≡◌, IfOk, false, true};
+ghost use Rattle.std.specs.Prelude.{◌≡◌, ◌/◌, IfOk, false, length, replicate, true};
 ghost use Rattle.cyc_words.specs.Devices.{one_more};
-ghost use Rattle.cyc_host.specs.Watched.{IsSameTally, nothing, tally_of};
+ghost use Rattle.cyc_host.specs.Watched.{AreSameCounts, IsSameTally, executed_at, executed_in, nothing, tally_of};
 
 use crate::frames::Frames;
 use crate::pace::Pace;
@@ -41,19 +41,62 @@ const REQUESTS: usize = 14;
 const PASSED: usize = 16;
 
 /// Nothing seen of this number of words.
-fn none_of(alloc: Global, words: usize) -> Result<Vec<Count>, AllocError> {
-    let none = Count {
-        executed: 0,
-        left: 0,
-        within: 0,
-    };
-    vec![in alloc; none; words]
+#[tactic(auto, using(crate::proofs::Counting::none_more))]
+fn none_of(alloc: Global, words: usize) -> Result<Vec<Count>, AllocError>
+    ensures { IfOk result (λ counts. executed_in counts.items ≡ replicate words 0) }
+{
+    let mut counts = Vec::new(alloc);
+    'each: for _ in 0..words {
+        counts.push(Count {
+            executed: 0,
+            left: 0,
+            within: 0,
+        })?;
+    }
+    Ok(counts)
 }
 
-/// What was seen of the word at an address, if it is of the code.
-fn count_at(counts: &mut [Count], address: u32) -> Option<&mut Count> {
-    let number = address.wrapping_sub(CODE_BASE) as usize / 4;
-    counts.get_mut(number)
+/// The number of the word at an address, if the code doesn't begin behind that.
+fn number_of(address: u32) -> Option<usize> {
+    let bytes = address.checked_sub(CODE_BASE)?;
+    Some(bytes as usize / 4)
+}
+
+/// Counts that another word than the next one came behind the one at an address.
+#[tactic(auto, using(crate::proofs::Counting::set_same))]
+fn add_left(counts: &mut [Count], address: u32)
+    ensures { AreSameCounts counts.old counts.new }
+{
+    if let Some(number) = number_of(address) {
+        if number < counts.len() {
+            counts[number] = counts[number].left_once();
+        }
+    }
+}
+
+/// Counts what a call at an address took.
+#[tactic(auto, using(crate::proofs::Counting::set_same))]
+fn add_within(counts: &mut [Count], address: u32, steps: u64)
+    ensures { AreSameCounts counts.old counts.new }
+{
+    if let Some(number) = number_of(address) {
+        if number < counts.len() {
+            counts[number] = counts[number].taking(steps);
+        }
+    }
+}
+
+/// Counts that the word at an address is executed, if it is of the code.
+#[tactic(auto, using(crate::proofs::Counting::set_once, crate::proofs::Counting::none_once))]
+fn add_executed(counts: &mut [Count], address: u32)
+    ensures { executed_in counts.new ≡ executed_at address (executed_in counts.old) }
+{
+    if CODE_BASE <= address {
+        let number = ((address - CODE_BASE) / 4) as usize;
+        if number < counts.len() {
+            counts[number] = counts[number].executed_once();
+        }
+    }
 }
 
 /// What was seen of an instruction.
@@ -65,6 +108,41 @@ pub struct Count {
     pub left: u64,
     /// How many instructions were executed in the calls that it made, if it is a call, and that have returned.
     pub within: u64,
+}
+
+impl Count {
+    /// With one execution more.
+    fn executed_once(self) -> Count
+        ensures { result.executed ≡ one_more self.executed }
+    {
+        Count {
+            executed: self.executed.saturating_add(1),
+            left: self.left,
+            within: self.within,
+        }
+    }
+
+    /// With one more time that another word than the next one came behind.
+    fn left_once(self) -> Count
+        ensures { result.executed ≡ self.executed }
+    {
+        Count {
+            executed: self.executed,
+            left: self.left.saturating_add(1),
+            within: self.within,
+        }
+    }
+
+    /// With so many instructions more in calls that have returned.
+    fn taking(self, steps: u64) -> Count
+        ensures { result.executed ≡ self.executed }
+    {
+        Count {
+            executed: self.executed,
+            left: self.left,
+            within: self.within.saturating_add(steps),
+        }
+    }
 }
 
 /// An active call.
@@ -108,7 +186,7 @@ impl Watch {
     /// One that sees nothing, of a run that isn't watched.
     pub fn idle(alloc: Global) -> Watch
         ensures sees { result.sees ≡ false }
-        ensures nothing { tally_of result ≡ nothing }
+        ensures nothing { tally_of result ≡ nothing 0 }
     {
         Watch {
             sees: false,
@@ -144,7 +222,7 @@ impl Watch {
     /// Nothing of a run of this code was seen.
     pub fn new(alloc: Global, code: &[u8]) -> Result<Watch, AllocError>
         ensures sees { IfOk result (λ watch. watch.sees ≡ true) }
-        ensures nothing { IfOk result (λ watch. tally_of watch ≡ nothing) }
+        ensures nothing { IfOk result (λ watch. tally_of watch ≡ nothing (length code.now / 4)) }
     {
         let mut watch = Watch::idle(alloc);
         watch.sees = true;
@@ -186,7 +264,9 @@ impl Watch {
     }
 
     /// What was seen of each word of the code, in its order.
-    pub fn counts(&self) -> &[Count] {
+    pub fn counts(&self) -> &[Count]
+        ensures { executed_in result.now ≡ (tally_of self.now).executed }
+    {
         &self.counts
     }
 
@@ -246,17 +326,15 @@ impl Watch {
 
     /// Counts an instruction, and that it isn't the next word of the one before it, if so.
     fn count(&mut self, pc: u32)
-        ensures same { IsSameTally self.old self.new }
+        ensures sees { self.new.sees ≡ self.old.sees }
+        ensures steps { self.new.steps ≡ self.old.steps }
+        ensures executed { executed_in self.new.counts.items ≡ executed_at pc (executed_in self.old.counts.items) }
     {
         let before = self.last.pc;
         if self.steps > 1 && pc != before.wrapping_add(4) {
-            if let Some(count) = count_at(&mut self.counts, before) {
-                count.left = count.left.saturating_add(1);
-            }
+            add_left(&mut self.counts, before);
         }
-        if let Some(count) = count_at(&mut self.counts, pc) {
-            count.executed = count.executed.saturating_add(1);
-        }
+        add_executed(&mut self.counts, pc);
     }
 
     /// Counts what a call took that returns.
@@ -264,9 +342,7 @@ impl Watch {
         ensures same { IsSameTally self.old self.new }
     {
         let steps = self.steps.saturating_sub(call.since);
-        if let Some(count) = count_at(&mut self.counts, call.at) {
-            count.within = count.within.saturating_add(steps);
-        }
+        add_within(&mut self.counts, call.at, steps);
     }
 
     /// Enters a call.
@@ -324,6 +400,7 @@ impl Watch {
         ensures sees { self.new.sees ≡ self.old.sees }
         ensures steps { self.new.steps ≡ one_more self.old.steps }
         ensures last { self.new.last ≡ seen }
+        ensures executed { executed_in self.new.counts.items ≡ executed_at seen.pc (executed_in self.old.counts.items) }
     {
         self.steps = self.steps.saturating_add(1);
         if self.last.word == REQUEST {

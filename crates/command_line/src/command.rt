@@ -4,6 +4,9 @@ ghost use Rattle.std.specs.Prelude.{◌≡◌, ◌≤◌, ◌↔◌, IsSome, IfS
 
 use std::marker::Model;
 
+/// How many bytes a megabyte has, as `--memory` counts them.
+pub const MEGABYTE: u64 = 1048576;
+
 /// A number of pages, of the arena or of the stack: 1 to 4,096.
 #[derive(Clone, Copy, Debug)]
 pub struct Pages {
@@ -76,10 +79,12 @@ pub enum Command<'a> {
         shows_stats: bool,
         shows_counts: bool,
     },
-    /// Runs a source by its meaning, with `fuel` units of fuel.
+    /// Runs a source by its meaning, with `fuel` units of fuel; with at most `depth` active calls, and at most so many bytes of `memory`, where they are given.
     Eval {
         input: &'a str,
         fuel: u64,
+        depth: Option<u64>,
+        memory: Option<u64>,
         shows_ending: bool,
         shows_why: bool,
         shows_where: bool,

@@ -15,6 +15,8 @@ pub enum Takes {
     Several(&'static str),
     /// A number of such a form, and the one where none is given.
     Number(ValueParser<'static>, &'static str),
+    /// A number of such a form, which may be left out.
+    OptionalNumber(ValueParser<'static>),
     /// Nothing.
     Nothing,
 }
@@ -81,6 +83,20 @@ const FUEL: Choice = Choice {
     name: "steps",
     help: "The most units of fuel: turns of loops, and calls",
     takes: Takes::Number(ValueParser::Unsigned(0, u64::MAX), "4294967295"),
+};
+
+/// The most active calls of a run by the meaning.
+const DEPTH: Choice = Choice {
+    name: "depth",
+    help: "The most calls that are active at once, main not counted",
+    takes: Takes::OptionalNumber(ValueParser::Unsigned(1, u64::MAX)),
+};
+
+/// The most memory of a run by the meaning: as many megabytes as have at most 2^64 - 1 bytes.
+const MEMORY: Choice = Choice {
+    name: "memory",
+    help: "The most memory that the run keeps, in MB of 1,048,576 bytes",
+    takes: Takes::OptionalNumber(ValueParser::Unsigned(1, 17592186044415)),
 };
 
 /// Whether it is said how the run ended.
@@ -196,7 +212,7 @@ pub const COMMANDS: [Words; 8] = [
         name: "eval",
         about: "Runs a source by its meaning",
         below: SOURCE_FAULTS,
-        choices: &[SOURCE, FUEL, ENDING, WHY, STOP],
+        choices: &[SOURCE, FUEL, DEPTH, MEMORY, ENDING, WHY, STOP],
     },
     Words {
         name: "stack",

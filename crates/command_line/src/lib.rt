@@ -15,7 +15,7 @@ mod words;
 mod writing;
 
 pub use clap::Error;
-pub use command::{Command, Pages};
+pub use command::{Command, MEGABYTE, Pages};
 pub use files::{is_replaceable, is_same_entry, is_same_file};
 pub use given::{shown, shown_error, why_no_name, words_of};
 pub use words::command_of;

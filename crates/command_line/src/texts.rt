@@ -7,7 +7,7 @@ Statuses:
   1  the run ended with another status, or there is no bound on the stack
   2  a null pointer or an index out of bounds was raised
   3  the memory for regions, blocks or the stack is exhausted
-  4  the steps, or the units of fuel, are used up
+  4  the steps, or the units of fuel, are used up, or a bound of eval is passed
   5  the machine stopped at a fault, or an evaluation was stuck
   6  a file, standard input or standard output failed
   7  the host's memory is used up

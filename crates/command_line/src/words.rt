@@ -1,6 +1,6 @@
 // From the words of the command line to a command.
 
-use crate::command::{Command, Pages};
+use crate::command::{Command, MEGABYTE, Pages};
 use crate::commands::{COMMANDS, Choice, Takes, Words};
 use crate::texts::STATUSES_AND_RUNS;
 use clap::builder::ValueParser;
@@ -27,6 +27,7 @@ fn arg_of<'a>(alloc: Global, choice: &Choice) -> Arg<'a> {
         Takes::OptionalPath(name) => arg.long(choice.name).value_name(name),
         Takes::Several(name) => arg.required(true).value_name(name).num_args(1..),
         Takes::Number(form, default) => number(arg, choice.name, form, default),
+        Takes::OptionalNumber(form) => arg.long(choice.name).value_name("N").value_parser(form),
         Takes::Nothing => arg.long(choice.name).action(ArgAction::SetTrue),
     }
 }
@@ -86,6 +87,14 @@ fn compile<'a>(input: &'a str, matches: &ArgMatches<'a>) -> Option<Command<'a>> 
     })
 }
 
+/// As many bytes as a number of megabytes has, where it is given.
+fn bytes_of(megabytes: Option<u64>) -> Option<u64> {
+    match megabytes {
+        Some(number) => Some(number.saturating_mul(MEGABYTE)),
+        None => None,
+    }
+}
+
 /// What a command is given whose run has a limit of steps.
 fn bounded<'a>(name: &str, input: &'a str, matches: &ArgMatches<'a>) -> Option<Command<'a>> {
     let steps = matches.get_one("steps")?;
@@ -107,6 +116,8 @@ fn bounded<'a>(name: &str, input: &'a str, matches: &ArgMatches<'a>) -> Option<C
         "eval" => Some(Command::Eval {
             input,
             fuel: steps,
+            depth: matches.get_one("depth"),
+            memory: bytes_of(matches.get_one("memory")),
             shows_ending,
             shows_why,
             shows_where: matches.get_flag("where"),

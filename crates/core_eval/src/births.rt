@@ -2,9 +2,10 @@
 
 ghost use Rattle.std.specs.Prelude.{◌≡◌, ◌∷◌, ◌++◌, suc, [], Some, None, false, if◌then◌else◌, map, length, option_map, IfOk, OnOk};
 ghost use Rattle.core_eval.specs.Elements.{cells_of};
-ghost use Rattle.core_eval.specs.Regions.{live_at, regions_of, single_freed, turned};
+ghost use Rattle.core_eval.specs.Regions.{live_at, regions_of, single_freed, turned, turned_region};
 ghost use Rattle.core_eval.specs.Blocks.{grown, next_place, stored_of};
 
+use crate::kept::{kept_of_block, kept_of_objects};
 use crate::long_block::keep_block;
 use crate::memory::Memory;
 use crate::region::{Region, Standing, push_block};
@@ -31,7 +32,31 @@ impl Memory {
         ensures globals { OnOk result (self.new.globals ≡ self.old.globals) }
         ensures long_blocks { OnOk result (self.new.long_blocks ≡ self.old.long_blocks) }
     {
-        self.regions.push(alloc, Region::Held(standing, objects))
+        let bytes = kept_of_objects(&objects);
+        let birth = self.regions.push(alloc, Region::Held(standing, objects))?;
+        self.spare.count(bytes);
+        Ok(birth)
+    }
+
+    /// The region with this number becomes another one, or is freed, if it is what it has to be, and answers whether it is.
+    fn turn_counted(&mut self, number: u64, from: Standing, to: Option<Standing>) -> bool
+        ensures regions { turned_region (regions_of self.old.regions) number from to
+            ≡ (if result then Some (regions_of self.new.regions) else None) }
+        ensures kept { result ≡ false → regions_of self.new.regions ≡ regions_of self.old.regions }
+        ensures blocks { self.new.blocks ≡ self.old.blocks }
+        ensures entered { self.new.entered ≡ self.old.entered }
+        ensures owns { self.new.owns ≡ self.old.owns }
+        ensures called { self.new.called ≡ self.old.called }
+        ensures globals { self.new.globals ≡ self.old.globals }
+        ensures long_blocks { self.new.long_blocks ≡ self.old.long_blocks }
+    {
+        let bytes = match to {
+            Some(_) => 0,
+            None => self.regions.kept_of(number),
+        };
+        let is_done = self.regions.turn(number, from, to);
+        self.spare.uncount(if is_done { bytes } else { 0 });
+        is_done
     }
 
     /// A region becomes another one by its birth, or is freed, if it is what it has to be, and answers whether it is: the heap stays what it is.
@@ -46,7 +71,7 @@ impl Memory {
         ensures globals { self.new.globals ≡ self.old.globals }
         ensures long_blocks { self.new.long_blocks ≡ self.old.long_blocks }
     {
-        birth != 0 && self.regions.turn(birth - 1, from, to)
+        birth != 0 && self.turn_counted(birth - 1, from, to)
     }
 
     /// The unique block of an area is freed, if the area is one's own, and answers whether it is.
@@ -62,7 +87,7 @@ impl Memory {
         ensures long_blocks { self.new.long_blocks ≡ self.old.long_blocks }
     {
         match area {
-            Area::Region(number) => self.regions.turn(number, Standing::Single, None),
+            Area::Region(number) => self.turn_counted(number, Standing::Single, None),
             Area::Globals | Area::Block(_) | Area::Own(_) => false,
         }
     }
@@ -121,12 +146,15 @@ impl Memory {
             ),
         };
         match added {
-            Some(object) => Ok(Some(Place {
-                area,
-                object,
-                byte: 0,
-                cell: 0,
-            })),
+            Some(object) => {
+                self.spare.count(kept_of_block(layout.as_ref(), count));
+                Ok(Some(Place {
+                    area,
+                    object,
+                    byte: 0,
+                    cell: 0,
+                }))
+            }
             None => Ok(None),
         }
     }

@@ -9,6 +9,7 @@ ghost use Rattle.core_eval.specs.Standing.{IsCall, Stands, first_known, known_of
 
 use crate::enter::wait;
 use crate::frame::Frame;
+use crate::kept::kept_of_temps;
 use crate::object::blank_objects;
 use crate::pending::{Due, Now, Pending, Run};
 use crate::value::Value;
@@ -57,6 +58,7 @@ pub fn enter_call<'p>(alloc: Global, call: Call, run: &mut Run<'p>) -> Result<Du
         at: Origin(0),
     };
     let saved = mem::replace(&mut run.frame, begun);
+    run.memory.spare.count(kept_of_temps(&saved.temps));
     wait(&mut run.stack, Pending::Caller(to, function, saved))?;
     let own = blank_objects(alloc, &callee.own)?;
     run.memory.enter_call(own)?;

@@ -3,7 +3,8 @@
 //! `evaluate_core` moves from one statement to the next, and keeps what is still to be done on a stack of its own, callers among
 //! it, so that no program drives the host's stack deeper, however deep its calls and statements are. Its promise is `IsEvaluated`
 //! of specs/Evaluated: what is written is the output of the program's run, and the ending is that run's. A `Stop` says where in its
-//! text the run stopped, and in which calls; no clause speaks of that. Stands on `cyc_core`, `cyc_host` and `cyc_words`, and on the
+//! text the run stopped, and in which calls; no clause speaks of that. `evaluate_core_within` also ends a run that has passed a bound
+//! of active calls or of memory, as lack of memory does. Stands on `cyc_core`, `cyc_host` and `cyc_words`, and on the
 //! definitions of `core_meaning` and `step_trees`.
 #![tactic(auto)]
 
@@ -11,11 +12,13 @@ mod arithmetic;
 mod begun;
 mod births;
 mod blocks;
+mod bounds;
 mod call;
 mod ending;
 mod enter;
 mod frame;
 mod held;
+mod kept;
 mod long_block;
 mod memory;
 mod object;
@@ -33,6 +36,7 @@ mod value;
 mod whole;
 mod words;
 
+pub use bounds::{Bounds, Exceeded};
 pub use ending::EvalEnding;
-pub use running::evaluate_core;
+pub use running::{evaluate_core, evaluate_core_within};
 pub use stop::{ActiveCall, Stop};

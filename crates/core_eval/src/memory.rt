@@ -23,6 +23,7 @@ ghost use Rattle.core_eval.specs.Blocks.{
 
 use crate::blocks::{Block, fill_by, position_of, set_at, set_by, slot_by, value_at, word_at};
 use crate::held::Held;
+use crate::kept::kept_of_objects;
 use crate::long_block::LongBlock;
 use crate::object::{blank_objects, first_objects};
 use crate::regions::Regions;
@@ -49,7 +50,7 @@ pub struct Memory {
     pub regions: Regions,
     /// Where the cells of long blocks of regions lie, also of those that are closed or freed.
     pub long_blocks: Vec<LongBlock>,
-    /// Vectors that are done with. What is known rests on none of them.
+    /// Vectors that are done with, and how many bytes are kept. What is known rests on neither.
     pub spare: Spare,
 }
 
@@ -63,6 +64,8 @@ impl Memory {
         let objects = blank_objects(alloc, own)?;
         let mut owns = VecDeque::new(alloc);
         owns.push_front(Block { number: 0, objects })?;
+        let mut spare = Spare::new(alloc);
+        spare.count(kept_of_objects(&globals));
         Ok(Memory {
             blocks: VecDeque::new(alloc),
             entered: 0,
@@ -71,7 +74,7 @@ impl Memory {
             globals,
             regions: Regions::new(alloc),
             long_blocks: Vec::new(alloc),
-            spare: Spare::new(alloc),
+            spare,
         })
     }
 
@@ -89,6 +92,7 @@ impl Memory {
         let Some(entered) = self.entered.checked_add(1) else {
             return Err(AllocError);
         };
+        self.spare.count(kept_of_objects(&objects));
         self.blocks.push_front(Block {
             number: self.entered,
             objects,
@@ -108,7 +112,10 @@ impl Memory {
         ensures long_blocks { self.new.long_blocks ≡ self.old.long_blocks }
     {
         match self.blocks.pop_front() {
-            Some(block) => self.spare.keep_objects(block.objects),
+            Some(block) => {
+                self.spare.uncount(kept_of_objects(&block.objects));
+                self.spare.keep_objects(block.objects);
+            }
             None => {}
         }
     }
@@ -127,6 +134,7 @@ impl Memory {
         let Some(called) = self.called.checked_add(1) else {
             return Err(AllocError);
         };
+        self.spare.count(kept_of_objects(&objects));
         self.owns.push_front(Block {
             number: self.called,
             objects,
@@ -145,7 +153,10 @@ impl Memory {
         ensures regions { self.new.regions ≡ self.old.regions }
         ensures long_blocks { self.new.long_blocks ≡ self.old.long_blocks }
     {
-        self.owns.pop_front();
+        match self.owns.pop_front() {
+            Some(block) => self.spare.uncount(kept_of_objects(&block.objects)),
+            None => {}
+        }
     }
 
     /// Where the block that lies `out` blocks out stands among the blocks, for a function outside of which there are `base` blocks.

@@ -38,10 +38,12 @@ ghost use Rattle.core_eval.specs.Whole.{fill_region, is_still};
 ghost use Rattle.core_eval.specs.Lending.{LendsRegion};
 
 use crate::held::Held;
+use crate::kept::{bytes_of, kept_of_objects};
 use crate::region::{Region, Standing};
 use crate::value::{Part, Slot, Value, slot_in};
 use cyc_core::Layout;
 use std::alloc::{AllocError, Global};
+use std::mem::size_of;
 use std::rc::Rc;
 
 /// The regions that were born, by how many were before each, in chunks of 64: a chunk all of whose regions are freed keeps nothing. A region
@@ -51,6 +53,8 @@ pub struct Regions {
     chunks: Vec<Vec<Region>>,
     /// How many were born so far.
     born: u64,
+    /// How many chunks have items. No promise rests on it.
+    filled: u64,
 }
 
 /// A chunk gets items that are freed, until there is one at a position. Fails only where no host memory is left.
@@ -94,6 +98,7 @@ impl Regions {
         Regions {
             chunks: Vec::new(alloc),
             born: 0,
+            filled: 0,
         }
     }
 
@@ -108,6 +113,21 @@ impl Regions {
             Some(chunk) => chunk.get((number % 64) as usize),
             None => None,
         }
+    }
+
+    /// How many bytes are kept of the blocks of the region with this number, as `kept_of_objects` counts them.
+    pub fn kept_of(&self, number: u64) -> u64 {
+        match self.region(number) {
+            Some(Region::Held(_, objects)) => kept_of_objects(objects),
+            _ => 0,
+        }
+    }
+
+    /// How many bytes are kept of the chunks: of each that has items, as if it had all.
+    pub fn kept_of_chunks(&self) -> u64 {
+        let lists = bytes_of(self.chunks.len() as u64, size_of::<Vec<Region>>());
+        let items = bytes_of(self.filled, size_of::<Region>()).saturating_mul(64);
+        lists.saturating_add(items)
     }
 
     /// The region with this number, to be changed, if there is one that has an item.
@@ -149,6 +169,7 @@ impl Regions {
         self.add_chunks(alloc, chunk)?;
         put_at(&mut self.chunks[chunk], position, region)?;
         self.born = born;
+        self.filled = self.filled.saturating_add(u64::from(position == 0));
         Ok(born)
     }
 
@@ -161,6 +182,7 @@ impl Regions {
                 if are_freed(regions) {
                     regions.clear();
                     regions.shrink_to_fit();
+                    self.filled = self.filled.saturating_sub(1);
                 }
             }
             None => {}

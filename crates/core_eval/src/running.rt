@@ -14,6 +14,7 @@ ghost use Rattle.core_eval.specs.Evaluated.{IsEvaluated, IsNeverStuck, Wrote, re
 ghost use Rattle.core_eval.specs.Fetched.{FetchFault, fetch_reads_failed, fetch_writes_failed};
 ghost use Rattle.core_eval.specs.Stages.{Stage};
 
+use crate::bounds::{Bounds, Exceeded, passed};
 use crate::call::{Call, enter_call, start};
 use crate::ending::EvalEnding;
 use crate::enter::{follow, follow_statements};
@@ -224,6 +225,16 @@ fn pay_unit<'p, R: Input, W: Output>(
     }
 }
 
+/// The bound that was passed, where that ended the run.
+fn passed_at(ending: EvalEnding, which: Exceeded) -> Option<Exceeded>
+    ensures { ending ≢ EvalEnding.HostMemory → result ≡ None }
+{
+    match ending {
+        EvalEnding::HostMemory => Some(which),
+        _ => None,
+    }
+}
+
 /// Runs a program of Core by its meaning, with a number of units of fuel.
 ///
 /// Ends as the definition does: with the program's status, with `Running` where a unit is due and none is left, or
@@ -252,6 +263,41 @@ pub fn evaluate_core<R: Input, W: Output>(
     ensures reads { R.fault_count reader.new ≡ reads_failed result (R.fault_count reader.old) }
     ensures writes { W.fault_count writer.new ≡ writes_failed result (W.fault_count writer.old) }
 {
+    let bounds = Bounds {
+        calls: None,
+        bytes: None,
+    };
+    evaluate_core_within(
+        alloc, program, reader, writer, fuel, stop, &bounds, &mut None,
+    )
+}
+
+/// Runs a program as `evaluate_core` does, as long as it keeps no more than these bounds say, and says in `exceeded` which of them it has passed.
+///
+/// They are tested before each unit of fuel. A run that has passed one ends as one for which the host has no memory.
+pub fn evaluate_core_within<R: Input, W: Output>(
+    alloc: Global,
+    program: &Program,
+    reader: &mut R,
+    writer: &mut W,
+    fuel: u64,
+    stop: &mut Option<Stop>,
+    bounds: &Bounds,
+    exceeded: &mut Option<Exceeded>,
+) -> EvalEnding
+    // what is written is the output of the program's run on the bytes that the reader gave, and the ending is that run's
+    ensures evaluated { IsEvaluated result (program_tree program.now) fuel
+        (R.remaining reader.old) (R.remaining reader.new) (W.contents writer.old) (W.contents writer.new) }
+    // a program whose run is never stuck is not stuck here
+    ensures never_stuck { IsNeverStuck (program_tree program.now) → result ≢ EvalEnding.Stuck }
+    // each device's fault comes where just one call of that device failed, and any other ending where none did
+    ensures reads { R.fault_count reader.new ≡ reads_failed result (R.fault_count reader.old) }
+    ensures writes { W.fault_count writer.new ≡ writes_failed result (W.fault_count writer.old) }
+    // a bound was passed only where the run ended so, and there is one
+    ensures bounded { result ≢ EvalEnding.HostMemory → exceeded.new ≡ None }
+    ensures unbounded { bounds.now.calls ≡ None → bounds.now.bytes ≡ None → exceeded.new ≡ None }
+{
+    *exceeded = None;
     let begin = start(program);
     let Ok(memory) = Memory::first(alloc, &program.globals, begin.own) else {
         return EvalEnding::HostMemory;
@@ -269,6 +315,12 @@ pub fn evaluate_core<R: Input, W: Output>(
     let mut due = begin.due;
     let mut left = fuel;
     'units: loop {
+        if let Some(which) = passed(&run, bounds) {
+            *stop = stop_of(alloc, program.main, &run.stack, &run.frame).ok();
+            let ending = finish(&mut streams.gathered, writer, EvalEnding::HostMemory);
+            *exceeded = passed_at(ending, which);
+            return ending;
+        }
         match pay_unit(alloc, due, &mut run, &mut streams, reader, writer, left) {
             Ok(next) => due = next,
             Err(ending) => {

@@ -2,6 +2,7 @@
 
 ghost use Rattle.std.specs.Prelude.{◌≡◌, []};
 
+use crate::kept::{kept_of_room, kept_of_temps};
 use crate::value::{Object, Value};
 use std::alloc::Global;
 
@@ -10,6 +11,8 @@ use std::alloc::Global;
 pub struct Spare {
     temps: Vec<Vec<Value>>,
     objects: Vec<Vec<Object>>,
+    /// How many bytes are kept of these vectors, of the temporaries of callers, and of all objects. No promise rests on it.
+    bytes: u64,
 }
 
 impl Spare {
@@ -18,7 +21,23 @@ impl Spare {
         Spare {
             temps: Vec::new(alloc),
             objects: Vec::new(alloc),
+            bytes: 0,
         }
+    }
+
+    /// How many bytes are kept, of what was counted.
+    pub fn bytes(&self) -> u64 {
+        self.bytes
+    }
+
+    /// So many bytes more are kept.
+    pub fn count(&mut self, bytes: u64) {
+        self.bytes = self.bytes.saturating_add(bytes);
+    }
+
+    /// So many bytes are no longer kept, or by another one.
+    pub fn uncount(&mut self, bytes: u64) {
+        self.bytes = self.bytes.saturating_sub(bytes);
     }
 
     /// An empty one for temporaries.
@@ -27,6 +46,7 @@ impl Spare {
     {
         match self.temps.pop() {
             Some(mut temps) => {
+                self.uncount(kept_of_temps(&temps));
                 temps.clear();
                 temps
             }
@@ -40,6 +60,7 @@ impl Spare {
     {
         match self.objects.pop() {
             Some(mut objects) => {
+                self.uncount(kept_of_room(&objects));
                 objects.clear();
                 objects
             }
@@ -49,12 +70,14 @@ impl Spare {
 
     /// Keeps one of temporaries. Where the host has no memory to keep it, it is freed.
     pub fn keep_temps(&mut self, temps: Vec<Value>) {
+        self.count(kept_of_temps(&temps));
         let _ = self.temps.push(temps);
     }
 
     /// Keeps one of locals, whose objects end. Where the host has no memory to keep it, it is freed.
     pub fn keep_objects(&mut self, mut objects: Vec<Object>) {
         objects.clear();
+        self.count(kept_of_room(&objects));
         let _ = self.objects.push(objects);
     }
 }

@@ -26,6 +26,7 @@ ghost use Rattle.core_eval.specs.Costs.{EndsWithin, IsCaller, IsMove};
 
 use crate::enter::{enter_loop, truth};
 use crate::frame::Frame;
+use crate::kept::kept_of_temps;
 use crate::memory::Memory;
 use crate::pending::{Due, Flow, Now, Pending, Returned};
 use crate::spare::Spare;
@@ -142,6 +143,7 @@ fn take_caller<'p>(
         → IsMove (Leave (Returns (optional_value returned))) (Caller (optional_tree to) f (saved_of saved) ∷ ws) (known_of frame.old memory)
         (next_of due) ws (known_of frame.new after)) }
 {
+    spare.uncount(kept_of_temps(&saved.temps));
     let left = mem::replace(frame, saved);
     spare.keep_temps(left.temps);
     let fits = take_result(frame, to, returned)?;

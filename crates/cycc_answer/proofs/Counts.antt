@@ -12,7 +12,7 @@ use Rattle.cycc_answer.specs.Statuses.{ended_status, status_of, evaluated_status
 use Rattle.cycc_answer.specs.Devices.{AreCounted}
 
 module _ (status r_old r_new w_old w_new : ℕ) where
-  none_failed : status ≢ 6 → r_new ≡ r_old → w_new ≡ w_old → AreCounted status r_old r_new w_old w_new
+  pub none_failed : status ≢ 6 → r_new ≡ r_old → w_new ≡ w_old → AreCounted status r_old r_new w_old w_new
   none_failed other reads writes = record { failed = λ six. absurd (other six); none = λ _. (reads, writes) }
 
   read_failed : status ≡ 6 → r_new ≡ one_more r_old → w_new ≡ w_old → AreCounted status r_old r_new w_old w_new
@@ -38,7 +38,7 @@ module _ (status r_old r_new w_old w_new : ℕ) where
   run ending.WriteFault shown = write_failed shown
   run ending.HostMemory shown = none_failed (λ six. omega arith)
 
-  evaluation : (why : EvalEnding) → status ≡ evaluated_status why → r_new ≡ eval_reads_failed why r_old → w_new ≡ eval_writes_failed why w_old
+  pub evaluation : (why : EvalEnding) → status ≡ evaluated_status why → r_new ≡ eval_reads_failed why r_old → w_new ≡ eval_writes_failed why w_old
       → AreCounted status r_old r_new w_old w_new
   evaluation (eval.Ended number) shown = ended number shown
   evaluation (eval.Raised kind) shown = none_failed (λ six. omega arith)
@@ -72,8 +72,3 @@ module _ {E : Type 0} (result : Result ℕ E) (r_old r_new w_old w_new : ℕ) wh
   pub of_run : (why : Ending) → IfOk result (λ status. status ≡ status_of why) → r_new ≡ reads_failed why r_old → w_new ≡ writes_failed why w_old
       → IfOk result (λ status. AreCounted status r_old r_new w_old w_new)
   of_run why shown reads writes = IfOk-weaker result _ _ (λ status s. run status r_old r_new w_old w_new why s reads writes) shown
-
-  -- of an evaluation
-  pub of_evaluation : (why : EvalEnding) → IfOk result (λ status. status ≡ evaluated_status why) → r_new ≡ eval_reads_failed why r_old
-      → w_new ≡ eval_writes_failed why w_old → IfOk result (λ status. AreCounted status r_old r_new w_old w_new)
-  of_evaluation why shown reads writes = IfOk-weaker result _ _ (λ status s. evaluation status r_old r_new w_old w_new why s reads writes) shown

@@ -12,6 +12,7 @@ use Rattle.cyc_host.specs.declared.ending.Ending.{Ending}
 use Rattle.cyc_host.specs.declared.ending.Ending.TheVariants as ending
 use Rattle.cyc_host.specs.Hosted.{IsHosted}
 use Rattle.core_eval.specs.declared.ending.EvalEnding.{EvalEnding}
+use Rattle.core_eval.specs.declared.ending.EvalEnding.TheVariants as eval
 use Rattle.cycc_driver.specs.declared.fault.CompileFault.{CompileFault}
 use Rattle.cycc_driver.specs.Texts.{IsAcceptedAs}
 use Rattle.cycc_driver.specs.Refusals.{IsRefusedFor, HasNoImageFor}
@@ -67,6 +68,21 @@ pub record HasEvaluated (text : List ℕ) (fuel : ℕ) (reader_old reader_new wr
 abbrev pub IsEval : (text : List ℕ) (fuel : ℕ) (reader_old reader_new writer_old writer_new : Option (List ℕ)) → ℕ → Type 0
 IsEval text fuel reader_old reader_new writer_old writer_new status =
     HasEvaluated text fuel reader_old reader_new writer_old writer_new status ⊎ IsRefused (λ fault. IsRefusedFor fault text) status
+
+-- a source's evaluation that has passed a bound, of calls or of bytes, where there is one
+pub record HasPassed (calls bytes : Option ℕ) (text : List ℕ) (fuel : ℕ) (reader_old reader_new writer_old writer_new : Option (List ℕ))
+    (status : ℕ) : Type 0 where
+  pub some : calls ≡ None → bytes ≢ None
+  -- what is written is from the first on what the source's run writes
+  pub evaluated : IsTextEvaluated text fuel eval.HostMemory reader_old reader_new writer_old writer_new
+  pub shown : status ≡ 4
+
+-- what `eval` says within bounds
+abbrev pub IsEvalWithin : (calls bytes : Option ℕ) (text : List ℕ) (fuel : ℕ) (reader_old reader_new writer_old writer_new : Option (List ℕ)) → ℕ
+    → Type 0
+IsEvalWithin calls bytes text fuel reader_old reader_new writer_old writer_new status =
+    IsEval text fuel reader_old reader_new writer_old writer_new status
+    ⊎ HasPassed calls bytes text fuel reader_old reader_new writer_old writer_new status
 
 -- what is known of an accepted source's stack, and the status says whether it has a bound, or that the writer failed
 pub record HasStack (text : List ℕ) (status : ℕ) : Type 0 where

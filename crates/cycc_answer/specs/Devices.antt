@@ -9,7 +9,7 @@ abbrev pub runs : Command → Bool
 runs (command.Check input shows_why shows_all) = false
 runs (command.Compile input output map pages stack_pages shows_why) = false
 runs (command.Run input pages stack_pages steps shows_ending shows_why shows_where shows_values shows_stats shows_counts) = true
-runs (command.Eval input fuel shows_ending shows_why shows_where) = true
+runs (command.Eval input fuel depth memory shows_ending shows_why shows_where) = true
 runs (command.Stack input shows_why shows_all) = false
 runs (command.Exec input steps shows_ending shows_where shows_stats shows_counts) = true
 runs (command.Dump input) = false

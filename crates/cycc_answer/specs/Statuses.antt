@@ -1,5 +1,5 @@
 -- The exit status of each ending and of each refusal.
-use Rattle.std.specs.Prelude.{ℕ, ℤ, pos, negsuc, zero, suc, Option, Some, None}
+use Rattle.std.specs.Prelude.{◌≡◌, ◌≢◌, ◌⊎◌, ℕ, ℤ, pos, negsuc, zero, suc, Option, Some, None}
 use Rattle.cycc_driver.specs.declared.fault.CompileFault.{CompileFault}
 use Rattle.cycc_driver.specs.declared.fault.Place.{Place}
 use Rattle.stack_needs.specs.declared.recursion.Recursion.{Recursion}
@@ -8,6 +8,7 @@ use Rattle.cyc_image.specs.declared.fault.ImageFault.{ImageFault}
 use Rattle.cyc_image.specs.declared.fault.ImageFault.TheVariants as image
 use Rattle.cyc_host.specs.declared.ending.Ending.{Ending}
 use Rattle.cyc_host.specs.declared.ending.Ending.TheVariants as ending
+use Rattle.core_eval.specs.declared.bounds.Exceeded.{Exceeded}
 use Rattle.core_eval.specs.declared.ending.EvalEnding.{EvalEnding}
 use Rattle.core_eval.specs.declared.ending.EvalEnding.TheVariants as eval
 
@@ -37,6 +38,10 @@ evaluated_status eval.Stuck = 5
 evaluated_status eval.ReadFault = 6
 evaluated_status eval.WriteFault = 6
 evaluated_status eval.HostMemory = 7
+
+-- of an evaluation within bounds: also 4 where one was passed
+abbrev pub IsToldAs : EvalEnding → Option Exceeded → ℕ → Type 0
+IsToldAs why exceeded status = (status ≡ evaluated_status why) ⊎ ((why ≡ eval.HostMemory) × (exceeded ≢ None) × (status ≡ 4))
 
 -- of a stack: 0 where it has a bound, and 1 where a recursion is reached
 abbrev pub stack_status : Option Recursion → ℕ

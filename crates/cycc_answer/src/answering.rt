@@ -15,6 +15,7 @@ use crate::sources::{checked, compiled, interpreted, ran};
 use crate::stacks::told_of_stack;
 use crate::watching::ran_watched;
 use command_line::Command;
+use core_eval::Bounds;
 use cyc_words::{Input, Output};
 use cycc_driver::Limits;
 use std::alloc::{AllocError, Global};
@@ -92,8 +93,17 @@ pub fn answer<R: Input, W: Output, E: Write>(
             }
             Ok(Answer::plain(ran(alloc, told, limits, file, reader, writer, faults)?))
         }
-        Command::Eval { fuel, .. } => {
-            Ok(Answer::plain(interpreted(alloc, told, fuel, file, reader, writer, faults)?))
+        Command::Eval {
+            fuel,
+            depth,
+            memory,
+            ..
+        } => {
+            let bounds = Bounds {
+                calls: depth,
+                bytes: memory,
+            };
+            Ok(Answer::plain(interpreted(alloc, told, fuel, bounds, file, reader, writer, faults)?))
         }
         Command::Stack { .. } => {
             Ok(Answer::plain(told_of_stack(alloc, told, file, writer, faults)?))

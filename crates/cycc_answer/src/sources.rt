@@ -2,18 +2,19 @@
 
 ghost use Rattle.std.specs.Prelude.{◌≡◌, ◌≤◌, IfOk};
 ghost use Rattle.std.specs.Option.{option_map};
-ghost use Rattle.cycc_answer.specs.Answers.{IsChecked, IsCompiled, IsRun, IsEval};
+ghost use Rattle.cycc_answer.specs.Answers.{IsChecked, IsCompiled, IsRun, IsEvalWithin};
 ghost use Rattle.cycc_answer.specs.Devices.{AreCounted};
 
 use crate::lines::{Told, ended, printed};
 use crate::result::Answer;
-use crate::watching::told_of_evaluation;
+use crate::watching::told_within;
 use crate::why::refused_in;
 use command_line::Pages;
 use command_line::status::SUCCESS;
+use core_eval::Bounds;
 use cyc_image::load;
 use cyc_words::{Input, Output};
-use cycc_driver::{Limits, check, compile, evaluate_watched, execute};
+use cycc_driver::{Limits, check, compile, evaluate_within, execute};
 use std::alloc::{AllocError, Global};
 use std::io::Write;
 use traces::map;
@@ -105,17 +106,18 @@ pub fn ran<R: Input, W: Output, E: Write>(
     }
 }
 
-/// Runs a source by its meaning between a reader and a writer, says what is asked for of the run, and answers the status.
+/// Runs a source by its meaning between a reader and a writer, within bounds, says what is asked for of the run, and answers the status.
 pub fn interpreted<R: Input, W: Output, E: Write>(
     alloc: Global,
     told: Told<'_>,
     fuel: u64,
+    bounds: Bounds,
     file: &[u8],
     reader: &mut R,
     writer: &mut W,
     faults: &mut E,
 ) -> Result<u8, AllocError>
-    ensures evaluated { IfOk result (IsEval file.now fuel
+    ensures evaluated { IfOk result (IsEvalWithin bounds.calls bounds.bytes file.now fuel
         (R.remaining reader.old) (R.remaining reader.new) (W.contents writer.old) (W.contents writer.new)) }
     // a refusal leaves the reader and the writer as they were
     ensures untouched { IfOk result (λ status. status ≡ 8 → (reader.new ≡ reader.old) × (writer.new ≡ writer.old)) }
@@ -124,8 +126,27 @@ pub fn interpreted<R: Input, W: Output, E: Write>(
         (R.fault_count reader.old) (R.fault_count reader.new) (W.fault_count writer.old) (W.fault_count writer.new)) }
 {
     let mut stop = None;
-    match evaluate_watched(alloc, file, reader, writer, fuel, &mut stop) {
-        Ok(ending) => told_of_evaluation(alloc, told, file, ending, stop.as_ref(), faults),
+    let mut exceeded = None;
+    match evaluate_within(
+        alloc,
+        file,
+        reader,
+        writer,
+        fuel,
+        &mut stop,
+        &bounds,
+        &mut exceeded,
+    ) {
+        Ok(ending) => told_within(
+            alloc,
+            told,
+            file,
+            ending,
+            bounds,
+            exceeded,
+            stop.as_ref(),
+            faults,
+        ),
         Err(fault) => refused_in(alloc, told, file, fault, faults),
     }
 }

@@ -1,14 +1,17 @@
 // Runs that are watched, and what is said of them.
 
-ghost use Rattle.std.specs.Prelude.{◌≡◌, ◌≤◌, IfOk};
+ghost use Rattle.std.specs.Prelude.{◌≡◌, ◌≢◌, ◌≤◌, None, IfOk, IfSome};
+ghost use Rattle.core_eval.specs.declared.ending.EvalEnding.TheVariants.{HostMemory};
 ghost use Rattle.cycc_answer.specs.Answers.{IsRun};
 ghost use Rattle.cycc_answer.specs.Devices.{AreCounted};
-ghost use Rattle.cycc_answer.specs.Statuses.{evaluated_status, status_of};
+ghost use Rattle.cycc_answer.specs.Statuses.{IsToldAs, evaluated_status, status_of};
 
 use crate::lines::{Told, ended, evaluated, say};
 use crate::why::refused_in;
 use arena_laws::LIMIT;
-use core_eval::{EvalEnding, Stop};
+use command_line::MEGABYTE;
+use command_line::status::STEP_LIMIT;
+use core_eval::{Bounds, EvalEnding, Exceeded, Stop};
 use cyc_host::{Comparison, Count, Ending, Stack, Watch};
 use cyc_words::{Input, Output};
 use cycc_driver::{Limits, execute_watched, stack};
@@ -18,7 +21,7 @@ use rv32_machine::{
 };
 use std::alloc::{AllocError, Global};
 use std::io::Write;
-use traces::{Arena, Stopped, eval_trace, held_lines, image_trace, trace};
+use traces::{Arena, End, Stopped, eval_trace, held_lines, image_trace, trace};
 
 /// The requests that are counted, by their numbers and names.
 const REQUESTS: [(u32, &str); 11] = [
@@ -232,7 +235,7 @@ pub fn told_of<E: Write>(
 }
 
 /// Says how a run of a text by its meaning ended, and where it stopped if that is asked for, and answers the status.
-pub fn told_of_evaluation<E: Write>(
+fn told_of_evaluation<E: Write>(
     alloc: Global,
     told: Told<'_>,
     text: &[u8],
@@ -244,9 +247,79 @@ pub fn told_of_evaluation<E: Write>(
 {
     let status = evaluated(alloc, ending, told.shows_ending, faults)?;
     if told.shows_where {
-        show(eval_trace(alloc, told.input, text, ending, stop), faults);
+        let end = End {
+            ending,
+            exceeded: None,
+        };
+        show(eval_trace(alloc, told.input, text, end, stop), faults);
     }
     Ok(status)
+}
+
+/// The line of a run by the meaning that has passed a bound.
+fn bound_line(alloc: Global, bounds: Bounds, exceeded: Exceeded) -> Result<String, AllocError> {
+    match exceeded {
+        Exceeded::Calls => {
+            let most = bounds.calls.unwrap_or(0);
+            format!(in alloc; "eval: more than {most} active calls (--depth)")
+        }
+        Exceeded::Bytes => {
+            let most = bounds.bytes.unwrap_or(0) / MEGABYTE;
+            format!(in alloc; "eval: more than {most} MB (--memory)")
+        }
+    }
+}
+
+/// Says which bound a run of a text by its meaning has passed, and where it stopped if that is asked for, and answers the status.
+fn told_of_bound<E: Write>(
+    alloc: Global,
+    told: Told<'_>,
+    text: &[u8],
+    bounds: Bounds,
+    exceeded: Exceeded,
+    stop: Option<&Stop>,
+    faults: &mut E,
+) -> Result<u8, AllocError>
+    ensures { IfOk result (λ status. status ≡ 4) }
+{
+    say(faults, bound_line(alloc, bounds, exceeded)?.as_str());
+    if told.shows_where {
+        let end = End {
+            ending: EvalEnding::HostMemory,
+            exceeded: Some(exceeded),
+        };
+        show(eval_trace(alloc, told.input, text, end, stop), faults);
+    }
+    Ok(STEP_LIMIT)
+}
+
+/// The bound that ended a run by the meaning, if one did.
+fn bound_of(ending: EvalEnding, exceeded: Option<Exceeded>) -> Option<Exceeded>
+    ensures { IfSome result (λ _. (ending ≡ HostMemory) × (exceeded ≢ None)) }
+{
+    match (ending, exceeded) {
+        (EvalEnding::HostMemory, Some(passed)) => Some(passed),
+        _ => None,
+    }
+}
+
+/// Says how a run of a text by its meaning within bounds ended, and where it stopped if that is asked for, and answers the status.
+pub fn told_within<E: Write>(
+    alloc: Global,
+    told: Told<'_>,
+    text: &[u8],
+    ending: EvalEnding,
+    bounds: Bounds,
+    exceeded: Option<Exceeded>,
+    stop: Option<&Stop>,
+    faults: &mut E,
+) -> Result<u8, AllocError>
+    ensures { IfOk result (IsToldAs ending exceeded) }
+{
+    match bound_of(ending, exceeded) {
+        Some(passed) => told_of_bound(alloc, told, text, bounds, passed, stop, faults),
+        None => told_of_evaluation(alloc, told, text, ending, stop, faults),
+    }
 }
 
 /// A watch of a run of this code, for what is told of the run; one that sees nothing where that needs none.

@@ -1,5 +1,5 @@
--- What a watched run tells of a text: it counts the instructions of the image that `compile` gives, and knows the last of them.
-use Rattle.std.specs.Prelude.{◌≡◌, ℕ, List, Option}
+-- What a watched run tells of a text: it counts the instructions of the image that `compile` gives, each word of its code by itself, and knows the last of them.
+use Rattle.std.specs.Prelude.{◌≡◌, ◌/◌, ℕ, List, Option, length}
 use Rattle.rv32_machine.specs.Arrays.{Arrays, IsStart, areas_of, state_of}
 use Rattle.rv32_machine.specs.State.{State}
 use Rattle.arena_laws.specs.Holdings.{fresh}
@@ -19,4 +19,5 @@ pub record IsTextWatched (text : List ℕ) (pages stack_pages steps : ℕ) (why 
   pub start : Arrays
   pub starts : IsStart image.parts (fresh pages) arena start
   pub end : State
-  pub watched : IsWatched why (areas_of start) steps (state_of start) end reader_old reader_new writer_old writer_new nothing tally
+  pub watched : IsWatched why (areas_of start) steps (state_of start) end reader_old reader_new writer_old writer_new
+      (nothing (length image.parts.code / 4)) tally

@@ -1,6 +1,6 @@
 // Runs of a text.
 
-ghost use Rattle.std.specs.Prelude.{◌≡◌, ◌≢◌, ◌≤◌, IfOk, IfErr, true};
+ghost use Rattle.std.specs.Prelude.{◌≡◌, ◌≢◌, ◌≤◌, ◌/◌, IfOk, IfErr, length, true};
 ghost use Rattle.cyc_host.specs.Failures.{reads_failed, writes_failed};
 ghost use Rattle.cyc_host.specs.Watched.{nothing, tally_of};
 ghost use Rattle.cycc_driver.specs.Refusals.{HasNoImageFor};
@@ -37,7 +37,7 @@ pub struct Watched {
 
 /// A watch of a run of this code; one that sees nothing where the run isn't watched.
 fn watch_of(alloc: Global, is_watched: bool, code: &[u8]) -> Result<Watch, AllocError>
-    ensures { IfOk result (λ watch. is_watched ≡ true → (watch.sees ≡ true) × (tally_of watch ≡ nothing)) }
+    ensures { IfOk result (λ watch. is_watched ≡ true → (watch.sees ≡ true) × (tally_of watch ≡ nothing (length code.now / 4))) }
 {
     if is_watched {
         Watch::new(alloc, code)
@@ -67,7 +67,8 @@ fn executed<R: Input, W: Output>(
     // a device's fault comes where just one call of that device failed, and any other ending where none did
     ensures reads { IfOk result (λ watched. R.fault_count reader.new ≡ reads_failed watched.ending (R.fault_count reader.old)) }
     ensures writes { IfOk result (λ watched. W.fault_count writer.new ≡ writes_failed watched.ending (W.fault_count writer.old)) }
-    // what is watched is the run of the image that `compile` gives: the watch counts the instructions that begin, and knows the address of the last
+    // what is watched is the run of the image that `compile` gives: the watch counts the instructions that begin, of each word of the code, and knows the
+    // address of the last
     ensures watched { is_watched ≡ true → IfOk result (λ watched. IsTextWatched text.now limits.pages limits.stack_pages limits.steps watched.ending
         (R.remaining reader.old) (R.remaining reader.new) (W.contents writer.old) (W.contents writer.new) (tally_of watched.watch)) }
     // the fault is that of `compile`, and nothing was read or written

@@ -19,7 +19,7 @@ pub use cyc_arena::{PagedStore, PlainStore};
 pub use cyc_host::run;
 pub use cyc_image::load;
 pub use cyc_words::Counted;
-pub use evaluating::{evaluate, evaluate_watched};
+pub use evaluating::{evaluate, evaluate_watched, evaluate_within};
 pub use executing::{Limits, Watched, execute, execute_watched};
 pub use fault::{CompileFault, Place};
 pub use rv32_isa::decode;

@@ -2,8 +2,32 @@
 
 use crate::text::{Text, name_of};
 use crate::told::{called_at, in_function, limited, push_count, raised_at, shown_of};
-use core_eval::{ActiveCall, EvalEnding, Stop};
+use core_eval::{ActiveCall, EvalEnding, Exceeded, Stop};
 use std::alloc::{AllocError, Global};
+
+/// How a run by the meaning of a source ended: its ending, and the bound that it passed, if it passed one.
+#[derive(Clone, Copy)]
+pub struct End {
+    pub ending: EvalEnding,
+    pub exceeded: Option<Exceeded>,
+}
+
+impl End {
+    /// The limit that ended it, if one did.
+    fn limit(self) -> Option<&'static str> {
+        match (self.ending, self.exceeded) {
+            (EvalEnding::Running, _) => Some("step"),
+            (EvalEnding::HostMemory, Some(Exceeded::Calls)) => Some("depth"),
+            (EvalEnding::HostMemory, Some(Exceeded::Bytes)) => Some("memory"),
+            _ => None,
+        }
+    }
+
+    /// Whether it is told where the run stopped.
+    fn is_told(self) -> bool {
+        matches!(self.ending, EvalEnding::Raised(_)) || self.limit().is_some()
+    }
+}
 
 /// A text that was run: the path of its file, and the names of its functions.
 #[derive(Clone, Copy)]
@@ -20,18 +44,16 @@ impl Source<'_> {
         called_at(alloc, self.input, place, name_of(self.names, call.function))
     }
 
-    /// The first line: where a raise is, or in which function the fuel was used up. Of another ending there is none.
-    fn stop(self, alloc: Global, ending: EvalEnding, stop: &Stop) -> Result<String, AllocError> {
-        match ending {
-            EvalEnding::Raised(kind) => {
-                raised_at(alloc, self.input, self.text.place(stop.at), kind, "")
-            }
-            EvalEnding::Running => {
-                let inside = in_function(alloc, name_of(self.names, stop.function))?;
-                limited(alloc, inside.as_str())
-            }
-            _ => Ok(String::new(alloc)),
+    /// The first line: where a raise is, or in which function what was used up, or which bound was passed. Of another ending there is none.
+    fn stop(self, alloc: Global, end: End, stop: &Stop) -> Result<String, AllocError> {
+        if let EvalEnding::Raised(kind) = end.ending {
+            return raised_at(alloc, self.input, self.text.place(stop.at), kind, "");
         }
+        let Some(limit) = end.limit() else {
+            return Ok(String::new(alloc));
+        };
+        let inside = in_function(alloc, name_of(self.names, stop.function))?;
+        limited(alloc, limit, inside.as_str())
     }
 }
 
@@ -65,15 +87,15 @@ fn push_calls(
 }
 
 /// The lines that say where the run of an accepted text by its meaning stopped, as `trace` has them: the position of what raised, or in which
-/// function the fuel was used up; and behind it the active calls. Of another ending nothing. Fails also where `stop` wasn't kept.
+/// function the fuel was used up or a bound passed; and behind it the active calls. Of another ending nothing. Fails also where `stop` wasn't kept.
 pub fn eval_trace(
     alloc: Global,
     input: &str,
     text: &[u8],
-    ending: EvalEnding,
+    end: End,
     stop: Option<&Stop>,
 ) -> Result<String, AllocError> {
-    if !matches!(ending, EvalEnding::Raised(_) | EvalEnding::Running) {
+    if !end.is_told() {
         return Ok(String::new(alloc));
     }
     let Some(stop) = stop else {
@@ -88,7 +110,7 @@ pub fn eval_trace(
         text: &text,
         names: &names,
     };
-    let mut lines = source.stop(alloc, ending, stop)?;
+    let mut lines = source.stop(alloc, end, stop)?;
     push_calls(alloc, source, &stop.calls, &mut lines)?;
     Ok(lines)
 }

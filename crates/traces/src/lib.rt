@@ -27,7 +27,7 @@ mod text;
 mod told;
 mod values;
 
-pub use evaluations::eval_trace;
+pub use evaluations::{End, eval_trace};
 pub use exhausted::Arena;
 pub use held::held_lines;
 pub use lines::{Stopped, image_trace, trace};

@@ -143,7 +143,7 @@ fn stop_of(alloc: Global, run: Run<'_>, ending: Ending) -> Result<String, AllocE
     let inside = inside.as_str();
     match ending {
         Ending::Exhausted => exhausted(alloc, run.watch, run.arena, inside),
-        Ending::StepLimit => limited(alloc, inside),
+        Ending::StepLimit => limited(alloc, "step", inside),
         _ => Ok(String::new(alloc)),
     }
 }

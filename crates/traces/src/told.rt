@@ -49,9 +49,9 @@ pub fn in_function(alloc: Global, function: &str) -> Result<String, AllocError> 
     format!(in alloc; " in {function}")
 }
 
-/// The line of a run whose steps are used up.
-pub fn limited(alloc: Global, inside: &str) -> Result<String, AllocError> {
-    format!(in alloc; "step limit{inside}\n")
+/// The line of a run that came to this limit, of its steps as it may be.
+pub fn limited(alloc: Global, limit: &str, inside: &str) -> Result<String, AllocError> {
+    format!(in alloc; "{limit} limit{inside}\n")
 }
 
 /// Appends how many calls aren't shown, if there are any.

@@ -36,7 +36,7 @@ With it come: exhausted. `cycc explain exhausted` says more.
     Explanation {
         name: "4",
         text: r#"The exit status 4:
-The steps, or the units of fuel, are used up.
+The steps, or the units of fuel, are used up, or a bound of eval is passed.
 
 With it come: step limit. `cycc explain step limit` says more.
 "#,

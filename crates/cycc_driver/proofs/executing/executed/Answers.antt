@@ -1,10 +1,11 @@
-use Rattle.std.proofs.Common.{◌≡◌, ℕ, inl, inr, sym, ap, ◌∙◌, subst, refl}
+use Rattle.std.proofs.Common.{◌≡◌, ℕ, ◌/◌, List, length, inl, inr, sym, ap, ◌∙◌, subst, refl}
 use Rattle.arena_laws.specs.Holdings.{Holdings, fresh}
 use Rattle.cyc_image.specs.Format.{Contents, IsImage}
 use Rattle.rv32_machine.specs.Arrays.{IsStart, arrays, state_of}
 use Rattle.dynamic_region.specs.Keyed.{held_by}
 use Rattle.unique_blocks.specs.Blocks as blocks
 use Rattle.rv32_machine.specs.Served.{lacks}
+use Rattle.cyc_host.specs.Watched.{nothing}
 use Rattle.cycc_driver.proofs.Executions.{begun_alike, text_run}
 use Rattle.cycc_driver.proofs.executing.executed.Goals as goal
 
@@ -52,7 +53,8 @@ returns-clause-watched g c = λ is.
       start = start;
       starts = starts;
       end = state_of end;
-      watched = begun_alike begun.1 (c.run_watched-ending.ensures.watched begun.0).1;
+      watched = begun_alike (begun.1 ∙ ap (λ (xs : List ℕ). nothing (length xs / 4)) (c.code.ensures.code ∙ ap (λ (p : Contents). p.code) same))
+          (c.run_watched-ending.ensures.watched begun.0).1;
     }
 
 pub returns-clause-memory : goal.returns-clause-memory

@@ -6,7 +6,7 @@ use Rattle.core_eval.specs.Pendings.{next_of, waits_of}
 use Rattle.core_eval.specs.Standing.{first_known}
 use Rattle.core_eval.proofs.Stages.{begun, stage_as}
 use Rattle.core_eval.proofs.Endings.{stage_stopped, unstuck}
-use Rattle.core_eval.proofs.running.evaluate_core.Goals as goal
+use Rattle.core_eval.proofs.running.evaluate_core_within.Goals as goal
 
 pub returns-in_default-clause-evaluated : goal.returns-in_default-clause-evaluated
 returns-in_default-clause-evaluated g c =
@@ -28,6 +28,7 @@ units-init g c =
           (c.in-Ok.ensures c.new-2.result c.new-2.ensures.temps c.new-2.ensures.base
           ∙ ap (λ ds. first_known ds own) c.deref.ensures.value)
           c.new-3.ensures;
+      exceeded = refl;
     }
 
 pub units-preserved : goal.units-preserved
@@ -39,6 +40,7 @@ units-preserved g c =
       writes = r.ensures.writes ∙ i.writes;
       functions = (λ k. map function_tree ((r.ensures.functions k).now)) ∙ i.functions;
       stage = r.ensures.goes_on (program_tree c.args.program.now) c.args.fuel _ _ i.functions i.stage;
+      exceeded = i.exceeded;
     }
 
 pub returns-in-Err-clause-evaluated : goal.returns-in-Err-clause-evaluated
@@ -47,3 +49,10 @@ returns-in-Err-clause-evaluated g c = c.in-Err.ensures.ends (program_tree c.args
 pub returns-in-Err-clause-never_stuck : goal.returns-in-Err-clause-never_stuck
 returns-in-Err-clause-never_stuck g c =
     unstuck c.in-Err.ending (program_tree c.args.program.now) c.args.fuel _ _ _ _ (returns-in-Err-clause-evaluated g c)
+
+pub returns-in-Some-clause-evaluated : goal.returns-in-Some-clause-evaluated
+returns-in-Some-clause-evaluated g c = stage_stopped c.units.invariant.stage c.finish-ending.result _ c.finish-ending.ensures.same c.finish-ending.ensures.written
+
+pub returns-in-Some-clause-never_stuck : goal.returns-in-Some-clause-never_stuck
+returns-in-Some-clause-never_stuck g c =
+    unstuck c.finish-ending.result (program_tree c.args.program.now) c.args.fuel _ _ _ _ (returns-in-Some-clause-evaluated g c)

@@ -4,8 +4,9 @@ use crate::files::{bytes_of, file_fault, print};
 use command_line::shown;
 use command_line::status::{MEMORY, REFUSED, SUCCESS, USAGE};
 use cyc_lexer::tokens;
-use cycc_driver::{CompileFault, Place, front};
-use reasons::{push_marked, shown_fault};
+use cycc_driver::{CompileFault, front};
+use fault_words::push_marked;
+use reasons::shown_fault;
 use std::alloc::{AllocError, Global};
 use std::io::Write;
 use warnings::{Placed, warnings_of, with_places};
@@ -141,11 +142,7 @@ fn push_warning(
     lines.extend_from_slice(warning.words.as_bytes())?;
     lines.push(b'\n')?;
     if asked.shows_why {
-        let place = Place {
-            line: 1,
-            column: placed.mark,
-        };
-        push_marked(lines, placed.around, place)?;
+        push_marked(lines, placed.around, 1, placed.mark)?;
         lines.extend_from_slice(warning.cure.as_bytes())?;
         lines.push(b'\n')?;
     }

@@ -2,8 +2,8 @@
 use Rattle.std.specs.Prelude.{ℕ, List, [], ◌∷◌, map, Option, Some, None, Result, Ok, Err, true, false, codes, if◌then◌else◌}
 use Rattle.editor_protocol.specs.declared.messages.Code.{Code}
 use Rattle.editor_protocol.specs.declared.messages.Code.TheVariants.{InvalidRequest, MethodNotFound, ServerNotInitialized}
-use Rattle.language_server.specs.declared.methods.Method.{Method}
-use Rattle.language_server.specs.declared.methods.Method.TheVariants.{Initialize, Shutdown}
+use Rattle.editor_features.specs.declared.method.Method.{Method}
+use Rattle.editor_features.specs.declared.method.Method.TheVariants.{Initialize, Shutdown}
 use Rattle.language_server.specs.declared.methods.TheConstants.{METHODS}
 use Rattle.language_server.specs.declared.methods.Phase.{Phase}
 use Rattle.language_server.specs.declared.methods.Phase.TheVariants.{Fresh, Ready, Shut, Ended}

@@ -8,7 +8,7 @@ use Rattle.editor_protocol.specs.declared.messages.Outcome.{Outcome}
 use Rattle.editor_protocol.specs.declared.messages.Outcome.TheVariants.{Refused}
 use Rattle.editor_protocol.specs.declared.messages.Message.{Message}
 use Rattle.editor_protocol.specs.declared.messages.Message.TheVariants.{Response, Notification}
-use Rattle.language_server.specs.declared.methods.Method.{Method}
+use Rattle.editor_features.specs.declared.method.Method.{Method}
 use Rattle.language_server.specs.declared.methods.Phase.{Phase}
 use Rattle.language_server.specs.declared.methods.Phase.TheVariants.{Fresh, Ready, Shut, Ended}
 use Rattle.language_server.specs.declared.server.Server.{Server}

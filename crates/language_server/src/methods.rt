@@ -4,24 +4,8 @@ ghost use Rattle.std.specs.Prelude.{◌≡◌, map};
 ghost use Rattle.language_server.specs.Methods.{find_method, methods, admission, phase_behind, ended, phase_told};
 ghost use Rattle.cyc_lexer.specs.Reading.{same};
 
+use editor_features::Method;
 use editor_protocol::Code;
-
-/// The requests that are known.
-#[derive(Clone, Copy)]
-pub enum Method {
-    Initialize,
-    Shutdown,
-    Symbols,
-    Folds,
-    Layout,
-    Hover,
-    Definition,
-    References,
-    Rename,
-    Completion,
-    Actions,
-    Signature,
-}
 
 /// The requests, by their names.
 static METHODS: [(Method, &[u8]); 12] = [

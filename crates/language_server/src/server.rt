@@ -3,17 +3,13 @@
 ghost use Rattle.std.specs.Prelude.{◌≡◌, [], ◌∷◌, All, IfOk, OnErr};
 ghost use Rattle.language_server.specs.Messages.{IsNotification};
 
-use crate::changes::changed;
-use crate::documents::{
-    Document, File, copies, document_of, is_later, uri_in, version_in, with_text, without_file,
-    without_text,
+use crate::methods::{Phase, admission, method_of, phase_behind, phase_told};
+use crate::notes::notifications;
+use editor_features::{
+    Document, File, Method, Texts, changed, check_due, closed, copies, document_of, faultless,
+    found_in, is_later, key_of, make_due, relates_behind, uri_in, version_in, with_text,
+    without_file, without_text,
 };
-use crate::faults::faultless;
-use crate::keys::key_of;
-use crate::methods::{Method, Phase, admission, method_of, phase_behind, phase_told};
-use crate::requests::{found_in, relates_behind};
-use crate::sources::Texts;
-use crate::told::{check_due, closed, make_due, notifications};
 use editor_protocol::{Code, Incoming, Message, Outcome, read};
 use serde_json::Value;
 use std::alloc::{AllocError, Global};

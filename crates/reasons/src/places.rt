@@ -1,6 +1,5 @@
 // Positions in a text, as offsets.
 
-use cyc_tree::Item;
 use cycc_driver::Place;
 
 /// The offset of a position in a text; the text's end for one behind it.
@@ -21,17 +20,6 @@ pub(crate) fn offset_of(text: &[u8], place: Place) -> u32 {
         at = at.saturating_add(1);
     }
     at
-}
-
-/// The index of the last item that begins at or before an offset.
-pub(crate) fn item_at(items: &[Item], at: u32) -> Option<usize> {
-    let mut found = None;
-    for (index, item) in items.iter().enumerate() {
-        if item.place() <= at {
-            found = Some(index);
-        }
-    }
-    found
 }
 
 /// Positions of offsets that ascend: each is found from the one before it.

@@ -1,10 +1,9 @@
 // What is shown of a fault behind its line.
 
-use crate::marked::push_marked;
 use crate::told::reason_of;
-use crate::words::Reason;
 use cycc_driver::CompileFault;
 use explanations::explain;
+use fault_words::{Reason, push_marked};
 use std::alloc::{AllocError, Global};
 
 /// Appends what a fault means, in one sentence.
@@ -25,7 +24,7 @@ pub fn push_shown(
     reason: &Reason,
 ) -> Result<(), AllocError> {
     if let Some(place) = fault.place() {
-        push_marked(shown, text, place)?;
+        push_marked(shown, text, place.line, place.column)?;
         push_meaning(shown, fault.name())?;
         shown.extend_from_slice(&reason.words)?;
     }

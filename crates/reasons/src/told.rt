@@ -1,14 +1,6 @@
 // What is said of a fault.
 
-use crate::cures::Cure;
-use crate::grammar::say_grammar;
-use crate::heads::say_head;
-use crate::lexical::say_bytes;
-use crate::near_names::say_name;
-use crate::places::{item_at, offset_of};
-use crate::used::Told;
-use crate::walk::walk_to;
-use crate::words::{Reason, Words};
+use crate::places::offset_of;
 use check_heads::{Names, read_head};
 use check_structs::judged_tags;
 use check_tables::{Structs, program_names};
@@ -16,6 +8,9 @@ use cyc_lexer::{Token, tokens};
 use cyc_parser::parse;
 use cyc_tree::{Function, Item};
 use cycc_driver::CompileFault;
+use fault_words::{
+    Cure, Reason, Told, Words, item_at, say_bytes, say_grammar, say_head, say_name, walk_to,
+};
 use std::alloc::{AllocError, Global};
 use token_reasons::{given_away, given_later, lent};
 

@@ -1,7 +1,5 @@
 // Faults of flow that only follow from other ones.
 
-use crate::places::item_at;
-use crate::walk::walk_to;
 use check_faults::{Fault, FaultKind};
 use check_heads::{Names, read_head};
 use check_scopes::Named;
@@ -9,6 +7,7 @@ use check_structs::judged_tags;
 use check_tables::{Structs, program_names};
 use cyc_lexer::Token;
 use cyc_tree::{Function, Item, Program};
+use fault_words::{item_at, walk_to};
 use std::alloc::{AllocError, Global};
 use token_reasons::{index_at, taken_at};
 

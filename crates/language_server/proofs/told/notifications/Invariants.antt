@@ -1,6 +1,0 @@
-use Rattle.std.specs.List.{All}
-use Rattle.language_server.specs.Messages.{IsNotification}
-use Rattle.language_server.proofs.told.notifications.Given as goal
-
-abbrev pub invariant-loop-params : goal.invariant-loop-params
-invariant-loop-params l = All IsNotification l.messages.items

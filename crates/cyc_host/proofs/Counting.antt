@@ -1,10 +1,11 @@
 -- How often the words of the code were executed.
-use Rattle.std.proofs.Common.{◌≡◌, ℕ, zero, suc, ◌+◌, ◌-◌, ◌/◌, ◌<◌, ◌≤◌, List, [], ◌∷◌, ◌++◌, length, nat_le, replicate, get_or, add-one, refl, sym, ap, ◌∙◌, arith}
+use Rattle.std.proofs.Common.{◌≡◌, ℕ, zero, suc, ◌+◌, ◌-◌, ◌/◌, ◌<◌, ◌≤◌, List, [], ◌∷◌, ◌++◌, length, nat_le, replicate, get_or, add-one, refl, sym, ap, ◌∙◌}
+use Rattle.std.proofs.Common.{arith}
 use Rattle.std.proofs.Math.ListN.{set}
 use Rattle.cyc_words.specs.Devices.{one_more}
 use Rattle.rv32_machine.specs.State.{code_base}
-use Rattle.cyc_host.specs.declared.watch.Count.{Count}
-use Rattle.cyc_host.specs.Watched.{executed_at, executed_in, executed_once}
+use Rattle.cyc_host.specs.declared.counts.Count.{Count}
+use Rattle.cyc_host.specs.Watched.{counted_once, executed_at, executed_in}
 
 -- another one in its place that was executed as often
 pub set_same : (cs : List Count) (n : ℕ) (c d : Count) → n < length cs → c.executed ≡ (get_or cs n d).executed → executed_in (set cs n c) ≡ executed_in cs
@@ -13,18 +14,18 @@ set_same (b ∷ cs) zero c d less same = ap (λ e. e ∷ executed_in cs) same
 set_same (b ∷ cs) (suc n) c d less same = ap (λ es. b.executed ∷ es) (set_same cs n c d (omega (arith, less)) same)
 
 once_set : (cs : List Count) (n : ℕ) (c d : Count) → n < length cs → c.executed ≡ one_more (get_or cs n d).executed
-    → executed_in (set cs n c) ≡ executed_once (executed_in cs) n
+    → executed_in (set cs n c) ≡ counted_once (executed_in cs) n
 once_set [] n c d less more = absurd (omega (arith, less))
 once_set (b ∷ cs) zero c d less more = ap (λ e. e ∷ executed_in cs) more
 once_set (b ∷ cs) (suc n) c d less more = ap (λ es. b.executed ∷ es) (once_set cs n c d (omega (arith, less)) more)
 
-once_beyond : (cs : List Count) (n : ℕ) → length cs ≤ n → executed_in cs ≡ executed_once (executed_in cs) n
+once_beyond : (cs : List Count) (n : ℕ) → length cs ≤ n → executed_in cs ≡ counted_once (executed_in cs) n
 once_beyond [] n more = refl
 once_beyond (b ∷ cs) zero more = absurd (omega (arith, more))
 once_beyond (b ∷ cs) (suc n) more = ap (λ es. b.executed ∷ es) (once_beyond cs n (omega (arith, more)))
 
 -- by the address of the word
-pub at_word : (at : ℕ) (counts : List ℕ) → code_base ≤ at → executed_at at counts ≡ executed_once counts ((at - code_base) / 4)
+pub at_word : (at : ℕ) (counts : List ℕ) → code_base ≤ at → executed_at at counts ≡ counted_once counts ((at - code_base) / 4)
 at_word at counts from = grind (arith, nat_le)
 
 -- with one more of the word at an address

@@ -7,4 +7,7 @@ pub mod Unstepped
 pub mod OtherEndings
 pub mod Watching
 pub mod Counting
+pub mod Acting
+pub mod Calling
+pub mod Samples
 pub mod Quietly

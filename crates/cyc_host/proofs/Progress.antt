@@ -1,5 +1,6 @@
 -- How far a run has come: what it took, what it wrote and what it has gathered.
-use Rattle.std.proofs.Common.{◌≡◌, ℕ, ◌+◌, ◌<◌, ◌≤◌, ◌⊎◌, Bool, true, false, List, [], ◌∷◌, ◌++◌, Option, Some, None, IfSome, Result, Ok, Err, refl, sym, ap, ◌∙◌, subst, inl, inr, append_assoc, append-nil, arith}
+use Rattle.std.proofs.Common.{◌≡◌, ℕ, ◌+◌, ◌<◌, ◌≤◌, ◌⊎◌, Bool, true, false, List, [], ◌∷◌, ◌++◌, Option, Some, None, IfSome, Result, Ok, Err, refl, sym, ap}
+use Rattle.std.proofs.Common.{◌∙◌, subst, inl, inr, append_assoc, append-nil, arith}
 use Rattle.std.specs.List.{Contains}
 use Rattle.std.specs.Io.KnownBytes.{Appends, Consumes, Keeps, IsAtEnd}
 use Rattle.std.proofs.KnownBytes.{Appends-nil, Appends-trans, Consumes-nil, Consumes-trans, Consumes-kept}
@@ -15,7 +16,7 @@ use Rattle.rv32_machine.specs.Run.{Run, answer_from, answers_after, after_call, 
 use Rattle.cyc_host.specs.Transfers.{WritesBut, Answers}
 use Rattle.rv32_machine.specs.Shortage.{IsShortage, asked_at}
 use Rattle.cyc_host.specs.Hosted.{IsHosted, IsExact, EndsAs, Written}
-use Rattle.cyc_host.specs.Watched.{Tally, AreBegun, IsWatched, taken_in, visited}
+use Rattle.cyc_host.specs.Watched.{Tally, Known, AreBegun, AreTakenIn, IsWatched, visited}
 use Rattle.cyc_host.specs.declared.ending.Ending.{Ending}
 use Rattle.cyc_host.specs.declared.ending.Ending.TheVariants as ending
 use Rattle.cyc_host.proofs.Written.{written_then}
@@ -91,7 +92,8 @@ module _ {n : Areas} {old : State} {reader_old writer_old : Option (List ℕ)} w
         → (more : List ℕ) (others : ℕ → Answer) → (is_over ≡ true → more ≡ [])
         → run_steps n (count + 1) (from old (p.input ++ more) (stream (p.answers ++ answer ∷ []) others)) ≡ next more others
     free answer next made more others end =
-        one_more_step n count _ _ (ap (λ f. run_steps n count (from old (p.input ++ more) f)) (stream_more p.answers answer others) ∙ p.ran more (first answer others) end)
+        one_more_step n count _ _ (ap (λ f. run_steps n count (from old (p.input ++ more) f)) (stream_more p.answers answer others)
+        ∙ p.ran more (first answer others) end)
         ∙ made more others
 
     -- the same of a step's being exact, where it isn't free
@@ -116,7 +118,8 @@ module _ {n : Areas} {old : State} {reader_old writer_old : Option (List ℕ)} w
     visits_not_free : (more : List ℕ) (others : ℕ → Answer) → (is_over ≡ true → more ≡ [])
         → visited n (count + 1) (from old (p.input ++ more) (stream p.answers others)) ≡ states ++ now ∷ []
     visits_not_free more others end =
-        one_more_visited n count _ ∙ ap (λ (l : List State). l ++ (run_steps n count (from old (p.input ++ more) (stream p.answers others))).state ∷ []) (p.visits more others end)
+        one_more_visited n count _ ∙ ap (λ (l : List State). l ++ (run_steps n count (from old (p.input ++ more) (stream p.answers others))).state ∷ [])
+        (p.visits more others end)
         ∙ ap (λ (x : Run). states ++ x.state ∷ []) (p.ran more others end)
 
     -- and where it is
@@ -213,7 +216,8 @@ module _ {n : Areas} {old : State} {reader_old writer_old : Option (List ℕ)} w
         consumed = p.consumed;
         bytes = p.bytes;
         appended = p.appended;
-        shows = output_append p.events (event_of asked p.ledger ∷ []) ∙ ap (λ l. output p.events ++ l) (event_shows asked) ∙ append-nil (output p.events) ∙ p.shows;
+        shows = output_append p.events (event_of asked p.ledger ∷ []) ∙ ap (λ l. output p.events ++ l) (event_shows asked)
+            ∙ append-nil (output p.events) ∙ p.shows;
         told = λ has. told_before p.events _ _ p.told (λ e. absurd (no_end asked e)) has;
         at_end = p.at_end;
         ran = ran_by (is_granted asked) asked (Ok value) refl is;
@@ -241,7 +245,8 @@ module _ {n : Areas} {old : State} {reader_old writer_old : Option (List ℕ)} w
         visits = visits_by (is_granted asked);
       }
 
-      called_by : (told : Told) → (step n answer now).told ≡ told → Progress n old (count + 1) is_over new reader_old reader writer_old writer gathered (states ++ now ∷ [])
+      called_by : (told : Told) → (step n answer now).told ≡ told
+          → Progress n old (count + 1) is_over new reader_old reader writer_old writer gathered (states ++ now ∷ [])
       called_by Silent is = silent is
       called_by (Says asked (Ok value)) is = carried_out asked value is
       called_by (Says asked (Err why)) is = turned_down asked why is
@@ -402,29 +407,31 @@ module _ {n : Areas} {old : State} {reader_old writer_old : Option (List ℕ)} w
     -- and a tally that took in the states at which its instructions began
     pub watched : (why : Ending) (limit : ℕ) (final : State) (writer_next : Option (List ℕ)) (others : ℕ → Answer) (within : count ≤ limit)
         → (rest : Written why writer writer_next gathered) (ends : EndsAs why n limit count (run_now [] others) final) (before after : Tally)
-        → AreBegun why count count → after ≡ taken_in before states
-        → IsWatched why n limit old final reader_old reader writer_old writer_next before after
+        {known_before known_after : Known}
+        → AreBegun why count count → AreTakenIn states before after known_before known_after
+        → IsWatched why n limit old final reader_old reader writer_old writer_next before after known_before known_after
     unfolding hosted
-    watched why limit final writer_next others within rest ends before after counted is = record {
+    watched why limit final writer_next others within rest ends before after {known_before} {known_after} counted is = record {
       hosted = hosted why limit final writer_next others within rest ends;
       begun = count;
       counted = counted;
-      tallied = is ∙ ap (taken_in before) (sym (p.visits [] others (λ _. refl))
-          ∙ ap (λ l. visited n count (from old l (stream p.answers others))) (append-nil p.input));
+      taken = subst (λ (l : List State). AreTakenIn l before after known_before known_after) (sym (p.visits [] others (λ _. refl))
+          ∙ ap (λ l. visited n count (from old l (stream p.answers others))) (append-nil p.input)) is;
     }
 
     -- also where one more began
     pub watched_further : (why : Ending) (limit : ℕ) (final : State) (writer_next : Option (List ℕ)) (others : ℕ → Answer) (within : count ≤ limit)
         → (rest : Written why writer writer_next gathered) (ends : EndsAs why n limit count (run_now [] others) final) (before after : Tally)
-        → AreBegun why count (count + 1) → after ≡ taken_in before (states ++ now ∷ [])
-        → IsWatched why n limit old final reader_old reader writer_old writer_next before after
+        {known_before known_after : Known}
+        → AreBegun why count (count + 1) → AreTakenIn (states ++ now ∷ []) before after known_before known_after
+        → IsWatched why n limit old final reader_old reader writer_old writer_next before after known_before known_after
     unfolding hosted
-    watched_further why limit final writer_next others within rest ends before after counted is = record {
+    watched_further why limit final writer_next others within rest ends before after {known_before} {known_after} counted is = record {
       hosted = hosted why limit final writer_next others within rest ends;
       begun = count + 1;
       counted = counted;
-      tallied = is ∙ ap (taken_in before) (sym (visits_not_free [] others (λ _. refl))
-          ∙ ap (λ l. visited n (count + 1) (from old l (stream p.answers others))) (append-nil p.input));
+      taken = subst (λ (l : List State). AreTakenIn l before after known_before known_after) (sym (visits_not_free [] others (λ _. refl))
+          ∙ ap (λ l. visited n (count + 1) (from old l (stream p.answers others))) (append-nil p.input)) is;
     }
 
 -- an ending, or a failed write in its place, with the machine at its last state
@@ -439,7 +446,8 @@ all_begun why result count (inl same) all = subst (λ (k : Ending). AreBegun k c
 all_begun why result count (inr failed) all = subst (λ (k : Ending). AreBegun k count count) (sym failed) (inl refl)
 
 -- the same with what is gathered written in another way
-pub gathered_as : {n : Areas} {old now : State} {count : ℕ} {is_over : Bool} {reader_old reader writer_old writer : Option (List ℕ)} {one other : List ℕ} {states : List State}
+pub gathered_as : {n : Areas} {old now : State} {count : ℕ} {is_over : Bool} {reader_old reader writer_old writer : Option (List ℕ)} {one other : List ℕ}
+    {states : List State}
     → one ≡ other → Progress n old count is_over now reader_old reader writer_old writer one states
     → Progress n old count is_over now reader_old reader writer_old writer other states
 gathered_as {n} {old} {now} {count} {is_over} {reader_old} {reader} {writer_old} {writer} {one} {other} {states} same p =

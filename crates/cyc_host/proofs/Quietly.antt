@@ -19,7 +19,8 @@ one_quiet n s t q = record {
 }
 
 -- A run goes on by so many of them. Where they are none, no instruction began.
-pub went_quietly : {n : Areas} {old now : State} {count : ℕ} {is_over : Bool} {reader_old reader writer_old writer : Option (List ℕ)} {gathered : List ℕ} {states : List State}
+pub went_quietly : {n : Areas} {old now : State} {count : ℕ} {is_over : Bool} {reader_old reader writer_old writer : Option (List ℕ)} {gathered : List ℕ}
+    {states : List State}
     → Progress n old count is_over now reader_old reader writer_old writer gathered states → (k : ℕ) (new : State) → AreQuietSteps n k now new
     → (further : List State) × ((k ≡ 0 → further ≡ states) × Progress n old (count + k) is_over new reader_old reader writer_old writer gathered further)
 went_quietly {n} {old} {now} {count} {is_over} {reader_old} {reader} {writer_old} {writer} {gathered} {states} p zero new same =

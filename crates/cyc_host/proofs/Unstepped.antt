@@ -25,7 +25,8 @@ module _ (n : Areas) (old : State) where
     no_steps = omega (arith, x.within)
 
     pub machine_stays : new ≡ old
-    machine_stays = stays why (from old x.input x.answers) new (subst (λ (k : ℕ). EndsAs why n 0 k (run_steps n k (from old x.input x.answers)) new) no_steps x.ends)
+    machine_stays = stays why (from old x.input x.answers) new
+        (subst (λ (k : ℕ). EndsAs why n 0 k (run_steps n k (from old x.input x.answers)) new) no_steps x.ends)
 
     pub nothing_is_read : Consumes reader_old reader_new []
     nothing_is_read = subst (Consumes reader_old reader_new) (ap (λ k. (run_steps n k (from old x.input x.answers)).input) (sym no_steps) ∙ x.taken) x.given

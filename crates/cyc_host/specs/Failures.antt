@@ -1,4 +1,4 @@
--- How many calls of a device have failed, after a transfer and after a run.
+-- Believed: how many calls of a device have failed, after a transfer and after a run.
 use Rattle.std.specs.Prelude.{ℕ, Result, Ok, Err}
 use Rattle.cyc_words.specs.Devices.{one_more}
 use Rattle.cyc_host.specs.declared.ending.Ending.{Ending}

@@ -1,4 +1,4 @@
--- What a run between a reader and a writer does: the machine's run on the bytes that the reader gave, whose output goes to the writer.
+-- Believed: what a run between a reader and a writer does: the machine's run on the bytes that the reader gave, whose output goes to the writer.
 use Rattle.std.specs.Prelude.{◌≡◌, ℕ, ◌<◌, ◌≤◌, ◌⊎◌, List, [], Option, None, take, Contains}
 use Rattle.std.specs.Io.KnownBytes.{Appends, Consumes, IsAtEnd}
 use Rattle.cyc_words.specs.Events.{AreBytes, output, ByteRead}

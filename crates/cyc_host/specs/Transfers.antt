@@ -1,4 +1,4 @@
--- What goes to a writer and what comes from a reader.
+-- View of code: what goes to a writer and what comes from a reader.
 use Rattle.std.specs.Prelude.{◌≡◌, ℕ, ◌++◌, ◌∷◌, ◌⊎◌, Bool, true, false, List, [], Option, Some, None, take}
 use Rattle.std.specs.Io.KnownBytes.{Appends, Consumes, IsAtEnd}
 

@@ -1,9 +1,9 @@
 // How far a run goes ahead before a step that it makes by itself.
 
-ghost use Rattle.std.specs.Prelude.{◌≡◌, ◌≤◌, ℕ, Bool, [], false, true};
+ghost use Rattle.std.specs.Prelude.{◌≡◌, ◌≤◌, ◌∷◌, ℕ, Bool, [], false, true};
 ghost use Rattle.rv32_machine.specs.Arrays.{areas_of, arrays, state_of};
 ghost use Rattle.rv32_machine.specs.Quiet.{AreQuietSteps};
-ghost use Rattle.cyc_host.specs.Watched.{Tally, take_in};
+ghost use Rattle.cyc_host.specs.Watched.{AreTakenIn, Known, Tally, no_calls, nothing};
 
 use cyc_arena::BlockStore;
 use rv32_machine::Machine;
@@ -14,14 +14,16 @@ pub trait Pace {
     ghost sees: { Self → Bool };
     /// What it took in so far.
     ghost tally: { Self → Tally };
+    /// What it knows of the active calls.
+    ghost known: { Self → Known };
     /// Makes up to `limit` steps that show nothing and ask the store for nothing, and returns how many.
     fn advance<S: BlockStore>(&mut self, machine: &mut Machine<S>, limit: u64) -> u64
         ensures quiet { let seen = arrays S.holdings S.byte_at in
             AreQuietSteps (areas_of (seen machine.old)) result (state_of (seen machine.old)) (state_of (seen machine.new)) }
         ensures few { result ≤ limit }
         ensures areas { let seen = arrays S.holdings S.byte_at in areas_of (seen machine.new) ≡ areas_of (seen machine.old) }
-        ensures taken { let seen = arrays S.holdings S.byte_at in sees self.old ≡ true →
-            (result ≡ 0) × ((sees self.new ≡ true) × (tally self.new ≡ take_in (tally self.old) (state_of (seen machine.old)))) };
+        ensures taken { let seen = arrays S.holdings S.byte_at in sees self.old ≡ true → (result ≡ 0) × ((sees self.new ≡ true) ×
+            AreTakenIn (state_of (seen machine.old) ∷ []) (tally self.old) (tally self.new) (known self.old) (known self.new)) };
 }
 
 /// As many steps as there are, in one call of the machine.
@@ -31,7 +33,9 @@ pub struct Gliding;
 impl Pace for Gliding {
     ghost sees = { λ _. false };
 
-    ghost tally = { λ _. record { steps = 0; at = 0; executed = [] } };
+    ghost tally = { λ _. nothing [] };
+
+    ghost known = { λ _. no_calls };
 
     fn advance<S: BlockStore>(&mut self, machine: &mut Machine<S>, limit: u64) -> u64 {
         machine.glide(limit)

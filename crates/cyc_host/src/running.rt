@@ -6,7 +6,7 @@ ghost use Rattle.rv32_machine.specs.State.{Runs};
 ghost use Rattle.rv32_machine.specs.Served.{lacks};
 ghost use Rattle.cyc_host.specs.Failures.{reads_failed, writes_failed};
 ghost use Rattle.cyc_host.specs.Hosted.{IsHosted, Written};
-ghost use Rattle.cyc_host.specs.Watched.{IsWatched, tally_of};
+ghost use Rattle.cyc_host.specs.Watched.{IsWatched, known_of, tally_of};
 
 use crate::ending::Ending;
 use crate::pace::{Gliding, Pace};
@@ -54,7 +54,8 @@ fn run_at<P: Pace, S: BlockStore, R: Input, W: Output>(
     // a pace that sees takes in each instruction that begins
     ensures watched { let seen = arrays S.holdings S.byte_at in P.sees pace.old ≡ true → (P.sees pace.new ≡ true) ×
         IsWatched result (areas_of (seen machine.old)) steps (state_of (seen machine.old)) (state_of (seen machine.new))
-        (R.remaining reader.old) (R.remaining reader.new) (W.contents writer.old) (W.contents writer.new) (P.tally pace.old) (P.tally pace.new) }
+        (R.remaining reader.old) (R.remaining reader.new) (W.contents writer.old) (W.contents writer.new) (P.tally pace.old) (P.tally pace.new)
+        (P.known pace.old) (P.known pace.new) }
 {
     let mut gathered = Gathered::new();
     let mut is_over = false;
@@ -142,11 +143,11 @@ pub fn run_watched<S: BlockStore, R: Input, W: Output>(
     // each device's fault comes where just one call of that device failed, and any other ending where none did
     ensures reads { R.fault_count reader.new ≡ reads_failed result (R.fault_count reader.old) }
     ensures writes { W.fault_count writer.new ≡ writes_failed result (W.fault_count writer.old) }
-    // a watch that sees counts the instructions that begin, and knows the address of the last of them
+    // a watch that sees counts the instructions that begin, the calls and the requests, and knows the address of the last of them and the active calls
     ensures watched { let seen = arrays S.holdings S.byte_at in watch.old.sees ≡ true → (watch.new.sees ≡ true) ×
         IsWatched result (areas_of (seen machine.old)) steps (state_of (seen machine.old)) (state_of (seen machine.new))
         (R.remaining reader.old) (R.remaining reader.new) (W.contents writer.old) (W.contents writer.new)
-        (tally_of watch.old) (tally_of watch.new) }
+        (tally_of watch.old) (tally_of watch.new) (known_of watch.old) (known_of watch.new) }
 {
     let ending = run_at(watch, machine, reader, writer, steps);
     watch.end(machine);

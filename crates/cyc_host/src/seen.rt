@@ -2,6 +2,8 @@
 
 ghost use Rattle.std.specs.Prelude.{◌≡◌};
 ghost use Rattle.rv32_machine.specs.Arrays.{arrays, state_of};
+ghost use Rattle.rv32_machine.specs.State.{register_of};
+ghost use Rattle.rv32_machine.specs.Step.{a7};
 
 use cyc_arena::BlockStore;
 use rv32_machine::{CODE_BASE, Machine};
@@ -27,7 +29,8 @@ pub struct Seen {
 impl Seen {
     /// What a machine with this code executes next.
     pub fn of<S: BlockStore>(machine: &Machine<S>, code: &[u8]) -> Seen
-        ensures { result.pc ≡ (state_of (arrays S.holdings S.byte_at machine.now)).pc }
+        ensures pc { result.pc ≡ (state_of (arrays S.holdings S.byte_at machine.now)).pc }
+        ensures number { result.number ≡ register_of (state_of (arrays S.holdings S.byte_at machine.now)) a7 }
     {
         let pc = machine.pc();
         Seen {

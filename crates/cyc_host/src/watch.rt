@@ -1,9 +1,13 @@
-// What is seen of a run: how often it executed each instruction, its active calls, and the pages of its arena.
+// What is seen of a run: how often it executed each instruction, its calls and requests, and the pages of its arena.
 
-ghost use Rattle.std.specs.Prelude.{◌≡◌, ◌/◌, IfOk, false, length, replicate, true};
+ghost use Rattle.std.specs.Prelude.{◌≡◌, ◌∷◌, [], ℕ, List, IfOk, false, get_or, true};
 ghost use Rattle.cyc_words.specs.Devices.{one_more};
-ghost use Rattle.cyc_host.specs.Watched.{AreSameCounts, IsSameTally, executed_at, executed_in, nothing, tally_of};
+ghost use Rattle.cyc_host.specs.Watched.{AreActive, HasSameCounts, IsSameTally, action_at, addresses, called_by, counted_once, entered_by, executed_at};
+ghost use Rattle.cyc_host.specs.Watched.{executed_in, known_of, left_behind, left_by, no_calls, nothing, requested_by, tally_of};
 
+use crate::actions::{Action, action_of, all_actions};
+use crate::calls::{Active, CallStack, PASSED};
+use crate::counts::{Count, add_executed, add_left, add_within, none_of, one_more_of};
 use crate::frames::Frames;
 use crate::pace::Pace;
 use crate::pages::Pages;
@@ -12,12 +16,6 @@ use crate::stacks::{Stack, Stacks};
 use cyc_arena::BlockStore;
 use rv32_machine::{CODE_BASE, Machine};
 use std::alloc::{AllocError, Global};
-
-/// The lowest twelve bits of `jal x1`, which calls.
-const CALL: u32 = 0x0ef;
-
-/// The word of `jalr x0, x1, 0`, which returns.
-const RETURN: u32 = 0x0000_8067;
 
 /// The word of ECALL.
 const REQUEST: u32 = 0x0000_0073;
@@ -37,127 +35,23 @@ const SAVE_BITS: u32 = 0x000f_f07f;
 /// How many numbers of requests there are.
 const REQUESTS: usize = 14;
 
-/// How many of the words that are passed to a callee are kept.
-const PASSED: usize = 16;
-
-/// Nothing seen of this number of words.
-#[tactic(auto, using(crate::proofs::Counting::none_more))]
-fn none_of(alloc: Global, words: usize) -> Result<Vec<Count>, AllocError>
-    ensures { IfOk result (λ counts. executed_in counts.items ≡ replicate words 0) }
+/// Counts a request of this number, if there is such.
+#[tactic(auto, using(crate::proofs::Acting::request_once, crate::proofs::Acting::no_request))]
+fn add_request(requests: &mut [u64], number: usize)
+    ensures { requests.new ≡ counted_once requests.old number }
 {
-    let mut counts = Vec::new(alloc);
-    'each: for _ in 0..words {
-        counts.push(Count {
-            executed: 0,
-            left: 0,
-            within: 0,
-        })?;
-    }
-    Ok(counts)
-}
-
-/// The number of the word at an address, if the code doesn't begin behind that.
-fn number_of(address: u32) -> Option<usize> {
-    let bytes = address.checked_sub(CODE_BASE)?;
-    Some(bytes as usize / 4)
-}
-
-/// Counts that another word than the next one came behind the one at an address.
-#[tactic(auto, using(crate::proofs::Counting::set_same))]
-fn add_left(counts: &mut [Count], address: u32)
-    ensures { AreSameCounts counts.old counts.new }
-{
-    if let Some(number) = number_of(address) {
-        if number < counts.len() {
-            counts[number] = counts[number].left_once();
-        }
+    if number < requests.len() {
+        requests[number] = one_more_of(requests[number]);
     }
 }
 
-/// Counts what a call at an address took.
-#[tactic(auto, using(crate::proofs::Counting::set_same))]
-fn add_within(counts: &mut [Count], address: u32, steps: u64)
-    ensures { AreSameCounts counts.old counts.new }
-{
-    if let Some(number) = number_of(address) {
-        if number < counts.len() {
-            counts[number] = counts[number].taking(steps);
-        }
+/// Keeps a word that is stored in the frame, if it may be one that is passed: these stand behind the frame's first word.
+fn save(passed: &mut [u32], word: u32, value: u32) {
+    let offset = ((word >> 25) << 5) | ((word >> 7) & 31);
+    let number = (offset / 4) as usize;
+    if let Some(slot) = passed.get_mut(number.wrapping_sub(1)) {
+        *slot = value;
     }
-}
-
-/// Counts that the word at an address is executed, if it is of the code.
-#[tactic(auto, using(crate::proofs::Counting::set_once, crate::proofs::Counting::none_once))]
-fn add_executed(counts: &mut [Count], address: u32)
-    ensures { executed_in counts.new ≡ executed_at address (executed_in counts.old) }
-{
-    if CODE_BASE <= address {
-        let number = ((address - CODE_BASE) / 4) as usize;
-        if number < counts.len() {
-            counts[number] = counts[number].executed_once();
-        }
-    }
-}
-
-/// What was seen of an instruction.
-#[derive(Clone, Copy)]
-pub struct Count {
-    /// How often it was executed.
-    pub executed: u64,
-    /// How often another one than the next word's came behind it.
-    pub left: u64,
-    /// How many instructions were executed in the calls that it made, if it is a call, and that have returned.
-    pub within: u64,
-}
-
-impl Count {
-    /// With one execution more.
-    fn executed_once(self) -> Count
-        ensures { result.executed ≡ one_more self.executed }
-    {
-        Count {
-            executed: self.executed.saturating_add(1),
-            left: self.left,
-            within: self.within,
-        }
-    }
-
-    /// With one more time that another word than the next one came behind.
-    fn left_once(self) -> Count
-        ensures { result.executed ≡ self.executed }
-    {
-        Count {
-            executed: self.executed,
-            left: self.left.saturating_add(1),
-            within: self.within,
-        }
-    }
-
-    /// With so many instructions more in calls that have returned.
-    fn taking(self, steps: u64) -> Count
-        ensures { result.executed ≡ self.executed }
-    {
-        Count {
-            executed: self.executed,
-            left: self.left,
-            within: self.within.saturating_add(steps),
-        }
-    }
-}
-
-/// An active call.
-#[derive(Clone, Copy)]
-pub struct Active {
-    /// The address of the call.
-    pub at: u32,
-    /// The stack pointer at the call: where the caller's frame begins.
-    pub stack: u32,
-    /// How many instructions were executed up to the call, with itself.
-    pub since: u64,
-    /// What the registers in which the caller's locals live held: x8, x9 and x18 to x27.
-    pub homes: [u32; HOMES],
-    /// The first words that the caller passed, in the order of the parameters.
-    pub passed: [u32; PASSED],
 }
 
 /// What was seen of a run. Each count stays at the greatest u64.
@@ -165,14 +59,13 @@ pub struct Active {
 pub struct Watch {
     sees: bool,
     code: Vec<u8>,
+    actions: Vec<Action>,
     steps: u64,
-    calls: u64,
     requests: [u64; REQUESTS],
     highest: u32,
     lowest: u32,
     counts: Vec<Count>,
-    active: Vec<Active>,
-    unkept: u64,
+    calls: CallStack,
     stacks: Stacks,
     pages: Pages,
     last: Seen,
@@ -186,19 +79,19 @@ impl Watch {
     /// One that sees nothing, of a run that isn't watched.
     pub fn idle(alloc: Global) -> Watch
         ensures sees { result.sees ≡ false }
-        ensures nothing { tally_of result ≡ nothing 0 }
+        ensures nothing { tally_of result ≡ nothing [] }
+        ensures active { known_of result ≡ no_calls }
     {
         Watch {
             sees: false,
             code: Vec::new(alloc),
+            actions: Vec::new(alloc),
             steps: 0,
-            calls: 0,
             requests: [0; REQUESTS],
             highest: 0,
             lowest: u32::MAX,
             counts: Vec::new(alloc),
-            active: Vec::new(alloc),
-            unkept: 0,
+            calls: CallStack::none(alloc),
             stacks: Stacks::none(alloc),
             pages: Pages::none(alloc),
             last: Seen {
@@ -222,13 +115,15 @@ impl Watch {
     /// Nothing of a run of this code was seen.
     pub fn new(alloc: Global, code: &[u8]) -> Result<Watch, AllocError>
         ensures sees { IfOk result (λ watch. watch.sees ≡ true) }
-        ensures nothing { IfOk result (λ watch. tally_of watch ≡ nothing (length code.now / 4)) }
+        ensures nothing { IfOk result (λ watch. tally_of watch ≡ nothing code.now) }
+        ensures active { IfOk result (λ watch. known_of watch ≡ no_calls) }
     {
         let mut watch = Watch::idle(alloc);
         watch.sees = true;
         watch.pages = Pages::new(alloc)?;
         watch.stacks = Stacks::new(alloc)?;
         watch.code.extend_from_slice(code)?;
+        watch.actions = all_actions(alloc, code)?;
         watch.counts = none_of(alloc, code.len() / 4)?;
         Ok(watch)
     }
@@ -246,12 +141,16 @@ impl Watch {
     }
 
     /// How many calls were made.
-    pub fn calls(&self) -> u64 {
-        self.calls
+    pub fn calls(&self) -> u64
+        ensures { result ≡ (tally_of self.now).called }
+    {
+        self.calls.made()
     }
 
     /// How many requests of this number were made; 0 of another number than 0 to 13.
-    pub fn requests(&self, number: u32) -> u64 {
+    pub fn requests(&self, number: u32) -> u64
+        ensures { result ≡ get_or (tally_of self.now).requests number 0 }
+    {
         match self.requests.get(number as usize) {
             Some(count) => *count,
             None => 0,
@@ -271,13 +170,17 @@ impl Watch {
     }
 
     /// The active calls, the innermost last. `unkept` more stand inside them.
-    pub fn active(&self) -> &[Active] {
-        &self.active
+    pub fn active(&self) -> &[Active]
+        ensures { addresses result.now ≡ (known_of self.now).kept }
+    {
+        self.calls.active()
     }
 
     /// How many of the active calls have no address in `active`, since no host memory was left.
-    pub fn unkept(&self) -> u64 {
-        self.unkept
+    pub fn unkept(&self) -> u64
+        ensures { result ≡ (known_of self.now).unkept }
+    {
+        self.calls.unkept()
     }
 
     /// The stacks of calls, each behind the one around its innermost call, which has its number in this order. Where no host memory was left for one,
@@ -327,8 +230,11 @@ impl Watch {
     /// Counts an instruction, and that it isn't the next word of the one before it, if so.
     fn count(&mut self, pc: u32)
         ensures sees { self.new.sees ≡ self.old.sees }
+        ensures actions { self.new.actions ≡ self.old.actions }
         ensures steps { self.new.steps ≡ self.old.steps }
         ensures executed { executed_in self.new.counts.items ≡ executed_at pc (executed_in self.old.counts.items) }
+        ensures calls { self.new.calls ≡ self.old.calls }
+        ensures requests { self.new.requests ≡ self.old.requests }
     {
         let before = self.last.pc;
         if self.steps > 1 && pc != before.wrapping_add(4) {
@@ -345,11 +251,12 @@ impl Watch {
         add_within(&mut self.counts, call.at, steps);
     }
 
-    /// Enters a call.
+    /// Enters the call at an address.
     fn enter(&mut self, at: u32, homes: [u32; HOMES])
-        ensures same { IsSameTally self.old self.new }
+        ensures same { HasSameCounts self.old self.new }
+        ensures made { self.new.calls.made ≡ one_more self.old.calls.made }
+        ensures active { (calls : List ℕ) → AreActive (known_of self.old) calls → AreActive (known_of self.new) (at ∷ calls) }
     {
-        self.calls = self.calls.saturating_add(1);
         self.stacks.enter(at);
         let call = Active {
             at,
@@ -358,49 +265,31 @@ impl Watch {
             homes,
             passed: self.passed,
         };
-        if self.unkept > 0 || self.active.push(call).is_err() {
-            self.unkept = self.unkept.saturating_add(1);
-        }
-    }
-
-    /// Keeps a word that is stored in the frame, if it may be one that is passed: these stand behind the frame's first word.
-    fn save(&mut self, word: u32, value: u32)
-        ensures same { IsSameTally self.old self.new }
-    {
-        let offset = ((word >> 25) << 5) | ((word >> 7) & 31);
-        let number = (offset / 4) as usize;
-        if let Some(slot) = self.passed.get_mut(number.wrapping_sub(1)) {
-            *slot = value;
-        }
+        self.calls.enter(call);
     }
 
     /// Leaves the innermost active call.
     fn leave(&mut self)
-        ensures same { IsSameTally self.old self.new }
+        ensures same { HasSameCounts self.old self.new }
+        ensures made { self.new.calls.made ≡ self.old.calls.made }
+        ensures active { (calls : List ℕ) → AreActive (known_of self.old) calls → AreActive (known_of self.new) (left_behind calls) }
     {
         self.stacks.leave();
-        if self.unkept > 0 {
-            self.unkept -= 1;
-        } else if let Some(call) = self.active.pop() {
+        if let Some(call) = self.calls.leave() {
             self.took(call);
         }
     }
 
-    /// Counts a request.
-    fn request(&mut self, number: u32)
-        ensures same { IsSameTally self.old self.new }
-    {
-        if let Some(count) = self.requests.get_mut(number as usize) {
-            *count = count.saturating_add(1);
-        }
-    }
-
-    /// Takes in an instruction that is to be executed.
-    fn see(&mut self, seen: Seen)
+    /// Takes in an instruction that is to be executed, if it is no call.
+    fn see(&mut self, seen: Seen, action: Action)
         ensures sees { self.new.sees ≡ self.old.sees }
+        ensures actions { self.new.actions ≡ self.old.actions }
         ensures steps { self.new.steps ≡ one_more self.old.steps }
         ensures last { self.new.last ≡ seen }
         ensures executed { executed_in self.new.counts.items ≡ executed_at seen.pc (executed_in self.old.counts.items) }
+        ensures requests { self.new.requests ≡ requested_by action seen.number self.old.requests }
+        ensures made { self.new.calls.made ≡ self.old.calls.made }
+        ensures active { (calls : List ℕ) → AreActive (known_of self.old) calls → AreActive (known_of self.new) (left_by action calls) }
     {
         self.steps = self.steps.saturating_add(1);
         if self.last.word == REQUEST {
@@ -412,16 +301,16 @@ impl Watch {
         self.stacks.count();
         self.highest = self.highest.max(seen.stack);
         self.lowest = self.lowest.min(seen.stack);
-        match seen.word {
-            RETURN => self.leave(),
-            REQUEST => self.request(seen.number),
-            _ => {}
+        match action {
+            Action::Returns => self.leave(),
+            Action::Asks => add_request(&mut self.requests, seen.number as usize),
+            Action::Calls => {}
+            Action::Other => {}
         }
         self.last = seen;
     }
 
-    /// Takes in what the registers hold before an instruction: those that a branch on unsigned numbers compares, a word that is stored in the frame, and
-    /// the locals of a caller.
+    /// Takes in what the registers hold before an instruction: those that a branch on unsigned numbers compares, and a word that is stored in the frame.
     fn look<S: BlockStore>(&mut self, machine: &Machine<S>)
         ensures same { IsSameTally self.old self.new }
     {
@@ -433,9 +322,21 @@ impl Watch {
                 right: second_in(machine, word),
             };
         } else if word & SAVE_BITS == SAVE {
-            self.save(word, second_in(machine, word));
-        } else if word & 0xfff == CALL {
-            self.enter(pc, homes_of(machine));
+            save(&mut self.passed, word, second_in(machine, word));
+        }
+    }
+
+    /// Enters a call with the locals of its caller, if the last instruction is one.
+    fn call<S: BlockStore>(&mut self, machine: &Machine<S>, action: Action)
+        ensures same { HasSameCounts self.old self.new }
+        ensures made { self.new.calls.made ≡ called_by action self.old.calls.made }
+        ensures active { (calls : List ℕ) → AreActive (known_of self.old) calls → AreActive (known_of self.new) (entered_by action self.old.last.pc calls) }
+    {
+        match action {
+            Action::Calls => self.enter(self.last.pc, homes_of(machine)),
+            Action::Returns => {}
+            Action::Asks => {}
+            Action::Other => {}
         }
     }
 
@@ -455,14 +356,18 @@ impl Pace for Watch {
 
     ghost tally = { tally_of };
 
+    ghost known = { known_of };
+
     /// Takes in the next instruction, and goes no step ahead; or goes ahead as far as it can, and sees nothing.
     fn advance<S: BlockStore>(&mut self, machine: &mut Machine<S>, limit: u64) -> u64 {
         if !self.sees {
             return machine.glide(limit);
         }
         let seen = Seen::of(machine, &self.code);
-        self.see(seen);
+        let action = action_of(&self.actions, seen.pc);
+        self.see(seen, action);
         self.look(machine);
+        self.call(machine, action);
         0
     }
 }

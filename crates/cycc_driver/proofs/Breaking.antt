@@ -29,7 +29,8 @@ by_kind text kind.Lent place broken = broken
 by_kind text kind.Copy place broken = broken
 by_kind text kind.Size place broken = broken
 
-pub broken_text : (text : List ℕ) (program : Program) (why : CheckFault) (f : CompileFault) → ((b : Fault) → why ≡ check.Broken b → first_fault program ≡ Some (fault_of b))
+pub broken_text : (text : List ℕ) (program : Program) (why : CheckFault) (f : CompileFault)
+    → ((b : Fault) → why ≡ check.Broken b → first_fault program ≡ Some (fault_of b))
     → IsOfChecking text why f → IsTextOf text program → IsRefusedFor f text
 broken_text text program (check.Broken b) f first (place, is, there) spelled =
     subst (λ (x : CompileFault). IsRefusedFor x text) (sym is)

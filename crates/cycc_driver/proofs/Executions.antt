@@ -1,5 +1,6 @@
 -- A run between a reader and a writer of a machine that does what a program does.
-use Rattle.std.proofs.Common.{◌≡◌, ℕ, ◌<◌, List, [], ◌∷◌, ◌++◌, Option, Some, None, inl, inr, take, drop, refl, sym, ap, subst, ◌∙◌, append_assoc, append-nil, arith, ⊎_elim}
+use Rattle.std.proofs.Common.{◌≡◌, ℕ, ◌<◌, List, [], ◌∷◌, ◌++◌, Option, Some, None, inl, inr, take, drop, refl, sym, ap, subst, ◌∙◌, append_assoc, append-nil}
+use Rattle.std.proofs.Common.{arith, ⊎_elim}
 use Rattle.std.proofs.lemmas.List.{take-append-drop}
 use Rattle.std.proofs.lemmas.Bool.{cases_lt}
 use Rattle.std.specs.Io.KnownBytes.{Appends}
@@ -18,7 +19,7 @@ use Rattle.arena_laws.specs.Lawful.{Answer}
 use Rattle.cyc_host.specs.declared.ending.Ending.{Ending}
 use Rattle.cyc_host.specs.declared.ending.Ending.TheVariants as ending
 use Rattle.cyc_host.specs.Hosted.{Written, EndsAs, IsHosted}
-use Rattle.cyc_host.specs.Watched.{IsWatched, Tally}
+use Rattle.cyc_host.specs.Watched.{IsWatched, Known, Tally}
 use Rattle.compile_proof.specs.Promise.{meaning_of, frame_bound_of, frame_size_of}
 use Rattle.stack_proof.specs.Laws.{FitsStack, HasPages}
 use Rattle.stack_proof.proofs.Suffices.{never_out_of_stack, room_is_pages}
@@ -104,7 +105,8 @@ module _ (n : Areas) (program : Program) (input : List ℕ) (r : Run) (fuel : �
 
 -- ---- with the stack that the calls need
 
-module _ (n : Areas) (program : Program) (s : State) (input : List ℕ) (answers : ℕ → Answer) (count : ℕ) (fits : FitsStack (frame_size_of (world_of program)) program n.stack)
+module _ (n : Areas) (program : Program) (s : State) (input : List ℕ) (answers : ℕ
+    → Answer) (count : ℕ) (fits : FitsStack (frame_size_of (world_of program)) program n.stack)
     (does : Implements (frame_size_of (world_of program)) n s input (meaning_of program input)) where
   abbrev ran : Run
   ran = run_steps n count (from s input answers)
@@ -120,14 +122,22 @@ module _ (n : Areas) (program : Program) (s : State) (input : List ℕ) (answers
       record {
         fuel = at.0;
         shown = ran.events;
-        cut = record { before = agrees.before; next = agrees.next; rest = agrees.rest; split = agrees.split; same = agrees.same; because = (q, agrees.because) };
+        cut = record {
+          before = agrees.before;
+          next = agrees.next;
+          rest = agrees.rest;
+          split = agrees.split;
+          same = agrees.same;
+          because = (q, agrees.because);
+        };
         written = written;
       }
   requested_by None is over old new written =
       let none : ending_of ran ≡ MachineEnding.NoStack = ap (λ (m : Mode). ending_in m ran.refused) over ∙ ap exhausted_by is in
       absurd (never_out_of_stack (frame_size_of (world_of program)) program n s input fits does answers count none)
 
-  pub requested : ran.state.mode ≡ Over Stop.Exhausted → (old new : Option (List ℕ)) → Appends old new (output ran.events) → WritesToRequest program input old new
+  pub requested : ran.state.mode ≡ Over Stop.Exhausted → (old new : Option (List ℕ)) → Appends old new (output ran.events)
+      → WritesToRequest program input old new
   requested = requested_by ran.refused refl
 
 -- pages are as many
@@ -202,7 +212,8 @@ text_run text bytes pages stack_pages steps why made arena start blank starts en
           (ap (λ (x : State). x.mode) (same_state n h.count s h.input h.answers more none) ∙ at.1);
       requested = λ fits is_exhausted.
           let near = made.closely arena start small with_its h.input h.bytes in
-          let has : FitsStack (frame_size_of (world_of made.program)) made.program n.stack = subst (λ k. FitsStack (frame_size_of (world_of made.program)) made.program k) (sym stack_count) fits in
+          let has : FitsStack (frame_size_of (world_of made.program)) made.program n.stack =
+          subst (λ k. FitsStack (frame_size_of (world_of made.program)) made.program k) (sym stack_count) fits in
           let at : EndsAs ending.Exhausted n steps h.count (run_steps n h.count r) end =
           subst (λ (w : Ending). EndsAs w n steps h.count (run_steps n h.count r) end) is_exhausted h.ends in
           requested n made.program s h.input h.answers h.count has near at.1 writer_old writer_new
@@ -233,9 +244,13 @@ text_run text bytes pages stack_pages steps why made arena start blank starts en
           (subst (λ (es : List Event). Written why writer_old writer_new (output es)) (sym (same_events n h.count s h.input h.answers more none)) h.written);
     }
 
--- a watched run whose tally began alike
-pub begun_alike : {why : Ending} {n : Areas} {limit : ℕ} {old new : State} {reader_old reader_new writer_old writer_new : Option (List ℕ)} {one other after : Tally}
-    → one ≡ other → IsWatched why n limit old new reader_old reader_new writer_old writer_new one after
-    → IsWatched why n limit old new reader_old reader_new writer_old writer_new other after
-begun_alike {why} {n} {limit} {old} {new} {reader_old} {reader_new} {writer_old} {writer_new} {one} {other} {after} same w =
-    subst (λ (t : Tally). IsWatched why n limit old new reader_old reader_new writer_old writer_new t after) same w
+-- a watched run whose tally began alike, with as much known of the active calls
+pub begun_alike : {why : Ending} {n : Areas} {limit : ℕ} {old new : State} {reader_old reader_new writer_old writer_new : Option (List ℕ)}
+    {one other after : Tally}
+    {known_one known_other known : Known} → one ≡ other → known_one ≡ known_other
+    → IsWatched why n limit old new reader_old reader_new writer_old writer_new one after known_one known
+    → IsWatched why n limit old new reader_old reader_new writer_old writer_new other after known_other known
+begun_alike {why} {n} {limit} {old} {new} {reader_old} {reader_new} {writer_old} {writer_new} {one} {other} {after} {known_one} {known_other} {known} same
+    as_known w =
+    subst (λ (k : Known). IsWatched why n limit old new reader_old reader_new writer_old writer_new other after k known) as_known
+    (subst (λ (t : Tally). IsWatched why n limit old new reader_old reader_new writer_old writer_new t after known_one known) same w)

@@ -30,13 +30,15 @@ pub meaning_grows : (program : Program) (input : List ℕ) → IsGrowing (meanin
 meaning_grows program input n k less = let g = only_grows program input n k less in (g.0, sym g.1)
 
 -- room is the same for the same pages and stack
-pub room_as : (bound : List ℕ → ℕ) (pages stack n m : ℕ) (events : List SourceEvent) → n ≡ pages → m ≡ stack → HasRoom bound pages stack events → HasRoom bound n m events
+pub room_as : (bound : List ℕ → ℕ) (pages stack n m : ℕ) (events : List SourceEvent) → n ≡ pages → m ≡ stack → HasRoom bound pages stack events
+    → HasRoom bound n m events
 room_as bound pages stack n m events a b room =
     subst (λ k. HasRoom bound k m events) (sym a) (subst (λ k. HasRoom bound pages k events) (sym b) room)
 
 -- ---- a run that is over stays exact
 
-exact_beyond : (n : Areas) (count more : ℕ) (r : Run) (why : Stop) → (run_steps n count r).state.mode ≡ Over why → AreExact n count r → AreExact n (count + more) r
+exact_beyond : (n : Areas) (count more : ℕ) (r : Run) (why : Stop) → (run_steps n count r).state.mode ≡ Over why → AreExact n count r
+    → AreExact n (count + more) r
 exact_beyond n count more r why over exact = λ k less. ⊎_elim (λ under. exact k under) (λ within. there k within) (cases_lt k count)
   where
     there : (k : ℕ) → count ≤ k → IsShortage n (asked_at n (run_steps n k r).state) (run_steps n k r).state.holdings
@@ -72,7 +74,8 @@ ends_at n ending.WriteFault limit count left now at stop is = absurd is
 
 module _ (n : Areas) (limit enough : ℕ) (r : Run) (before : List SourceEvent) (old new : Option (List ℕ)) (within : enough ≤ limit)
     (law : (count : ℕ) → enough ≤ count → AreExact n count r
-    → ((run_steps n count r).state.mode ≡ Over Stop.Lacking) ⊎ (((run_steps n count r).state.mode ≡ Over Stop.Exhausted) × ((run_steps n count r).events ≡ visible before))) where
+    → ((run_steps n count r).state.mode ≡ Over Stop.Lacking)
+    ⊎ (((run_steps n count r).state.mode ≡ Over Stop.Exhausted) × ((run_steps n count r).events ≡ visible before))) where
   -- a run that is over, with as many steps more as are enough
   over_stopped : (count : ℕ) (why : Stop) → AreExact n count r → (run_steps n count r).state.mode ≡ Over why
       → (Over why ≡ Over Stop.Lacking) ⊎ ((Over why ≡ Over Stop.Exhausted) × ((run_steps n count r).events ≡ visible before))

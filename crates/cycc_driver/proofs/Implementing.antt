@@ -144,7 +144,8 @@ pub text_image : (text bytes code statics : List ℕ) (program : Program) (parts
     → ((p : Contents) → p.code ≡ code → p.statics ≡ statics → p.entry ≡ 0 → p.block_limit ≡ second_block_limit → Fits p
     → IsImplementedBy program p × IsCloselyImplementedBy program p)
     → IsTextImage text pages stack_pages bytes
-text_image text bytes code statics program parts pages stack_pages accepted image is_code is_statics from_first as_asked stack_as_asked blocks placed bytes_are does =
+text_image text bytes code statics program parts pages stack_pages accepted image is_code is_statics from_first as_asked stack_as_asked blocks placed
+    bytes_are does =
     let both = does parts is_code is_statics from_first blocks (image_fits bytes parts image) in
     record {
       program = program;

@@ -1,5 +1,6 @@
 -- A run on an input, and on that input with more behind it: where the input's end wasn't told, both do the same.
-use Rattle.std.proofs.Common.{◌≡◌, ℕ, zero, suc, ◌+◌, ◌-◌, ◌≤◌, ◌<◌, List, [], ◌∷◌, ◌++◌, true, Option, None, Ok, Err, inl, inr, refl, sym, ap, subst, ◌∙◌, arith, append-nil, add-sub_of_le, ⊎_elim}
+use Rattle.std.proofs.Common.{◌≡◌, ℕ, zero, suc, ◌+◌, ◌-◌, ◌≤◌, ◌<◌, List, [], ◌∷◌, ◌++◌, true, Option, None, Ok, Err, inl, inr, refl, sym, ap, subst, ◌∙◌}
+use Rattle.std.proofs.Common.{arith, append-nil, add-sub_of_le, ⊎_elim}
 use Rattle.std.proofs.lemmas.Bool.{cases_lt}
 use Rattle.std.proofs.lemmas.List.Elements.{Contains-append_left, Contains-append_right}
 use Rattle.std.specs.List.{Contains}
@@ -84,7 +85,8 @@ same_events n count s input answers more none = same_seen (λ (r : Run). r.event
 
 -- what the store answers is so exact as before
 pub same_exact : (n : Areas) (count : ℕ) (s : State) (input : List ℕ) (answers : ℕ → Answer) (more : List ℕ)
-    → (IsTold (run_steps n count (from s input answers)) → more ≡ []) → AreExact n count (from s input answers) → AreExact n count (from s (input ++ more) answers)
+    → (IsTold (run_steps n count (from s input answers)) → more ≡ []) → AreExact n count (from s input answers)
+    → AreExact n count (from s (input ++ more) answers)
 same_exact n count s input answers more none exact = λ k less.
     let told_later : IsTold (run_steps n k (from s input answers)) → more ≡ [] = λ told. none
     (subst IsTold (sym (run_more n k (count - k) (from s input answers)) ∙ ap (λ j. run_steps n j (from s input answers)) (whole k less))

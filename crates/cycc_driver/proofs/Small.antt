@@ -1,6 +1,7 @@
 -- What a machine's memory holds where its code is placed and its data are a program's: bytes.
 use Rattle.std.specs.Prelude.{slice_index}
-use Rattle.std.proofs.Common.{◌≡◌, ℕ, zero, suc, ◌+◌, ◌-◌, ◌*◌, ◌/◌, ◌%◌, ◌<◌, ◌^◌, Bool, true, false, List, [], ◌∷◌, ◌++◌, length, nat_eq, nat_lt, if◌then◌else◌, sym, ap, subst, arith}
+use Rattle.std.proofs.Common.{◌≡◌, ℕ, zero, suc, ◌+◌, ◌-◌, ◌*◌, ◌/◌, ◌%◌, ◌<◌, ◌^◌, Bool, true, false, List, [], ◌∷◌, ◌++◌, length, nat_eq, nat_lt}
+use Rattle.std.proofs.Common.{if◌then◌else◌, sym, ap, subst, arith}
 use Rattle.std.proofs.Common.{length-append}
 use Rattle.arena_laws.specs.Holdings.{arena_base}
 use Rattle.cyc_image.specs.Format.{u32_bytes}

@@ -1,4 +1,4 @@
--- What the evaluation of a text is.
+-- Believed: what the evaluation of a text is.
 use Rattle.std.specs.Prelude.{ℕ, List, Option}
 use Rattle.cyc_tree.specs.Tree.{Program}
 use Rattle.core_eval.specs.declared.ending.EvalEnding.{EvalEnding}

@@ -1,4 +1,4 @@
--- What a compiled text is, and what its run is.
+-- Believed: what a compiled text is, and what its run is.
 use Rattle.std.specs.Prelude.{◌≡◌, ◌≢◌, ℕ, ◌<◌, ◌≤◌, ◌%◌, ◌⊎◌, true, List, [], ◌∷◌, ◌++◌, length, Option, None, Contains}
 use Rattle.std.specs.Io.KnownBytes.{Appends}
 use Rattle.cyc_words.specs.Words.{word}
@@ -189,7 +189,8 @@ pub record IsTextRun (text : List ℕ) (pages stack_pages steps : ℕ) (why : En
   -- events and stack for each of its calls.
   pub roomy : (more : List ℕ) → AreBytes more
       → (Contains (run_steps (areas_of start) hosted.count (from (state_of start) hosted.input hosted.answers)).events (ByteRead None) → more ≡ [])
-      → ((fuel : ℕ) → HasRoom (frames_of image.program) pages (stack_length stack_pages) (source image.program (hosted.input ++ more) fuel).events) → why ≢ ending.Exhausted
+      → ((fuel : ℕ) → HasRoom (frames_of image.program) pages (stack_length stack_pages) (source image.program (hosted.input ++ more) fuel).events)
+      → why ≢ ending.Exhausted
   -- Where the stack has what the program's calls need, an exhausted run was refused a request of the store,
   pub requested : HasStack image.program stack_pages → why ≡ ending.Exhausted → WritesToRequest image.program hosted.input writer_old writer_new
   -- and none is exhausted where there are pages for each of the program's events.

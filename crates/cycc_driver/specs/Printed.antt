@@ -1,4 +1,4 @@
--- What is printed of a fault.
+-- Believed: what is printed of a fault.
 use Rattle.std.specs.Prelude.{ℕ, List, ◌++◌, Option, Some, None, codes}
 use Rattle.std.specs.Fmt.{decimal}
 use Rattle.cycc_driver.specs.declared.fault.Place.{Place}

@@ -1,4 +1,4 @@
--- Why a text is refused, and where.
+-- Believed: why a text is refused, and where.
 use Rattle.std.specs.Prelude.{◌≡◌, ◌⊎◌, ℕ, ◌+◌, ◌*◌, ◌<◌, ◌≤◌, List, length, Some}
 use Rattle.cyc_lexer.specs.Lexing.{Token, AreTokens, text_limit}
 use Rattle.cyc_lexer.specs.Tokens.{IsRefusedAt}

@@ -1,4 +1,4 @@
--- The fault of a text that a fault of a layer is, with its place.
+-- Believed: the fault of a text that a fault of a layer is, with its place.
 use Rattle.std.specs.Prelude.{◌≡◌, ℕ, ◌<◌, List}
 use Rattle.cyc_lexer.specs.declared.fault.LexFault.{LexFault}
 use Rattle.cyc_lexer.specs.declared.fault.LexFault.TheVariants as lex

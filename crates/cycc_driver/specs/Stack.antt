@@ -1,4 +1,4 @@
--- What is answered of the stack that a text's calls need.
+-- Believed: what is answered of the stack that a text's calls need.
 use Rattle.std.specs.Prelude.{◌≡◌, ℕ, List, IfNone, IfSome, codes, map}
 use Rattle.cyc_tree.specs.Tree.{Program}
 use Rattle.core_lines.specs.LocalPlaces.{frame_bytes}

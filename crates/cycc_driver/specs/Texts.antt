@@ -1,4 +1,4 @@
--- Which texts are accepted, and as which program.
+-- Believed: which texts are accepted, and as which program.
 use Rattle.std.specs.Prelude.{ℕ, ◌≤◌, List, length}
 use Rattle.cyc_lexer.specs.Lexing.{Token, AreTokens, text_limit}
 use Rattle.source_grammar.specs.Grammar.{IsProgram}

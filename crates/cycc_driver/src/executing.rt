@@ -1,8 +1,8 @@
 // Runs of a text.
 
-ghost use Rattle.std.specs.Prelude.{◌≡◌, ◌≢◌, ◌≤◌, ◌/◌, IfOk, IfErr, length, true};
+ghost use Rattle.std.specs.Prelude.{◌≡◌, ◌≢◌, ◌≤◌, IfOk, IfErr, true};
 ghost use Rattle.cyc_host.specs.Failures.{reads_failed, writes_failed};
-ghost use Rattle.cyc_host.specs.Watched.{nothing, tally_of};
+ghost use Rattle.cyc_host.specs.Watched.{known_of, no_calls, nothing, tally_of};
 ghost use Rattle.cycc_driver.specs.Refusals.{HasNoImageFor};
 ghost use Rattle.cycc_driver.specs.Outcome.{IsTextRun};
 ghost use Rattle.cycc_driver.specs.WatchedRun.{IsTextWatched};
@@ -37,7 +37,8 @@ pub struct Watched {
 
 /// A watch of a run of this code; one that sees nothing where the run isn't watched.
 fn watch_of(alloc: Global, is_watched: bool, code: &[u8]) -> Result<Watch, AllocError>
-    ensures { IfOk result (λ watch. is_watched ≡ true → (watch.sees ≡ true) × (tally_of watch ≡ nothing (length code.now / 4))) }
+    ensures { IfOk result (λ watch. is_watched ≡ true → (watch.sees ≡ true) ×
+        ((tally_of watch ≡ nothing code.now) × (known_of watch ≡ no_calls))) }
 {
     if is_watched {
         Watch::new(alloc, code)
@@ -67,10 +68,11 @@ fn executed<R: Input, W: Output>(
     // a device's fault comes where just one call of that device failed, and any other ending where none did
     ensures reads { IfOk result (λ watched. R.fault_count reader.new ≡ reads_failed watched.ending (R.fault_count reader.old)) }
     ensures writes { IfOk result (λ watched. W.fault_count writer.new ≡ writes_failed watched.ending (W.fault_count writer.old)) }
-    // what is watched is the run of the image that `compile` gives: the watch counts the instructions that begin, of each word of the code, and knows the
-    // address of the last
+    // what is watched is the run of the image that `compile` gives: the watch counts the instructions that begin, of each word of the code, the calls
+    // and the requests, and knows the address of the last instruction and the active calls
     ensures watched { is_watched ≡ true → IfOk result (λ watched. IsTextWatched text.now limits.pages limits.stack_pages limits.steps watched.ending
-        (R.remaining reader.old) (R.remaining reader.new) (W.contents writer.old) (W.contents writer.new) (tally_of watched.watch)) }
+        (R.remaining reader.old) (R.remaining reader.new) (W.contents writer.old) (W.contents writer.new) (tally_of watched.watch)
+        (known_of watched.watch)) }
     // the fault is that of `compile`, and nothing was read or written
     ensures refused { IfErr result (λ fault. HasNoImageFor fault text.now) }
     ensures untouched { IfErr result (λ _. (reader.new ≡ reader.old) × (writer.new ≡ writer.old)) }
@@ -149,9 +151,11 @@ pub fn execute_watched<R: Input, W: Output>(
     // a device's fault comes where just one call of that device failed, and any other ending where none did
     ensures reads { IfOk result (λ watched. R.fault_count reader.new ≡ reads_failed watched.ending (R.fault_count reader.old)) }
     ensures writes { IfOk result (λ watched. W.fault_count writer.new ≡ writes_failed watched.ending (W.fault_count writer.old)) }
-    // the watch counts the instructions that begin in the run of the image that `compile` gives, and knows the address of the last
+    // the watch counts the instructions that begin in the run of the image that `compile` gives, its calls and its requests, and knows the address of the last
+    // instruction and the active calls
     ensures watched { IfOk result (λ watched. IsTextWatched text.now limits.pages limits.stack_pages limits.steps watched.ending
-        (R.remaining reader.old) (R.remaining reader.new) (W.contents writer.old) (W.contents writer.new) (tally_of watched.watch)) }
+        (R.remaining reader.old) (R.remaining reader.new) (W.contents writer.old) (W.contents writer.new) (tally_of watched.watch)
+        (known_of watched.watch)) }
     // the fault is that of `compile`, and nothing was read or written
     ensures refused { IfErr result (λ fault. HasNoImageFor fault text.now) }
     ensures untouched { IfErr result (λ _. (reader.new ≡ reader.old) × (writer.new ≡ writer.old)) }

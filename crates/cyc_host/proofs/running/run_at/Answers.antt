@@ -16,7 +16,8 @@ use Rattle.cyc_host.proofs.OtherEndings.{isnt_memory}
 use Rattle.cyc_host.proofs.OneStep.{IsStep, step_at, over_at, runs_at, runs_at_write, runs_at_answer}
 use Rattle.cyc_host.proofs.Quietly.{went_quietly, keeps_memory, quiet_at}
 use Rattle.cyc_host.proofs.Watching.{took_one}
-use Rattle.cyc_host.proofs.Progress.{all_begun, begun, gathered_as, went_on, stopped_at, put_one, wrote, kept, answered, hosted, watched, watched_further, either_end}
+use Rattle.cyc_host.proofs.Progress.{all_begun, begun, gathered_as, went_on, stopped_at, put_one, wrote, kept, answered, hosted, watched, watched_further}
+use Rattle.cyc_host.proofs.Progress.{either_end}
 use Rattle.cyc_host.proofs.running.run_at.Goals as goal
 
 pub steps-init : goal.steps-init
@@ -30,7 +31,7 @@ steps-init g c = record {
   going = inl refl;
   progress = gathered_as (sym c.new-gathered.ensures) begun;
   states = [];
-  saw = λ is. (is, refl);
+  saw = λ is. (is, record { tally = refl; active = λ calls active. active });
 }
 
 pub returns-then-is_err-clause-hosted : goal.returns-then-is_err-clause-hosted
@@ -55,7 +56,8 @@ returns-then-is_err-2-clause-hosted g c =
     let x : IsStep (areas_of (seen c.args.machine.now)) _ (state_of (seen c.advance.new.machine)) (state_of (seen c.step.new.self)) Asks =
     step_at _ _ _ _ _ _ there c.in-Get.ensures.state c.in-Get.ensures.event c.in-Get.ensures.full in
     hosted q ending.WriteFault _ _ _ (λ k. answer_seen event.Get (seen c.step.new.self)) (omega (arith, i.counted, c.advance.ensures.few))
-    (of_err c.flush.result c.flush.ensures.some (sym c.is_err-in-Get.ensures.value ∙ c.if-is_err-2.true)) (inr (omega (arith, i.counted, c.advance.ensures.few), x.state))
+    (of_err c.flush.result c.flush.ensures.some (sym c.is_err-in-Get.ensures.value ∙ c.if-is_err-2.true))
+    (inr (omega (arith, i.counted, c.advance.ensures.few), x.state))
 
 pub returns-in-Err-clause-hosted : goal.returns-in-Err-clause-hosted
 returns-in-Err-clause-hosted g c =
@@ -68,7 +70,8 @@ returns-in-Err-clause-hosted g c =
     step_at _ _ _ _ _ _ there c.in-Get.ensures.state c.in-Get.ensures.event c.in-Get.ensures.full in
     let flushed = wrote q _ []
     (all_written _ _ _ (of_ok c.flush.result c.flush.ensures.all (sym c.is_err-in-Get.ensures.value ∙ c.if-is_err-2.false))) in
-    hosted (kept flushed _ c.in-Err.ensures.kept c.in-Err.ensures.asked) ending.ReadFault _ _ _ (λ k. answer_seen event.Get (seen c.step.new.self)) (omega (arith, i.counted, c.advance.ensures.few)) (Appends-nil _)
+    hosted (kept flushed _ c.in-Err.ensures.kept c.in-Err.ensures.asked) ending.ReadFault _ _ _ (λ k. answer_seen event.Get (seen c.step.new.self))
+    (omega (arith, i.counted, c.advance.ensures.few)) (Appends-nil _)
     (omega (arith, i.counted, c.advance.ensures.few), (x.state, sym x.shows))
 
 pub returns-in-Ended-clause-hosted : goal.returns-in-Ended-clause-hosted
@@ -78,7 +81,8 @@ returns-in-Ended-clause-hosted g c =
     let n = areas_of (seen c.args.machine.now) in
     let there = c.advance.ensures.areas ∙ i.areas in
     let q = (went_quietly i.progress c.advance.result _ (quiet_at _ n _ _ _ i.areas c.advance.ensures.quiet)).1.1 in
-    let x : IsStep (areas_of (seen c.args.machine.now)) _ (state_of (seen c.advance.new.machine)) (state_of (seen c.step.new.self)) (Stops (Stop.Ended (word c.in-Ended.status))) =
+    let x : IsStep (areas_of (seen c.args.machine.now)) _ (state_of (seen c.advance.new.machine)) (state_of (seen c.step.new.self))
+    (Stops (Stop.Ended (word c.in-Ended.status))) =
     step_at _ _ _ _ _ _ there c.in-Ended.ensures.state c.in-Ended.ensures.event c.in-Ended.ensures.full in
     let fits : SFits w32 c.in-Ended.status = search rules in
     hosted (stopped_at q _ _ _ x) c.finish.result _ _ _ (λ k. Refuses) (omega (arith, i.counted, c.advance.ensures.few)) c.finish.ensures.written
@@ -91,9 +95,11 @@ returns-in-Raised-clause-hosted g c =
     let n = areas_of (seen c.args.machine.now) in
     let there = c.advance.ensures.areas ∙ i.areas in
     let q = (went_quietly i.progress c.advance.result _ (quiet_at _ n _ _ _ i.areas c.advance.ensures.quiet)).1.1 in
-    let x : IsStep (areas_of (seen c.args.machine.now)) _ (state_of (seen c.advance.new.machine)) (state_of (seen c.step.new.self)) (Stops (Stop.Raised c.in-Raised.kind)) =
+    let x : IsStep (areas_of (seen c.args.machine.now)) _ (state_of (seen c.advance.new.machine)) (state_of (seen c.step.new.self))
+    (Stops (Stop.Raised c.in-Raised.kind)) =
     step_at _ _ _ _ _ _ there c.in-Raised.ensures.state c.in-Raised.ensures.event c.in-Raised.ensures.full in
-    hosted (stopped_at q _ _ _ x) c.finish-in-Raised.result _ _ _ (λ k. Refuses) (omega (arith, i.counted, c.advance.ensures.few)) c.finish-in-Raised.ensures.written
+    hosted (stopped_at q _ _ _ x) c.finish-in-Raised.result _ _ _ (λ k. Refuses) (omega (arith, i.counted, c.advance.ensures.few))
+    c.finish-in-Raised.ensures.written
     (either_end (ending.Raised c.in-Raised.kind) _ _ _ _ _ c.finish-in-Raised.ensures.same (refl, over_at x))
 
 pub returns-in-Exhausted-clause-hosted : goal.returns-in-Exhausted-clause-hosted
@@ -105,7 +111,8 @@ returns-in-Exhausted-clause-hosted g c =
     let q = (went_quietly i.progress c.advance.result _ (quiet_at _ n _ _ _ i.areas c.advance.ensures.quiet)).1.1 in
     let x : IsStep (areas_of (seen c.args.machine.now)) _ (state_of (seen c.advance.new.machine)) (state_of (seen c.step.new.self)) (Stops Stop.Exhausted) =
     step_at _ _ _ _ _ _ there c.in-Exhausted.ensures.state c.in-Exhausted.ensures.event c.in-Exhausted.ensures.full in
-    hosted (stopped_at q _ _ _ x) c.finish-in-Exhausted.result _ _ _ (λ k. Refuses) (omega (arith, i.counted, c.advance.ensures.few)) c.finish-in-Exhausted.ensures.written
+    hosted (stopped_at q _ _ _ x) c.finish-in-Exhausted.result _ _ _ (λ k. Refuses) (omega (arith, i.counted, c.advance.ensures.few))
+    c.finish-in-Exhausted.ensures.written
     (either_end ending.Exhausted _ _ _ _ _ c.finish-in-Exhausted.ensures.same (refl, over_at x))
 
 pub returns-in-HostMemory-clause-hosted : goal.returns-in-HostMemory-clause-hosted
@@ -117,7 +124,8 @@ returns-in-HostMemory-clause-hosted g c =
     let q = (went_quietly i.progress c.advance.result _ (quiet_at _ n _ _ _ i.areas c.advance.ensures.quiet)).1.1 in
     let x : IsStep (areas_of (seen c.args.machine.now)) _ (state_of (seen c.advance.new.machine)) (state_of (seen c.step.new.self)) (Stops Stop.Lacking) =
     step_at _ _ _ _ _ _ there c.in-HostMemory.ensures.state c.in-HostMemory.ensures.event c.in-HostMemory.ensures.full in
-    hosted (stopped_at q _ _ _ x) c.finish-in-HostMemory.result _ _ _ (λ k. Refuses) (omega (arith, i.counted, c.advance.ensures.few)) c.finish-in-HostMemory.ensures.written
+    hosted (stopped_at q _ _ _ x) c.finish-in-HostMemory.result _ _ _ (λ k. Refuses) (omega (arith, i.counted, c.advance.ensures.few))
+    c.finish-in-HostMemory.ensures.written
     (either_end ending.HostMemory _ _ _ _ _ c.finish-in-HostMemory.ensures.same (refl, over_at x))
 
 pub returns-in-Fault-clause-hosted : goal.returns-in-Fault-clause-hosted
@@ -127,9 +135,11 @@ returns-in-Fault-clause-hosted g c =
     let n = areas_of (seen c.args.machine.now) in
     let there = c.advance.ensures.areas ∙ i.areas in
     let q = (went_quietly i.progress c.advance.result _ (quiet_at _ n _ _ _ i.areas c.advance.ensures.quiet)).1.1 in
-    let x : IsStep (areas_of (seen c.args.machine.now)) _ (state_of (seen c.advance.new.machine)) (state_of (seen c.step.new.self)) (Stops (Stop.Fault c.in-Fault.fault)) =
+    let x : IsStep (areas_of (seen c.args.machine.now)) _ (state_of (seen c.advance.new.machine)) (state_of (seen c.step.new.self))
+    (Stops (Stop.Fault c.in-Fault.fault)) =
     step_at _ _ _ _ _ _ there c.in-Fault.ensures.state c.in-Fault.ensures.event c.in-Fault.ensures.full in
-    hosted (stopped_at q _ _ _ x) c.finish-in-Fault.result _ _ _ (λ k. Refuses) (omega (arith, i.counted, c.advance.ensures.few)) c.finish-in-Fault.ensures.written
+    hosted (stopped_at q _ _ _ x) c.finish-in-Fault.result _ _ _ (λ k. Refuses) (omega (arith, i.counted, c.advance.ensures.few))
+    c.finish-in-Fault.ensures.written
     (either_end (ending.Fault c.in-Fault.fault) _ _ _ _ _ c.finish-in-Fault.ensures.same (refl, over_at x))
 
 pub returns-clause-hosted : goal.returns-clause-hosted
@@ -137,7 +147,8 @@ returns-clause-hosted g c =
     let seen = arrays g.S.BlockStore.holdings g.S.BlockStore.byte_at in
     let i = c.steps.invariant in
     hosted i.progress c.finish-2.result _ _ _ (λ k. Refuses) (omega (arith, i.counted)) c.finish-2.ensures.written
-    (either_end ending.StepLimit _ _ _ _ _ c.finish-2.ensures.same (refl, omega (arith, i.counted), λ some. ⊎_elim (λ none. absurd (omega (arith, none, some, i.counted))) (λ runs. runs) i.going))
+    (either_end ending.StepLimit _ _ _ _ _ c.finish-2.ensures.same
+    (refl, omega (arith, i.counted), λ some. ⊎_elim (λ none. absurd (omega (arith, none, some, i.counted))) (λ runs. runs) i.going))
 
 pub returns-then-is_err-clause-watched : goal.returns-then-is_err-clause-watched
 returns-then-is_err-clause-watched g c = λ is.
@@ -168,7 +179,8 @@ returns-then-is_err-2-clause-watched g c = λ is.
     step_at _ _ _ _ _ _ there c.in-Get.ensures.state c.in-Get.ensures.event c.in-Get.ensures.full in (
       will,
       watched_further q ending.WriteFault _ _ _ (λ k. answer_seen event.Get (seen c.step.new.self)) (omega (arith, i.counted, c.advance.ensures.few))
-          (of_err c.flush.result c.flush.ensures.some (sym c.is_err-in-Get.ensures.value ∙ c.if-is_err-2.true)) (inr (omega (arith, i.counted, c.advance.ensures.few), x.state)) _ _ (inr refl) tally,
+          (of_err c.flush.result c.flush.ensures.some (sym c.is_err-in-Get.ensures.value ∙ c.if-is_err-2.true))
+          (inr (omega (arith, i.counted, c.advance.ensures.few), x.state)) _ _ (inr refl) tally,
     )
 
 pub returns-in-Err-clause-watched : goal.returns-in-Err-clause-watched
@@ -185,7 +197,8 @@ returns-in-Err-clause-watched g c = λ is.
     let flushed = wrote q _ []
     (all_written _ _ _ (of_ok c.flush.result c.flush.ensures.all (sym c.is_err-in-Get.ensures.value ∙ c.if-is_err-2.false))) in (
       will,
-      watched_further (kept flushed _ c.in-Err.ensures.kept c.in-Err.ensures.asked) ending.ReadFault _ _ _ (λ k. answer_seen event.Get (seen c.step.new.self)) (omega (arith, i.counted, c.advance.ensures.few)) (Appends-nil _)
+      watched_further (kept flushed _ c.in-Err.ensures.kept c.in-Err.ensures.asked) ending.ReadFault _ _ _ (λ k. answer_seen event.Get (seen c.step.new.self))
+          (omega (arith, i.counted, c.advance.ensures.few)) (Appends-nil _)
           (omega (arith, i.counted, c.advance.ensures.few), (x.state, sym x.shows)) _ _ refl tally,
     )
 
@@ -198,12 +211,14 @@ returns-in-Ended-clause-watched g c = λ is.
     let quiet = quiet_at _ n _ _ _ i.areas c.advance.ensures.quiet in
     let (further, (same, q)) = went_quietly i.progress c.advance.result _ quiet in
     let (will, tally) = took_one n _ _ _ i.saw c.advance.ensures.taken quiet same is in
-    let x : IsStep (areas_of (seen c.args.machine.now)) _ (state_of (seen c.advance.new.machine)) (state_of (seen c.step.new.self)) (Stops (Stop.Ended (word c.in-Ended.status))) =
+    let x : IsStep (areas_of (seen c.args.machine.now)) _ (state_of (seen c.advance.new.machine)) (state_of (seen c.step.new.self))
+    (Stops (Stop.Ended (word c.in-Ended.status))) =
     step_at _ _ _ _ _ _ there c.in-Ended.ensures.state c.in-Ended.ensures.event c.in-Ended.ensures.full in
     let fits : SFits w32 c.in-Ended.status = search rules in (
       will,
       watched (stopped_at q _ _ _ x) c.finish.result _ _ _ (λ k. Refuses) (omega (arith, i.counted, c.advance.ensures.few)) c.finish.ensures.written
-          (either_end (ending.Ended c.in-Ended.status) _ _ _ _ _ (simp (to_z-of_z w32 c.in-Ended.status fits) at c.finish.ensures.same) (refl, over_at x)) _ _ (all_begun (ending.Ended c.in-Ended.status) _ _ (simp (to_z-of_z w32 c.in-Ended.status fits) at c.finish.ensures.same) refl) tally,
+          (either_end (ending.Ended c.in-Ended.status) _ _ _ _ _ (simp (to_z-of_z w32 c.in-Ended.status fits) at c.finish.ensures.same) (refl, over_at x)) _ _
+          (all_begun (ending.Ended c.in-Ended.status) _ _ (simp (to_z-of_z w32 c.in-Ended.status fits) at c.finish.ensures.same) refl) tally,
     )
 
 pub returns-in-Raised-clause-watched : goal.returns-in-Raised-clause-watched
@@ -215,11 +230,14 @@ returns-in-Raised-clause-watched g c = λ is.
     let quiet = quiet_at _ n _ _ _ i.areas c.advance.ensures.quiet in
     let (further, (same, q)) = went_quietly i.progress c.advance.result _ quiet in
     let (will, tally) = took_one n _ _ _ i.saw c.advance.ensures.taken quiet same is in
-    let x : IsStep (areas_of (seen c.args.machine.now)) _ (state_of (seen c.advance.new.machine)) (state_of (seen c.step.new.self)) (Stops (Stop.Raised c.in-Raised.kind)) =
+    let x : IsStep (areas_of (seen c.args.machine.now)) _ (state_of (seen c.advance.new.machine)) (state_of (seen c.step.new.self))
+    (Stops (Stop.Raised c.in-Raised.kind)) =
     step_at _ _ _ _ _ _ there c.in-Raised.ensures.state c.in-Raised.ensures.event c.in-Raised.ensures.full in (
       will,
-      watched (stopped_at q _ _ _ x) c.finish-in-Raised.result _ _ _ (λ k. Refuses) (omega (arith, i.counted, c.advance.ensures.few)) c.finish-in-Raised.ensures.written
-          (either_end (ending.Raised c.in-Raised.kind) _ _ _ _ _ c.finish-in-Raised.ensures.same (refl, over_at x)) _ _ (all_begun (ending.Raised c.in-Raised.kind) _ _ c.finish-in-Raised.ensures.same refl) tally,
+      watched (stopped_at q _ _ _ x) c.finish-in-Raised.result _ _ _ (λ k. Refuses) (omega (arith, i.counted, c.advance.ensures.few))
+          c.finish-in-Raised.ensures.written
+          (either_end (ending.Raised c.in-Raised.kind) _ _ _ _ _ c.finish-in-Raised.ensures.same (refl, over_at x)) _ _
+          (all_begun (ending.Raised c.in-Raised.kind) _ _ c.finish-in-Raised.ensures.same refl) tally,
     )
 
 pub returns-in-Exhausted-clause-watched : goal.returns-in-Exhausted-clause-watched
@@ -234,8 +252,10 @@ returns-in-Exhausted-clause-watched g c = λ is.
     let x : IsStep (areas_of (seen c.args.machine.now)) _ (state_of (seen c.advance.new.machine)) (state_of (seen c.step.new.self)) (Stops Stop.Exhausted) =
     step_at _ _ _ _ _ _ there c.in-Exhausted.ensures.state c.in-Exhausted.ensures.event c.in-Exhausted.ensures.full in (
       will,
-      watched (stopped_at q _ _ _ x) c.finish-in-Exhausted.result _ _ _ (λ k. Refuses) (omega (arith, i.counted, c.advance.ensures.few)) c.finish-in-Exhausted.ensures.written
-          (either_end ending.Exhausted _ _ _ _ _ c.finish-in-Exhausted.ensures.same (refl, over_at x)) _ _ (all_begun ending.Exhausted _ _ c.finish-in-Exhausted.ensures.same refl) tally,
+      watched (stopped_at q _ _ _ x) c.finish-in-Exhausted.result _ _ _ (λ k. Refuses) (omega (arith, i.counted, c.advance.ensures.few))
+          c.finish-in-Exhausted.ensures.written
+          (either_end ending.Exhausted _ _ _ _ _ c.finish-in-Exhausted.ensures.same (refl, over_at x)) _ _
+          (all_begun ending.Exhausted _ _ c.finish-in-Exhausted.ensures.same refl) tally,
     )
 
 pub returns-in-HostMemory-clause-watched : goal.returns-in-HostMemory-clause-watched
@@ -250,8 +270,10 @@ returns-in-HostMemory-clause-watched g c = λ is.
     let x : IsStep (areas_of (seen c.args.machine.now)) _ (state_of (seen c.advance.new.machine)) (state_of (seen c.step.new.self)) (Stops Stop.Lacking) =
     step_at _ _ _ _ _ _ there c.in-HostMemory.ensures.state c.in-HostMemory.ensures.event c.in-HostMemory.ensures.full in (
       will,
-      watched (stopped_at q _ _ _ x) c.finish-in-HostMemory.result _ _ _ (λ k. Refuses) (omega (arith, i.counted, c.advance.ensures.few)) c.finish-in-HostMemory.ensures.written
-          (either_end ending.HostMemory _ _ _ _ _ c.finish-in-HostMemory.ensures.same (refl, over_at x)) _ _ (all_begun ending.HostMemory _ _ c.finish-in-HostMemory.ensures.same refl) tally,
+      watched (stopped_at q _ _ _ x) c.finish-in-HostMemory.result _ _ _ (λ k. Refuses) (omega (arith, i.counted, c.advance.ensures.few))
+          c.finish-in-HostMemory.ensures.written
+          (either_end ending.HostMemory _ _ _ _ _ c.finish-in-HostMemory.ensures.same (refl, over_at x)) _ _
+          (all_begun ending.HostMemory _ _ c.finish-in-HostMemory.ensures.same refl) tally,
     )
 
 pub returns-in-Fault-clause-watched : goal.returns-in-Fault-clause-watched
@@ -263,11 +285,14 @@ returns-in-Fault-clause-watched g c = λ is.
     let quiet = quiet_at _ n _ _ _ i.areas c.advance.ensures.quiet in
     let (further, (same, q)) = went_quietly i.progress c.advance.result _ quiet in
     let (will, tally) = took_one n _ _ _ i.saw c.advance.ensures.taken quiet same is in
-    let x : IsStep (areas_of (seen c.args.machine.now)) _ (state_of (seen c.advance.new.machine)) (state_of (seen c.step.new.self)) (Stops (Stop.Fault c.in-Fault.fault)) =
+    let x : IsStep (areas_of (seen c.args.machine.now)) _ (state_of (seen c.advance.new.machine)) (state_of (seen c.step.new.self))
+    (Stops (Stop.Fault c.in-Fault.fault)) =
     step_at _ _ _ _ _ _ there c.in-Fault.ensures.state c.in-Fault.ensures.event c.in-Fault.ensures.full in (
       will,
-      watched (stopped_at q _ _ _ x) c.finish-in-Fault.result _ _ _ (λ k. Refuses) (omega (arith, i.counted, c.advance.ensures.few)) c.finish-in-Fault.ensures.written
-          (either_end (ending.Fault c.in-Fault.fault) _ _ _ _ _ c.finish-in-Fault.ensures.same (refl, over_at x)) _ _ (all_begun (ending.Fault c.in-Fault.fault) _ _ c.finish-in-Fault.ensures.same refl) tally,
+      watched (stopped_at q _ _ _ x) c.finish-in-Fault.result _ _ _ (λ k. Refuses) (omega (arith, i.counted, c.advance.ensures.few))
+          c.finish-in-Fault.ensures.written
+          (either_end (ending.Fault c.in-Fault.fault) _ _ _ _ _ c.finish-in-Fault.ensures.same (refl, over_at x)) _ _
+          (all_begun (ending.Fault c.in-Fault.fault) _ _ c.finish-in-Fault.ensures.same refl) tally,
     )
 
 pub returns-clause-watched : goal.returns-clause-watched
@@ -276,36 +301,54 @@ returns-clause-watched g c = λ is.
     let i = c.steps.invariant in (
       (i.saw is).0,
       watched i.progress c.finish-2.result _ _ _ (λ k. Refuses) (omega (arith, i.counted)) c.finish-2.ensures.written
-          (either_end ending.StepLimit _ _ _ _ _ c.finish-2.ensures.same (refl, omega (arith, i.counted), λ some. ⊎_elim (λ none. absurd (omega (arith, none, some, i.counted))) (λ runs. runs) i.going)) _ _ (all_begun ending.StepLimit _ _ c.finish-2.ensures.same refl) (i.saw is).1,
+          (either_end ending.StepLimit _ _ _ _ _ c.finish-2.ensures.same
+          (refl, omega (arith, i.counted), λ some. ⊎_elim (λ none. absurd (omega (arith, none, some, i.counted))) (λ runs. runs) i.going)) _ _
+          (all_begun ending.StepLimit _ _ c.finish-2.ensures.same refl) (i.saw is).1,
     )
 
 pub returns-then-is_err-clause-memory : goal.returns-then-is_err-clause-memory
-returns-then-is_err-clause-memory g c = λ never before. (λ is. absurd (cc), (c.in-Put.ensures.memory never (keeps_memory _ _ _ _ c.advance.ensures.quiet (c.steps.invariant.memory never before))).0)
+returns-then-is_err-clause-memory g c = λ never before.
+    (λ is. absurd (cc), (c.in-Put.ensures.memory never (keeps_memory _ _ _ _ c.advance.ensures.quiet (c.steps.invariant.memory never before))).0)
 
 pub returns-then-is_err-2-clause-memory : goal.returns-then-is_err-2-clause-memory
-returns-then-is_err-2-clause-memory g c = λ never before. (λ is. absurd (cc), (c.in-Get.ensures.memory never (keeps_memory _ _ _ _ c.advance.ensures.quiet (c.steps.invariant.memory never before))).0)
+returns-then-is_err-2-clause-memory g c = λ never before.
+    (λ is. absurd (cc), (c.in-Get.ensures.memory never (keeps_memory _ _ _ _ c.advance.ensures.quiet (c.steps.invariant.memory never before))).0)
 
 pub returns-in-Err-clause-memory : goal.returns-in-Err-clause-memory
-returns-in-Err-clause-memory g c = λ never before. (λ is. absurd (cc), (c.in-Get.ensures.memory never (keeps_memory _ _ _ _ c.advance.ensures.quiet (c.steps.invariant.memory never before))).0)
+returns-in-Err-clause-memory g c = λ never before.
+    (λ is. absurd (cc), (c.in-Get.ensures.memory never (keeps_memory _ _ _ _ c.advance.ensures.quiet (c.steps.invariant.memory never before))).0)
 
 pub returns-in-Ended-clause-memory : goal.returns-in-Ended-clause-memory
 returns-in-Ended-clause-memory g c =
-    λ never before. (isnt_memory _ _ c.finish.ensures.same refl, (c.in-Ended.ensures.memory never (keeps_memory _ _ _ _ c.advance.ensures.quiet (c.steps.invariant.memory never before))).0)
+    λ never before. (
+      isnt_memory _ _ c.finish.ensures.same refl,
+      (c.in-Ended.ensures.memory never (keeps_memory _ _ _ _ c.advance.ensures.quiet (c.steps.invariant.memory never before))).0,
+    )
 
 pub returns-in-Raised-clause-memory : goal.returns-in-Raised-clause-memory
 returns-in-Raised-clause-memory g c =
-    λ never before. (isnt_memory _ _ c.finish-in-Raised.ensures.same refl, (c.in-Raised.ensures.memory never (keeps_memory _ _ _ _ c.advance.ensures.quiet (c.steps.invariant.memory never before))).0)
+    λ never before. (
+      isnt_memory _ _ c.finish-in-Raised.ensures.same refl,
+      (c.in-Raised.ensures.memory never (keeps_memory _ _ _ _ c.advance.ensures.quiet (c.steps.invariant.memory never before))).0,
+    )
 
 pub returns-in-Exhausted-clause-memory : goal.returns-in-Exhausted-clause-memory
 returns-in-Exhausted-clause-memory g c =
-    λ never before. (isnt_memory _ _ c.finish-in-Exhausted.ensures.same refl, (c.in-Exhausted.ensures.memory never (keeps_memory _ _ _ _ c.advance.ensures.quiet (c.steps.invariant.memory never before))).0)
+    λ never before. (
+      isnt_memory _ _ c.finish-in-Exhausted.ensures.same refl,
+      (c.in-Exhausted.ensures.memory never (keeps_memory _ _ _ _ c.advance.ensures.quiet (c.steps.invariant.memory never before))).0,
+    )
 
 pub returns-in-Fault-clause-memory : goal.returns-in-Fault-clause-memory
 returns-in-Fault-clause-memory g c =
-    λ never before. (isnt_memory _ _ c.finish-in-Fault.ensures.same refl, (c.in-Fault.ensures.memory never (keeps_memory _ _ _ _ c.advance.ensures.quiet (c.steps.invariant.memory never before))).0)
+    λ never before. (
+      isnt_memory _ _ c.finish-in-Fault.ensures.same refl,
+      (c.in-Fault.ensures.memory never (keeps_memory _ _ _ _ c.advance.ensures.quiet (c.steps.invariant.memory never before))).0,
+    )
 
 pub returns-in-HostMemory-clause-memory : goal.returns-in-HostMemory-clause-memory
-returns-in-HostMemory-clause-memory g c = λ never before. absurd ((c.in-HostMemory.ensures.memory never (keeps_memory _ _ _ _ c.advance.ensures.quiet (c.steps.invariant.memory never before))).1 refl)
+returns-in-HostMemory-clause-memory g c = λ never before.
+    absurd ((c.in-HostMemory.ensures.memory never (keeps_memory _ _ _ _ c.advance.ensures.quiet (c.steps.invariant.memory never before))).1 refl)
 
 pub returns-clause-memory : goal.returns-clause-memory
 returns-clause-memory g c = λ never before. (isnt_memory _ _ c.finish-2.ensures.same refl, c.steps.invariant.memory never before)

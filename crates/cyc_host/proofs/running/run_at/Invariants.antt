@@ -2,7 +2,7 @@ use Rattle.std.proofs.Common.{◌≡◌, ℕ, ◌+◌, ◌⊎◌, false, true, L
 use Rattle.rv32_machine.specs.Arrays.{areas_of, arrays, state_of}
 use Rattle.rv32_machine.specs.State.{State, Runs}
 use Rattle.rv32_machine.specs.Served.{lacks}
-use Rattle.cyc_host.specs.Watched.{taken_in}
+use Rattle.cyc_host.specs.Watched.{AreTakenIn}
 use Rattle.cyc_host.proofs.Progress.{Progress}
 use Rattle.cyc_host.proofs.running.run_at.Given as goal
 
@@ -20,7 +20,8 @@ invariant-steps g l =
       going : (count ≡ 0) ⊎ ((state_of (seen l.machine)).mode ≡ Runs);
       progress : Progress (areas_of (seen l.fn.machine)) (state_of (seen l.fn.machine)) count l.is_over (state_of (seen l.machine))
           (g.R.Read.remaining l.fn.reader) (g.R.Read.remaining l.reader) (g.W.Write.contents l.fn.writer) (g.W.Write.contents l.writer) l.gathered states;
-      saw : g.P.Pace.sees l.fn.pace ≡ true → (g.P.Pace.sees l.pace ≡ true) × (g.P.Pace.tally l.pace ≡ taken_in (g.P.Pace.tally l.fn.pace) states);
+      saw : g.P.Pace.sees l.fn.pace ≡ true → (g.P.Pace.sees l.pace ≡ true)
+          × AreTakenIn states (g.P.Pace.tally l.fn.pace) (g.P.Pace.tally l.pace) (g.P.Pace.known l.fn.pace) (g.P.Pace.known l.pace);
     }
 
 abbrev pub decreases-steps : goal.decreases-steps

@@ -21,4 +21,5 @@ returns-clause-implemented c =
     c.in-Ok-lay_out.ensures.statics c.in-Ok-lay_out.ensures.implemented
 
 pub returns-in-Err-lay_out-clause-refused : goal.returns-in-Err-lay_out-clause-refused
-returns-in-Err-lay_out-clause-refused c = codeless_image c.in-Err-lay_out.fault c.args.text.now c.in-Ok.checked c.in-Ok.ensures.accepted c.in-Err-lay_out.ensures.refused
+returns-in-Err-lay_out-clause-refused c = codeless_image c.in-Err-lay_out.fault c.args.text.now c.in-Ok.checked c.in-Ok.ensures.accepted
+    c.in-Err-lay_out.ensures.refused

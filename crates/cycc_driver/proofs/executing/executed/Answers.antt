@@ -1,4 +1,4 @@
-use Rattle.std.proofs.Common.{◌≡◌, ℕ, ◌/◌, List, length, inl, inr, sym, ap, ◌∙◌, subst, refl}
+use Rattle.std.proofs.Common.{◌≡◌, ℕ, inl, inr, sym, ap, ◌∙◌, subst, refl}
 use Rattle.arena_laws.specs.Holdings.{Holdings, fresh}
 use Rattle.cyc_image.specs.Format.{Contents, IsImage}
 use Rattle.rv32_machine.specs.Arrays.{IsStart, arrays, state_of}
@@ -25,7 +25,8 @@ returns-clause-run g c =
     subst (λ parts. IsStart parts held arena start) same c.in-Ok-new-2.ensures.starts in
     let starts : IsStart made.parts (fresh c.args.limits.pages) arena start =
     subst (λ (h : Holdings). IsStart made.parts h arena start) c.in-Ok-new.ensures.made with_parts in
-    text_run c.args.text.now c.in_ok-bytes.bytes.items c.args.limits.pages c.args.limits.stack_pages c.args.limits.steps c.run_watched-ending.result made arena start blank starts (state_of end)
+    text_run c.args.text.now c.in_ok-bytes.bytes.items c.args.limits.pages c.args.limits.stack_pages c.args.limits.steps c.run_watched-ending.result made arena
+    start blank starts (state_of end)
     c.run_watched-ending.ensures.hosted
 
 pub returns-clause-watched : goal.returns-clause-watched
@@ -53,7 +54,7 @@ returns-clause-watched g c = λ is.
       start = start;
       starts = starts;
       end = state_of end;
-      watched = begun_alike (begun.1 ∙ ap (λ (xs : List ℕ). nothing (length xs / 4)) (c.code.ensures.code ∙ ap (λ (p : Contents). p.code) same))
+      watched = begun_alike (begun.1.0 ∙ ap nothing (c.code.ensures.code ∙ ap (λ (p : Contents). p.code) same)) begun.1.1
           (c.run_watched-ending.ensures.watched begun.0).1;
     }
 

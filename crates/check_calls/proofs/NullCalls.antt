@@ -1,6 +1,7 @@
 -- Calls all of whose arguments are `NULL`: what no argument fixes is one region.
 use Rattle.std.specs.Prelude.{map, nat_eq, option_map, replicate, ◌&&◌, ◌++◌}
-use Rattle.std.proofs.Common.{◌≡◌, ℕ, zero, suc, true, Option, Some, None, List, [], ◌∷◌, refl, sym, ◌∙◌, ap, arith, length, true≢false, drop, get_or, ◌+◌, ◌<◌, ◌≤◌}
+use Rattle.std.proofs.Common.{◌≡◌, ℕ, zero, suc, true, Option, Some, None, List, [], ◌∷◌, refl, sym, ◌∙◌, ap, arith, length, true≢false, drop, get_or, ◌+◌, ◌<◌}
+use Rattle.std.proofs.Common.{◌≤◌}
 use Rattle.std.proofs.lemmas.List.{drop_all}
 use Rattle.source_typing.specs.Calls.{
   ToFunction,
@@ -37,25 +38,12 @@ use Rattle.check_regions.specs.Once.{HaveSame}
 use Rattle.check_calls.specs.Fitted.{parameter_types}
 use Rattle.check_calls.specs.Fixings.{first_fixing, of_fit, or_else}
 use Rattle.check_calls.specs.Nulls.{AreNulls, IsLiveAround, is_null_to, takes_null}
+use Rattle.source_typing.proofs.OperatorsFit.{null_is}
 use Rattle.check_calls.proofs.Entering.{once_ordered}
 use Rattle.check_calls.proofs.Fixes.{first_both}
 use Rattle.check_calls.proofs.Places.{none_of}
 
 -- ---- the arguments in code
-
-null_is : (t : StaticType) → is_null t ≡ true → t ≡ Null
-null_is Null h = refl
-null_is Int h = absurd (true≢false (sym h))
-null_is Unsigned h = absurd (true≢false (sym h))
-null_is Char h = absurd (true≢false (sym h))
-null_is Void h = absurd (true≢false (sym h))
-null_is (Thin n r t) h = absurd (true≢false (sym h))
-null_is (Fat r t) h = absurd (true≢false (sym h))
-null_is (Unique n t) h = absurd (true≢false (sym h))
-null_is (Handle r) h = absurd (true≢false (sym h))
-null_is (Key r) h = absurd (true≢false (sym h))
-null_is (Struct tag rs) h = absurd (true≢false (sym h))
-null_is (Union tag rs) h = absurd (true≢false (sym h))
 
 nulls_here : (i : ℕ) (ps : List (Option CType)) (vs : List code.Value) (d : Option CType) (e : code.Value) → i < length ps → i < length vs
     → is_null_to (get_or ps i d, get_or vs i e) ≡ true → AreNulls (parameter_types (drop (suc i) ps)) (map value_of (drop (suc i) vs))

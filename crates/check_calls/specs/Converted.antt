@@ -1,4 +1,4 @@
--- Conversions of a call's arguments in code, as the rules say them.
+-- View of code: conversions of a call's arguments in code, as the rules say them.
 use Rattle.std.specs.Prelude.{Bool, List, None, Option, Some, false, not, true, ℕ, ◌||◌, if◌then◌else◌, nat_eq, [], ◌∷◌, ◌++◌}
 use Rattle.std.specs.declared.alloc.Global.{Global}
 use Rattle.std.specs.declared.vec.Vec.{Vec}

@@ -1,4 +1,4 @@
--- The `rnew` around a call in code, as the rules say it.
+-- View of code: the `rnew` around a call in code, as the rules say it.
 use Rattle.cyc_types.specs.Regions.{region_of}
 use Rattle.source_typing.specs.Scope.{Enclosing, InRegion, InUnique, NotKnown}
 use Rattle.check_calls.specs.declared.enclosing.Enclosing as code

@@ -1,4 +1,4 @@
--- Regions of a parameter's type with those of an argument's, by the pointers of both in code.
+-- View of code: regions of a parameter's type with those of an argument's, by the pointers of both in code.
 use Rattle.std.specs.Prelude.{List, None, Some, length, map, nat_eq, option_map, ℕ, if◌then◌else◌, [], ◌∷◌, ◌++◌, Option}
 use Rattle.cyc_types.specs.Bases.{base_type}
 use Rattle.cyc_types.specs.Regions.{region_of}

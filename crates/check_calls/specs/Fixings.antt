@@ -1,4 +1,4 @@
--- What is known of the region variables of a call while its arguments are looked at, as the rules say it.
+-- View of code: what is known of the region variables of a call while its arguments are looked at, as the rules say it.
 use Rattle.std.specs.Prelude.{List, None, Option, Some, map, option_map, suc, zero, ℕ, [], ◌∷◌, ◌++◌}
 use Rattle.cyc_types.specs.Regions.{region_of}
 use Rattle.source_typing.specs.Faults.{Fault, fault, region_rule}

@@ -1,4 +1,4 @@
--- Whether something holds of all regions of a type, by its pointers in code.
+-- View of code: whether something holds of all regions of a type, by its pointers in code.
 use Rattle.std.specs.Prelude.{Bool, true}
 use Rattle.cyc_types.specs.Regions.{region_of}
 use Rattle.cyc_types.specs.declared.layer.Layer.{Layer}

@@ -1,4 +1,4 @@
--- Calls all of whose arguments are `NULL`, so that none of them fixes a region variable.
+-- View of code: calls all of whose arguments are `NULL`, so that none of them fixes a region variable.
 use Rattle.std.specs.Prelude.{◌≡◌, Bool, List, Option, Some, false, option_map, true, ◌&&◌, [], ◌∷◌, ⊤}
 use Rattle.cyc_types.specs.Types.{static_type}
 use Rattle.cyc_types.specs.declared.ctype.CType.{CType}

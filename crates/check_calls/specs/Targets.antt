@@ -1,4 +1,4 @@
--- What is called in code, as the rules say it.
+-- View of code: what is called in code, as the rules say it.
 use Rattle.std.specs.Prelude.{None, Option, Some}
 use Rattle.cyc_types.specs.Tags.{tag_of}
 use Rattle.source_typing.specs.Calls.{Target, ToBuiltin, ToFunction, ToStruct}

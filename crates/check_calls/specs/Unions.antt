@@ -1,4 +1,4 @@
--- A member of a union that a value is made of in code, as the rules say it.
+-- View of code: a member of a union that a value is made of in code, as the rules say it.
 use Rattle.std.specs.Prelude.{None, Option, Some}
 use Rattle.cyc_tree.specs.Tree.{Name}
 use Rattle.cyc_types.specs.Tags.{member_of, tag_of}

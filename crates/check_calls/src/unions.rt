@@ -5,7 +5,7 @@ ghost use Rattle.cyc_tree.specs.View.{name_tree};
 ghost use Rattle.cyc_types.specs.Regions.{regions_of};
 ghost use Rattle.cyc_types.specs.Sameness.{HasTags};
 ghost use Rattle.cyc_types.specs.Tables.{tables_of};
-ghost use Rattle.cyc_types.specs.Tags.{member_of, members_of, tag_of};
+ghost use Rattle.cyc_types.specs.Tags.{member_of, tag_of};
 ghost use Rattle.check_operators.specs.Values.{value_of};
 ghost use Rattle.check_scopes.specs.Knows.{Sees};
 ghost use Rattle.check_scopes.specs.Means.{Means, meaning_of};
@@ -13,7 +13,7 @@ ghost use Rattle.check_scopes.specs.declared.meaning.Meaning.TheVariants as code
 ghost use Rattle.source_typing.specs.Calls.{union_made, union_member, union_tag};
 ghost use Rattle.source_typing.specs.Regions.{Region};
 ghost use Rattle.source_typing.specs.Scope.{Env, meant, value};
-ghost use Rattle.source_typing.specs.Tables.{Entry, part_in, tag_in};
+ghost use Rattle.source_typing.specs.Tables.{Entry, tag_in};
 ghost use Rattle.source_typing.specs.Types.{Union};
 ghost use Rattle.source_typing.specs.Verdicts as verdict;
 ghost use Rattle.source_typing.specs.Verdicts.{after};
@@ -44,24 +44,17 @@ pub struct UnionMember<'a, 'p> {
     pub member: &'a Member<'p>,
 }
 
-/// The member of this name.
-fn member_named<'a, 'p>(members: &'a [Member<'p>], name: &[u8]) -> Option<&'a Member<'p>>
-    ensures { option_map (λ m. member_of m.now) result ≡ part_in (members_of members.now) name.now }
-{
-    'each: for member in members {
-        if member.name == name {
-            return Some(member);
-        }
-    }
-    None
-}
-
-/// The member of this name in a union.
-fn member_in<'a, 'p>(text: &'p [u8], tag: &'a Tag<'p>, field: &Name) -> Verdict<UnionMember<'a, 'p>>
+/// The member `field` of a union, by what was found of that name.
+fn member_in<'a, 'p>(
+    text: &'p [u8],
+    tag: &'a Tag<'p>,
+    found: Option<&'a Member<'p>>,
+    field: &Name,
+) -> Verdict<UnionMember<'a, 'p>>
     ensures { short_of made_of result ≡ shortened (union_member (name_tree field.now) (tag_of text.entry.now tag.now)
-        (part_in (members_of tag.now.members.items) field.now.text.items)) }
+        (option_map (λ m. member_of m.now) found.entry)) }
 {
-    match member_named(tag.members.as_slice(), field.text.as_slice()) {
+    match found {
         Some(member) => Verdict::Of(UnionMember { text, tag, member }),
         None => Verdict::Wrong(Fault {
             kind: FaultKind::Name,
@@ -79,7 +72,10 @@ fn union_named<'a, 'p>(
     ensures { short_of made_of result ≡ shortened (union_in (name_tree field.now) (tag_in (tables_of tables.now) name.now)) }
 {
     match tables.named(name) {
-        Some((declared, tag)) => member_in(declared, tag, field),
+        Some((declared, tag)) => {
+            let found = tables.member(name, field.text.as_slice());
+            member_in(declared, tag, found, field)
+        }
         None => Verdict::NotJudged,
     }
 }

@@ -1,7 +1,6 @@
 pub mod Aliases
 pub mod Blocks
 pub mod Bodies
-pub mod ByName
 pub mod Declaring
 pub mod LocalTypes
 pub mod Operands
@@ -9,4 +8,5 @@ pub mod Owned
 pub mod Parameters
 pub mod RegionScopes
 pub mod Sizes
+pub mod Switched
 pub mod Unions

@@ -21,7 +21,8 @@ use Rattle.source_typing.specs.Faults.{Fault}
 use Rattle.source_typing.specs.Scope.{Env}
 use Rattle.source_typing.specs.Scope as judged
 use Rattle.source_typing.specs.Tables.{Entry, OfFunction, Tables, has_beginning, tag_in}
-use Rattle.source_typing.specs.Types.{Char, Fat, Handle, Int, Key, Null, PartialType, StaticType, Struct, Thin, Union, Unique, Unsigned, Void, is_element, is_void}
+use Rattle.source_typing.specs.Types.{Char, Fat, Handle, Int, Key, Null, PartialType, StaticType, Struct, Thin, Union, Unique, Unsigned, Void, is_element}
+use Rattle.source_typing.specs.Types.{is_void}
 use Rattle.source_typing.specs.Verdicts as verdict
 use Rattle.check_faults.proofs.Shortened.{after_of, after_unjudged, after_wrong}
 use Rattle.check_faults.specs.Verdicts.{Is, Wrong, fault_found, short_of, shortened, wrong_if}

@@ -1,4 +1,4 @@
--- Declarations of aliases.
+-- View of code: declarations of aliases.
 use Rattle.std.specs.Prelude.{ℕ}
 use Rattle.cyc_tree.specs.Tree.{Alias, Declaration, Name}
 use Rattle.cyc_tree.specs.View.{name_tree, region_tree, type_tree}

@@ -1,4 +1,4 @@
--- When the context in code is that of the rules.
+-- View of code: when the context in code is that of the rules.
 use Rattle.std.specs.Prelude.{List, drop, length, option_map, ℕ, ◌-◌, ◌≡◌}
 use Rattle.cyc_types.specs.Regions.{region_of}
 use Rattle.cyc_types.specs.Types.{static_type}

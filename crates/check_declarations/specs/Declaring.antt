@@ -1,10 +1,11 @@
--- Declarations of locals: which types they may have, and what a declaration gives.
+-- View of code: declarations of locals: which types they may have, and what a declaration gives.
 use Rattle.std.specs.Prelude.{Bool, List, None, Option, Some, false, nat_lt, not, true, ℕ, ◌≡◌, ◌&&◌, ◌||◌, ◌++◌}
 use Rattle.cyc_tree.specs.Tree as tree
 use Rattle.check_scopes.specs.Means.{WhatIs}
 use Rattle.check_scopes.specs.declared.meaning.Meaning.{Meaning}
 use Rattle.check_scopes.specs.declared.meaning.Meaning.TheVariants as meaning
-use Rattle.source_typing.specs.Declarations.{if_sized, opened_region, operand, region_declared, set_faults, set_type, tag_earlier, type_of_alias, unset_type, what_after, what_of, with_region}
+use Rattle.source_typing.specs.Declarations.{if_sized, opened_region, operand, region_declared, set_faults, set_type, tag_earlier, type_of_alias, unset_type}
+use Rattle.source_typing.specs.Declarations.{what_after, what_of, with_region}
 use Rattle.source_typing.specs.Expressions.{judge}
 use Rattle.source_typing.specs.Faults.{Fault, earliest}
 use Rattle.source_typing.specs.Regions.{Region, opened, with_name, with_scope}

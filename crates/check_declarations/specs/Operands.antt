@@ -1,4 +1,4 @@
--- Names that have to be of a kind of type.
+-- View of code: names that have to be of a kind of type.
 use Rattle.std.specs.Prelude.{Bool, Option, Some, false, true}
 use Rattle.cyc_types.specs.declared.layer.Layer.{Layer}
 use Rattle.cyc_types.specs.declared.layer.Layer.TheVariants.{Unique}

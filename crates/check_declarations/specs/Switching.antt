@@ -1,16 +1,14 @@
--- The union of a `switch`, in code and by the rules.
-use Rattle.std.specs.Prelude.{List, None, Option, Some, bytes_eq, option_map, ℕ, ◌≡◌}
-use Rattle.indexmap.specs.IndexMap.{get_by}
+-- View of code: the union of a `switch`, in code and by the rules.
+use Rattle.std.specs.Prelude.{List, None, Option, Some, option_map, ℕ, ◌≡◌}
 use Rattle.cyc_types.specs.Regions.{regions_of}
-use Rattle.cyc_types.specs.Tags.{member_of}
+use Rattle.cyc_types.specs.Tables.{tables_of}
 use Rattle.source_typing.specs.Scope.{Env}
 use Rattle.source_typing.specs.Statements as rules
 use Rattle.source_typing.specs.Statements.{parts_of_chosen}
-use Rattle.source_typing.specs.Tables.{Part, part_in}
+use Rattle.source_typing.specs.Tables.{Part, part_in, parts_in}
 use Rattle.source_typing.specs.Types.{StaticType, Union}
 use Rattle.check_declarations.specs.declared.members.Chosen.{Chosen}
 use Rattle.check_declarations.specs.declared.members.SwitchedUnion.{SwitchedUnion}
-use Rattle.check_declarations.specs.declared.member_names.MemberNames.{MemberNames}
 
 abbrev pub chosen_in : Chosen → rules.Chosen
 chosen_in c = record { tag = c.tag.now; regions = regions_of c.regions.now }
@@ -22,20 +20,12 @@ union_in t = None
 
 -- ---- its members by name
 
-abbrev pub member_named : MemberNames → List ℕ → Option Part
-member_named names x = option_map (λ m. member_of m.now) (get_by (λ key. bytes_eq x key.now) names.by_name)
-
--- a member, or else another
-abbrev pub or_part : Option Part → Option Part → Option Part
-or_part None p = p
-or_part (Some q) p = Some q
-
 abbrev pub switched_in : SwitchedUnion → rules.Chosen
 switched_in u = chosen_in u.chosen
 
 abbrev pub part_named : Option SwitchedUnion → List ℕ → Option Part
 part_named None x = None
-part_named (Some u) x = member_named u.members x
+part_named (Some u) x = part_in (parts_in (tables_of u.tables.now) u.chosen.tag.now) x
 
 -- each name means the member that it means by the rules
 pub record HasParts (g : Env) (u : Option SwitchedUnion) : Type 0 where

@@ -12,7 +12,6 @@ mod declaration;
 mod fitting;
 mod local;
 mod local_types;
-mod member_names;
 mod members;
 mod opening;
 mod operand;

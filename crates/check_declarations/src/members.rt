@@ -19,18 +19,17 @@ ghost use Rattle.check_regions.specs.declared.scope.RegionMark.{RegionMark};
 ghost use Rattle.check_declarations.specs.Contexts.{StandsIn};
 ghost use Rattle.check_declarations.specs.declared.context.Context.{Context};
 ghost use Rattle.check_operators.specs.Values.{value_of};
-ghost use Rattle.check_declarations.specs.Switching.{HasParts, chosen_in, member_named, part_named, switched_in, union_in};
+ghost use Rattle.check_declarations.specs.Switching.{HasParts, chosen_in, part_named, switched_in, union_in};
 ghost use Rattle.source_typing.specs.Scope as judged;
 ghost use Rattle.source_typing.specs.Statements as statements;
 ghost use Rattle.source_typing.specs.Verdicts as verdict;
 
-use crate::member_names::{MemberNames, by_name};
 use check_faults::Verdict;
 use check_operators::{Seat, Value, renamed_type};
 use check_scopes::{Scope, What};
 use cyc_tree::{Name, Pattern};
 use cyc_types::{BaseType, CType, Member, RegionId, Tables};
-use std::alloc::{AllocError, Global};
+use std::alloc::AllocError;
 
 /// The union of a `switch`.
 #[derive(Clone, Copy)]
@@ -40,20 +39,11 @@ pub struct Chosen<'a> {
     regions: &'a [RegionId],
 }
 
-/// The union of a `switch`, with its members by their names.
+/// The union of a `switch`, whose members are in these tables.
+#[derive(Clone, Copy)]
 pub struct SwitchedUnion<'a, 'p> {
     chosen: Chosen<'a>,
-    members: MemberNames<'a, 'p>,
-}
-
-// Written out, so that a caller's proof sees one call and not the drop of each field.
-impl Drop for SwitchedUnion<'_, '_> {
-    fn drop(self) {
-        let SwitchedUnion {
-            chosen: _,
-            members: _members,
-        } = self;
-    }
+    tables: &'a Tables<'p>,
 }
 
 impl<'a, 'p> SwitchedUnion<'a, 'p> {
@@ -61,7 +51,7 @@ impl<'a, 'p> SwitchedUnion<'a, 'p> {
     pub fn member(&self, name: &[u8]) -> Option<&'a Member<'p>>
         ensures { option_map (λ m. member_of m.now) result ≡ part_named (Some self.now) name.now }
     {
-        self.members.member(name)
+        self.tables.member(self.chosen.tag, name)
     }
 }
 
@@ -75,37 +65,17 @@ fn chosen_of<'a>(place: &'a Verdict<Value<'_>>) -> Option<Chosen<'a>>
     }
 }
 
-/// The members of a union by their names.
-fn names_in<'a, 'p>(
-    tables: &'a Tables<'p>,
-    alloc: Global,
-    chosen: Chosen<'_>,
-) -> Result<MemberNames<'a, 'p>, AllocError>
-    ensures { (g : Env) → HasTags tables.entry.now g.tables
-        → IfOk result (λ names. (x : List ℕ) → member_named names x ≡ part_in (parts_of_chosen g (Some (chosen_in chosen.entry))) x) }
-{
-    match tables.tag(chosen.tag) {
-        Some(tag) => by_name(alloc, &tag.members),
-        None => Ok(MemberNames::new(alloc)),
-    }
-}
-
-/// The union of a `switch` on what was judged, with its members by their names, where it is one's place.
+/// The union of a `switch` on what was judged, where it is one's place.
 pub fn union_of<'a, 'p>(
     tables: &'a Tables<'p>,
-    alloc: Global,
     place: &'a Verdict<Value<'_>>,
-) -> Result<Option<SwitchedUnion<'a, 'p>>, AllocError>
-    ensures union { (v : verdict.Verdict judged.Value) → short_of value_of place.entry.now ≡ shortened v
-        → IfOk result (λ u. option_map switched_in u ≡ chosen v) }
-    ensures parts { (g : Env) → HasTags tables.entry.now g.tables → IfOk result (HasParts g) }
+) -> Option<SwitchedUnion<'a, 'p>>
+    ensures union { (v : verdict.Verdict judged.Value) → short_of value_of place.entry.now ≡ shortened v → option_map switched_in result ≡ chosen v }
+    ensures parts { (g : Env) → HasTags tables.entry.now g.tables → HasParts g result }
 {
     match chosen_of(place) {
-        Some(chosen) => {
-            let members = names_in(tables, alloc, chosen)?;
-            Ok(Some(SwitchedUnion { chosen, members }))
-        }
-        None => Ok(None),
+        Some(chosen) => Some(SwitchedUnion { chosen, tables }),
+        None => None,
     }
 }
 

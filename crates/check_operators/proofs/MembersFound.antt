@@ -20,16 +20,16 @@ use Rattle.source_typing.specs.Faults.{type_rule}
 use Rattle.source_typing.specs.Places.{arrow_live, arrow_of, member_of, part_found, part_of}
 use Rattle.source_typing.specs.Regions.{Region}
 use Rattle.source_typing.specs.Scope.{Env, In, InBlock, Nowhere, Seat, is_live}
-use Rattle.source_typing.specs.Tables.{Tag, part_in, parts_of_tag, tag_in}
+use Rattle.source_typing.specs.Tables.{Tag, part_in, parts_in, parts_of_tag}
 use Rattle.source_typing.specs.Types.{StaticType}
 use Rattle.source_typing.specs.Verdicts.{refuse}
 
 -- ---- a member of a tag
 
-pub part_by : (tables : Tables) (g : Env) → HasTags tables g.tables → (at : ℕ) (s : Seat) (tag : List ℕ) (rs : List Region) (f : Name) (t : Option Tag)
-    → t ≡ tag_in (tables_of tables) tag → part_found at s rs f.at (part_in (parts_of_tag t) f.text) ≡ part_of g at s tag rs f
-part_by tables g has at s tag rs f t h =
-    ap (λ o. part_found at s rs f.at (part_in (parts_of_tag o) f.text)) (h ∙ sym (has.tags tag))
+pub part_by : (tables : Tables) (g : Env) → HasTags tables g.tables → (at : ℕ) (s : Seat) (tag : List ℕ) (rs : List Region) (f : Name)
+    → part_found at s rs f.at (part_in (parts_in (tables_of tables) tag) f.text) ≡ part_of g at s tag rs f
+part_by tables g has at s tag rs f =
+    ap (λ (t : Option Tag). part_found at s rs f.at (part_in (parts_of_tag t) f.text)) (sym (has.tags tag))
 
 -- ---- `e.f`
 
@@ -80,7 +80,8 @@ live_arrow : (b : Bool) (g : Env) (f : Name) (at : ℕ) (l : Layer) (r : Region)
 live_arrow true g f at l r tag rs h = ap (λ s. part_of g at s tag rs f) h
 live_arrow false g f at l r tag rs h = refl
 
-base_arrow : (g : Env) (f : Name) (at : ℕ) (l : Layer) (b : BaseType) → arrow_on g f at l (is_reached g l) (base_type b) ≡ arrow_of g f at (pointer_to l (base_type b))
+base_arrow : (g : Env) (f : Name) (at : ℕ) (l : Layer) (b : BaseType)
+    → arrow_on g f at l (is_reached g l) (base_type b) ≡ arrow_of g f at (pointer_to l (base_type b))
 base_arrow g f at (code.Thin n r) (base.Struct tag rs) = live_arrow (is_live g (region_of r)) g f at (code.Thin n r) (region_of r) tag.now _ refl
 base_arrow g f at (code.Fat r) (base.Struct tag rs) = live_arrow (is_live g (region_of r)) g f at (code.Fat r) (region_of r) tag.now _ refl
 base_arrow g f at (code.Unique n) (base.Struct tag rs) = refl

@@ -1,4 +1,4 @@
--- Where a value is made in code, as the rules say it.
+-- View of code: where a value is made in code, as the rules say it.
 use Rattle.std.specs.Prelude.{None, Option, Some}
 use Rattle.cyc_types.specs.Regions.{region_of}
 use Rattle.check_operators.specs.declared.making.Goal as code

@@ -1,4 +1,4 @@
--- Operators by what their operands are.
+-- View of code: operators by what their operands are.
 use Rattle.std.specs.Prelude.{Bool, false, true, ℕ, ◌&&◌}
 use Rattle.cyc_tree.specs.declared.expression.Operator.{Operator}
 use Rattle.source_typing.specs.Faults.{outlives_rule, region_rule}

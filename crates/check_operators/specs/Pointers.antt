@@ -1,4 +1,4 @@
--- What is judged by the outermost pointers of types.
+-- View of code: what is judged by the outermost pointers of types.
 use Rattle.std.specs.Prelude.{Bool, None, Option, Some, false, true, ℕ}
 use Rattle.cyc_types.specs.Regions.{region_of}
 use Rattle.cyc_types.specs.declared.layer.Layer.{Layer}

@@ -1,4 +1,4 @@
--- Members of structs by what is known of tags, and by the outermost pointers of types.
+-- View of code: members of structs by what is known of tags, and by the outermost pointers of types.
 use Rattle.std.specs.Prelude.{Bool, List, false, true, ℕ}
 use Rattle.cyc_tree.specs.Tree.{Name}
 use Rattle.cyc_types.specs.declared.layer.Layer.{Layer}

@@ -1,4 +1,4 @@
--- Kinds of types that operators and assignments ask for.
+-- View of code: kinds of types that operators and assignments ask for.
 use Rattle.std.specs.Prelude.{Bool, None, Option, Some, false, true}
 use Rattle.cyc_types.specs.declared.layer.Layer.{Layer}
 use Rattle.cyc_types.specs.declared.layer.Layer.TheVariants as pointer

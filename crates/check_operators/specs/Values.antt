@@ -1,4 +1,4 @@
--- What an expression is in code, as the rules say it.
+-- View of code: what an expression is in code, as the rules say it.
 use Rattle.cyc_types.specs.Regions.{region_of}
 use Rattle.cyc_types.specs.Types.{static_type}
 use Rattle.check_operators.specs.declared.value.Seat.{Seat}

@@ -5,14 +5,13 @@ ghost use Rattle.cyc_tree.specs.View.{name_tree};
 ghost use Rattle.cyc_types.specs.Bases.{base_type};
 ghost use Rattle.cyc_types.specs.Regions.{regions_of};
 ghost use Rattle.cyc_types.specs.Sameness.{HasTags};
-ghost use Rattle.cyc_types.specs.Tags.{member_of, members_of};
+ghost use Rattle.cyc_types.specs.Tags.{member_of};
 ghost use Rattle.cyc_types.specs.Types.{static_type};
 ghost use Rattle.check_operators.specs.StructMembers.{arrow_on, member_on};
 ghost use Rattle.check_operators.specs.Values.{seat_of, value_of};
 ghost use Rattle.check_scopes.specs.Knows.{Sees};
-ghost use Rattle.source_typing.specs.Places.{arrow, member, part_found, part_of, part_typed};
+ghost use Rattle.source_typing.specs.Places.{arrow, member, part_of, part_typed};
 ghost use Rattle.source_typing.specs.Scope.{Env};
-ghost use Rattle.source_typing.specs.Tables.{part_in};
 ghost use Rattle.check_faults.specs.Verdicts.{short_of, shortened};
 
 use crate::prefix::{is_reached, seat_behind};
@@ -42,27 +41,6 @@ fn typed_part<'p>(
     }
 }
 
-/// The member of a name, of a struct with these region arguments.
-fn named_part<'p>(
-    at: u32,
-    seat: Seat,
-    regions: &[RegionId],
-    members: &[Member<'p>],
-    name: &[u8],
-    field: u32,
-) -> Result<Verdict<Value<'p>>, AllocError>
-    ensures { IfOk result (λ v. short_of value_of v
-        ≡ shortened (part_found at (seat_of seat) (regions_of regions.now) field (part_in (members_of members.now) name.now))) }
-{
-    'each: for member in members {
-        if member.name == name {
-            let found = typed_part(at, seat, regions, member)?;
-            return Ok(found);
-        }
-    }
-    Ok(refused(FaultKind::Name, field))
-}
-
 /// A member of a struct by its tag, with these region arguments.
 fn part_of<'p>(
     tables: &Tables<'p>,
@@ -75,9 +53,9 @@ fn part_of<'p>(
     ensures { (g : Env) → HasTags tables.now g.tables → IfOk result (λ v. short_of value_of v
         ≡ shortened (part_of g at (seat_of seat) tag.now (regions_of regions.now) (name_tree field.now))) }
 {
-    match tables.tag(tag) {
-        Some(found) => {
-            let part = named_part(at, seat, regions, &found.members, &field.text, field.at)?;
+    match tables.member(tag, &field.text) {
+        Some(member) => {
+            let part = typed_part(at, seat, regions, member)?;
             Ok(part)
         }
         None => Ok(refused(FaultKind::Name, field.at)),

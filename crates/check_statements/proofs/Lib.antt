@@ -1,3 +1,4 @@
 pub mod Blocks
 pub mod Clauses
 pub mod Exchanging
+pub mod Repeated

@@ -1,4 +1,4 @@
--- How statements may be left, in code and by the rules.
+-- View of code: how statements may be left, in code and by the rules.
 use Rattle.std.specs.Prelude.{Bool, true}
 use Rattle.cyc_tree.specs.View.{OneItem}
 use Rattle.source_typing.specs.Ways.{Ways, ways, ways_of}

@@ -1,4 +1,4 @@
--- Statements without others in them.
+-- View of code: statements without others in them.
 use Rattle.std.specs.Prelude.{Bool, false, true}
 use Rattle.cyc_tree.specs.Tree.{Statement}
 

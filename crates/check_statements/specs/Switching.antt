@@ -1,13 +1,13 @@
--- The clauses of a `switch`, in code and by the rules.
-use Rattle.std.specs.Prelude.{Bool, List, Option, bytes_eq, false, nat_eq, nat_le, not, true, unwrap_or, ℕ, ◌&&◌, ◌||◌, ◌++◌, [], ◌∷◌}
+-- View of code: the clauses of a `switch`, in code and by the rules.
+use Rattle.std.specs.Prelude.{Bool, List, Option, bytes_eq, false, is_none, nat_eq, nat_le, not, true, unwrap_or, ℕ, ◌&&◌, ◌||◌, ◌++◌, [], ◌∷◌}
 use Rattle.indexmap.specs.IndexMap.{get_by}
-use Rattle.cyc_tree.specs.Tree.{Case, Default, Pattern}
+use Rattle.cyc_tree.specs.Tree.{Case, Clauses, Default, MoreClauses, NoClauses, Pattern}
 use Rattle.cyc_tree.specs.View.{OneClause}
 use Rattle.source_typing.specs.Faults.{Fault, own_after, test, type_rule}
 use Rattle.source_typing.specs.Scope.{Env}
 use Rattle.source_typing.specs.Statements.{clause_names, clause_scope, items_faults}
 use Rattle.source_typing.specs.Statements as rules
-use Rattle.source_typing.specs.Tables.{Part}
+use Rattle.source_typing.specs.Tables.{Part, part_in}
 use Rattle.source_typing.specs.Ways.{ways_of_items}
 use Rattle.check_statements.specs.declared.name_times.NameTimes.{NameTimes}
 
@@ -30,6 +30,16 @@ abbrev pub all_counted : (List ℕ → ℕ) → List Part → Bool → Bool
 all_counted times [] has_default = true
 all_counted times (p ∷ ps) has_default =
     nat_le (times p.name) 1 && (has_default || nat_eq (times p.name) 1) && all_counted times ps has_default
+
+-- whether a pattern names a member that was counted at most once, or none of these members
+abbrev pub is_once : (List ℕ → ℕ) → List Part → Pattern → Bool
+is_once times ps (Case f x) = nat_le (times f.text) 1 || is_none (part_in ps f.text)
+is_once times ps Default = true
+
+-- each clause does
+abbrev pub none_repeated : (List ℕ → ℕ) → List Part → Clauses → Bool
+none_repeated times ps NoClauses = true
+none_repeated times ps (MoreClauses at p body others) = is_once times ps p && none_repeated times ps others
 
 -- the faults of one clause: those of its pattern and of its block, or else that its end is reached
 abbrev pub clause_faults : Env → Bool → Option rules.Chosen → OneClause → List Fault

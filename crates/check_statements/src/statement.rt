@@ -93,7 +93,7 @@ fn statement_fault<'p>(
         }
         Statement::Switch(at, place, clauses) => {
             let place = judge(scope, alloc, place)?;
-            let union = union_of(scope.tables, alloc, &place)?;
+            let union = union_of(scope.tables, &place);
             let inner = context.switching();
             let inside = clauses_fault(scope, names, alloc, inner, reached, &union, clauses)?;
             switch_fault(scope.tables, alloc, *at, &place, clauses, inside)

@@ -72,7 +72,8 @@ pointers_convert g (code.Unique n) (code.Unique m) t u b h = refl
 
 pub both_pointers : (g : Regions) (ls ks : List Layer) (t u : StaticType) (l k : Layer) (outlives : Bool) → outermost ls ≡ Some l → outermost ks ≡ Some k
     → outer_ordered g outlives (outermost ls) (outermost ks) ≡ outlives
-    → pointer_rule l k (compare (pointed t (take (length ls - 1) ls)) (pointed u (take (length ks - 1) ks))) outlives ≡ conversion g (pointed t ls) (pointed u ks)
+    → pointer_rule l k (compare (pointed t (take (length ls - 1) ls)) (pointed u (take (length ks - 1) ks))) outlives ≡ conversion g (pointed t ls)
+    (pointed u ks)
 both_pointers g ls ks t u l k outlives first second h =
     pointers_convert g l k (pointed t (take (length ls - 1) ls)) (pointed u (take (length ks - 1) ks)) outlives
     (sym (ap (λ o. outer_ordered g outlives o (outermost ks)) first ∙ ap (outer_ordered g outlives (Some l)) second) ∙ h)
@@ -110,7 +111,8 @@ from_pointer g (code.Thin n r) t (base.Union tag rs) = refl
 from_pointer g (code.Fat r) t (base.Union tag rs) = refl
 from_pointer g (code.Unique n) t (base.Union tag rs) = refl
 
-to_pointer : (g : Regions) (b : BaseType) (k : Layer) (u : StaticType) → is_null (base_type b) ≡ false → conversion g (base_type b) (pointer_to k u) ≡ Some type_rule
+to_pointer : (g : Regions) (b : BaseType) (k : Layer) (u : StaticType) → is_null (base_type b) ≡ false
+    → conversion g (base_type b) (pointer_to k u) ≡ Some type_rule
 to_pointer g base.Int (code.Thin n r) u h = refl
 to_pointer g base.Int (code.Fat r) u h = refl
 to_pointer g base.Int (code.Unique n) u h = refl
@@ -137,7 +139,8 @@ to_pointer g (base.Union tag rs) (code.Thin n r) u h = refl
 to_pointer g (base.Union tag rs) (code.Fat r) u h = refl
 to_pointer g (base.Union tag rs) (code.Unique n) u h = refl
 
-null_to_pointer : (g : Regions) (b : BaseType) (k : Layer) (u : StaticType) → is_null (base_type b) ≡ true → conversion g (base_type b) (pointer_to k u) ≡ null_rule k
+null_to_pointer : (g : Regions) (b : BaseType) (k : Layer) (u : StaticType) → is_null (base_type b) ≡ true
+    → conversion g (base_type b) (pointer_to k u) ≡ null_rule k
 null_to_pointer g base.Int k u h = absurd (true≢false (sym h))
 null_to_pointer g base.Unsigned k u h = absurd (true≢false (sym h))
 null_to_pointer g base.Char k u h = absurd (true≢false (sym h))

@@ -58,7 +58,8 @@ none_again (n ∷ ns) before x h =
         sym (alone_as n n.entry false others [] x refl (other_name n.name x before false e (λ f. true≢false (sym h ∙ f)))
         (λ f. absurd (true≢false (sym f))) (λ f. sym next))
 
-pub found_first : (g : Tables) (before : List (List ℕ)) (x : List ℕ) → is_named_before before x ≡ false → tag_in g x ≡ tag_in (tags_alone (meant_first before g)) x
+pub found_first : (g : Tables) (before : List (List ℕ)) (x : List ℕ) → is_named_before before x ≡ false
+    → tag_in g x ≡ tag_in (tags_alone (meant_first before g)) x
 found_first [] before x h = refl
 found_first (n ∷ ns) before x h =
     by (is_named_before before n.name) refl (found_first ns before x h)

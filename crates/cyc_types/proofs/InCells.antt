@@ -10,13 +10,15 @@ use Rattle.source_meaning.specs.Sizes.{Extent, extent_by, laid_out, largest, no_
 use Rattle.source_typing.specs.Extents.{fits_bytes, known_shape, layouts_of, layouts_onto, part_shapes}
 use Rattle.source_typing.specs.Tables.{Part, each_part, if_known}
 use Rattle.source_typing.specs.Types.{Char, Fat, Handle, Int, Key, Null, StaticType, Struct, Thin, Union, Unique, Unsigned, Void, same_bool, shape_of}
-use Rattle.cyc_types.specs.Cells.{KindAt, cells_found, cells_in, found_cells, kept_with, kind_placed, known_cells, no_cells_of, part_cells, quick_cells, spread, struct_cells, with_tag}
+use Rattle.cyc_types.specs.Cells.{KindAt, cells_found, cells_in, found_cells, kept_with, kind_placed, known_cells, no_cells_of, part_cells, quick_cells, spread}
+use Rattle.cyc_types.specs.Cells.{struct_cells, with_tag}
 use Rattle.cyc_types.specs.InOrder.{are_known, is_known}
 use Rattle.cyc_types.specs.Known.{Entry, entries_of, found, is_declared, named_by}
 use Rattle.cyc_types.specs.Measures.{bytes_with, extent_in, limited, quick_measure, quick_tag, stored, struct_measure, union_bytes}
 use Rattle.cyc_types.specs.Tags.{members_of}
 use Rattle.cyc_types.specs.declared.tag.Known.{Known}
-use Rattle.cyc_types.proofs.InLayouts.{AllUnions, DeclaredUnions, HasStructs, all_unions, declared_unions, has_unions, largest_small, layout_of, layouts_known, members, next_struct, one_more, part_measure, same_as, struct_bytes, union_fits, union_parts}
+use Rattle.cyc_types.proofs.InLayouts.{AllUnions, DeclaredUnions, HasStructs, all_unions, declared_unions, has_unions, largest_small, layout_of, layouts_known}
+use Rattle.cyc_types.proofs.InLayouts.{members, next_struct, one_more, part_measure, same_as, struct_bytes, union_fits, union_parts}
 use Rattle.cyc_types.proofs.InOrder.{facts, is_nothing, same_bytes}
 use Rattle.cyc_types.proofs.Measured.{if_fits, if_over}
 use Rattle.cyc_types.proofs.PlacedCells.{EachPlaced, fitting, placed_as}
@@ -125,7 +127,8 @@ module _ (unions ls : List Layout) (acc after : List Entry) (structs : HasStruct
       ∙ ap (λ b. cond b (Some (union_bytes (members e))) (struct_measure acc (members e))) h) in
       let here : fitting laid (map kind_placed placed_all) ≡ known_cells all so_far e.1 =
       fitting_kept laid (stored e.1) (map kind_placed placed_all) (struct_cells all so_far (members e)) (fits_bytes laid.size) refl measure
-      (λ fits. placed_as extent placed (quick_measure all) (quick_cells so_far) (members e) (no_extent tag) fits (each_placed fit cells (members e) of.declared))
+      (λ fits. placed_as extent placed (quick_measure all) (quick_cells so_far) (members e) (no_extent tag) fits
+      (each_placed fit cells (members e) of.declared))
       ∙ sym (ap (λ b. cond b [] (kept_with (stored e.1) (struct_cells all so_far (members e)))) h) in
       fitting_either (bytes_eq e.0.now tag) laid (struct_extent unions ls tag) placed_all (struct_placed unions ls tag)
       ∙ ap (λ b. cond b (fitting laid (map kind_placed placed_all)) (fitting (struct_extent unions ls tag) (map kind_placed (struct_placed unions ls tag))))

@@ -11,7 +11,8 @@ use Rattle.source_typing.specs.Tables.{OfTag, Part, each_part, if_known}
 use Rattle.source_typing.specs.Types.{Char, Fat, Handle, Int, Key, Null, StaticType, Struct, Thin, Union, Unique, Unsigned, Void, same_bool, shape_of}
 use Rattle.cyc_types.specs.InOrder.{are_known, is_known}
 use Rattle.cyc_types.specs.Known.{Entry, entries_of, found, is_declared, named_by}
-use Rattle.cyc_types.specs.Measures.{bytes_and, bytes_with, extent_in, limited, part_extent, quick_measure, quick_tag, same_measure, scalar_bytes, stored, struct_if, struct_measure, union_bytes, union_if}
+use Rattle.cyc_types.specs.Measures.{bytes_and, bytes_with, extent_in, limited, part_extent, quick_measure, quick_tag, same_measure, scalar_bytes, stored}
+use Rattle.cyc_types.specs.Measures.{struct_if, struct_measure, union_bytes, union_if}
 use Rattle.cyc_types.specs.Tags.{members_of, tag_of}
 use Rattle.cyc_types.specs.declared.tag.Known.{Known}
 use Rattle.cyc_types.proofs.InOrder.{facts, found_here, known_at, same_bytes, split}

@@ -1,5 +1,6 @@
 -- What is known of structs and unions in order is what the rules say of them.
-use Rattle.std.proofs.Common.{◌≡◌, ℕ, ◌<◌, ◌≤◌, ◌+◌, Bool, true, false, Bor, List, [], ◌∷◌, ◌++◌, length, refl, sym, ap, subst, ◌∙◌, arith, suc, zero, cond, true≢false, length-append}
+use Rattle.std.proofs.Common.{◌≡◌, ℕ, ◌<◌, ◌≤◌, ◌+◌, Bool, true, false, Bor, List, [], ◌∷◌, ◌++◌, length, refl, sym, ap, subst, ◌∙◌, arith, suc, zero, cond}
+use Rattle.std.proofs.Common.{true≢false, length-append}
 use Rattle.std.proofs.lemmas.Bool.{and_parts}
 use Rattle.std.proofs.lemmas.List.{append_assoc, append-nil, length-map, map_push}
 use Rattle.std.proofs.lemmas.Slice.Eq.{bytes_eq-Decides}
@@ -9,7 +10,8 @@ use Rattle.source_meaning.specs.Sizes.{Extent}
 use Rattle.source_typing.proofs.Converting.{bool_is}
 use Rattle.source_typing.proofs.Parts.{each_as}
 use Rattle.source_typing.specs.Regions.{Region}
-use Rattle.source_typing.specs.Tables.{OfTag, Part, as_tag, begins, copies, each_part, find, has_beginning, if_known, is_copyable, parts_in, parts_of_tag, tag_in}
+use Rattle.source_typing.specs.Tables.{OfTag, Part, as_tag, begins, copies, each_part, find, has_beginning, if_known, is_copyable, parts_in, parts_of_tag}
+use Rattle.source_typing.specs.Tables.{tag_in}
 use Rattle.source_typing.specs.Types.{Char, Fat, Handle, Int, Key, Null, StaticType, Struct, Thin, Union, Unique, Unsigned, Void, same_bool}
 use Rattle.cyc_types.specs.InOrder.{are_known, is_known}
 use Rattle.cyc_types.specs.Known.{Entry, entries_of, flag_if, found, has_declared, is_declared, named_by, quick_begins, quick_copies}
@@ -41,10 +43,10 @@ tag_found (e ∷ es) x =
     tag_step e es x (bytes_eq e.0.now x) refl (tag_found es x)
     ∙ ap (λ b. option_map (λ k. tag_of x k.tag) (cond b (Some e.1) (found es x))) (same_bytes e.0.now x)
 
-parts_known : (es : List Entry) (x : List ℕ) (k : Known) → found es x ≡ Some k → parts_in (entries_of es) x ≡ members_of k.tag.members.items
+pub parts_known : (es : List Entry) (x : List ℕ) (k : Known) → found es x ≡ Some k → parts_in (entries_of es) x ≡ members_of k.tag.members.items
 parts_known es x k h = ap parts_of_tag (tag_found es x ∙ ap (option_map (λ k. tag_of x k.tag)) h)
 
-no_parts : (es : List Entry) (x : List ℕ) → found es x ≡ None → parts_in (entries_of es) x ≡ []
+pub no_parts : (es : List Entry) (x : List ℕ) → found es x ≡ None → parts_in (entries_of es) x ≡ []
 no_parts es x h = ap parts_of_tag (tag_found es x ∙ ap (option_map (λ k. tag_of x k.tag)) h)
 
 pub is_nothing : (k : Option Known) → is_none k ≡ true → k ≡ None

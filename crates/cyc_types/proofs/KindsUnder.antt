@@ -15,7 +15,8 @@ use Rattle.cyc_types.specs.declared.layer.Layer.TheVariants as code
 abbrev pub OfPointers : Bool → (StaticType → Bool) → Type 0
 OfPointers so holds = (l : Layer) (t : StaticType) → holds (pointer_to l t) ≡ so
 
-under : (so : Bool) (holds : StaticType → Bool) → OfPointers so holds → (ls : List Layer) (l : Layer) (t : StaticType) → holds (pointed (pointer_to l t) ls) ≡ so
+under : (so : Bool) (holds : StaticType → Bool) → OfPointers so holds → (ls : List Layer) (l : Layer) (t : StaticType)
+    → holds (pointed (pointer_to l t) ls) ≡ so
 under so holds h [] l t = h l t
 under so holds h (k ∷ ks) l t = under so holds h ks k (pointer_to l t)
 

@@ -8,7 +8,8 @@ use Rattle.source_typing.specs.Tables.{Part}
 use Rattle.cyc_types.specs.Cells.{KindAt, cells_found, cells_of, found_cells, kept_with, moved_by, part_cells, placed_onto, struct_cells}
 use Rattle.cyc_types.specs.InOrder.{are_known}
 use Rattle.cyc_types.specs.Known.{Entry, found}
-use Rattle.cyc_types.specs.Laying.{AreWithin, EndsIn, Goes, IsWithin, all_steps, all_waiting, found_steps, part_steps, waiting_cells, waiting_parts, waiting_steps, whole_cells}
+use Rattle.cyc_types.specs.Laying.{AreWithin, EndsIn, Goes, IsWithin, all_steps, all_waiting, found_steps, part_steps, waiting_cells, waiting_parts}
+use Rattle.cyc_types.specs.Laying.{waiting_steps, whole_cells}
 use Rattle.cyc_types.specs.Measures.{bytes_and, extent_of, part_extent, placed_after, quick_laid, quick_measure, stored, struct_if, struct_measure}
 use Rattle.cyc_types.specs.Tags.{members_of}
 use Rattle.cyc_types.specs.declared.laying.Laying.{Laying}

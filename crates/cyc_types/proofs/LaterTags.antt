@@ -227,7 +227,8 @@ later_bytes g later s ps own none own_later =
     (λ x. structs_same (layouts_of true all) (layouts_of true g) unions (layouts_of false all) x ∙ structs.extent (layouts_of true g) x)
     unions (no_extent s.tag.text) (part_shapes ps))
     ∙ ap (λ e. (if bytes_eq s.tag.text s.tag.text
-    then laid_out (extent_by (struct_extent (layouts_of true g) (layouts_of false g)) (union_extent (layouts_of true g))) (no_extent s.tag.text) (part_shapes ps)
+    then laid_out (extent_by (struct_extent (layouts_of true g) (layouts_of false g)) (union_extent (layouts_of true g))) (no_extent s.tag.text)
+    (part_shapes ps)
     else e).size)
     (structs_same (layouts_of true all) (layouts_of true g) unions (layouts_of false all) s.tag.text ∙ structs.extent (layouts_of true g) s.tag.text)
 

@@ -8,6 +8,7 @@ mod Laid
 pub mod LaterTags
 mod Lengths
 mod Measured
+mod MemberNames
 mod MemberSteps
 mod NextMember
 pub mod Outermost

@@ -31,7 +31,8 @@ pub record Next (of : StaticType → Option Extent) (ps : List Part) (s e : Exte
   pub further : placed_after s o ≡ Some (after s extent)
   pub laid : quick_laid of (Some (after s extent)) ps ≡ Some e
 
-pub next : (of : StaticType → Option Extent) (ps : List Part) (s e : Extent) (o : Option Extent) → quick_laid of (placed_after s o) ps ≡ Some e → Next of ps s e o
+pub next : (of : StaticType → Option Extent) (ps : List Part) (s e : Extent) (o : Option Extent) → quick_laid of (placed_after s o) ps ≡ Some e
+    → Next of ps s e o
 next of ps s e None h = absurd (true≢false (too_many of ps e h))
 next of ps s e (Some x) h = by (fits_bytes (after s x).size) refl
   where
@@ -64,7 +65,8 @@ moved_twice a b (c ∷ cs) =
     ∙ ap (λ ds. moved_by (a + b) c ∷ ds) (moved_twice a b cs)
 
 -- its cells come before those of the others
-pub next_cells : (of : StaticType → Option Extent) (cells : StaticType → List KindAt) (at : ℕ) (s e : Extent) (further : Option Extent) (p : Part) (ps : List Part)
+pub next_cells : (of : StaticType → Option Extent) (cells : StaticType → List KindAt) (at : ℕ) (s e : Extent) (further : Option Extent) (p : Part)
+    (ps : List Part)
     → part_extent of p.type ≡ Some e → further ≡ placed_after s (Some e)
     → map (moved_by at) (placed_onto of cells (Some s) (p ∷ ps))
     ≡ map (moved_by (at + rounded_up s.size e.align)) (part_cells cells p.type) ++ map (moved_by at) (placed_onto of cells further ps)

@@ -48,7 +48,8 @@ placed_as extent placed of cells (p ∷ ps) s h each =
     let at = rounded_up s.size e.align in
     let next = bytes_and (at + e.size) (max s.align e.align) in
     let rest = part_cells cells p.type in
-    let next_fits : fits_bytes (at + e.size) ≡ true = less_fits (at + e.size) (laid_out extent next (part_shapes ps)).size (laid_above extent next (part_shapes ps)) h in
+    let next_fits : fits_bytes (at + e.size) ≡ true = less_fits (at + e.size) (laid_out extent next (part_shapes ps)).size
+    (laid_above extent next (part_shapes ps)) h in
     let more : e.size ≤ at + e.size = omega arith in
     let own_fits : fits_bytes e.size ≡ true = less_fits e.size (at + e.size) more next_fits in
     let own : map kind_placed (placed shape) ≡ rest = sym (ap (λ b. if b then map kind_placed (placed shape) else []) own_fits) ∙ each.1 in

@@ -7,7 +7,8 @@ use Rattle.source_typing.specs.Tables.{Part, each_part, if_known}
 use Rattle.source_typing.specs.Types.{StaticType, Struct, Union}
 use Rattle.cyc_types.specs.InOrder.{are_known}
 use Rattle.cyc_types.specs.Known.{Entry, found, is_declared}
-use Rattle.cyc_types.specs.Measures.{bytes_and, part_extent, placed_after, quick_laid, quick_measure, quick_tag, stored, struct_if, struct_measure, union_bytes, union_if}
+use Rattle.cyc_types.specs.Measures.{bytes_and, part_extent, placed_after, quick_laid, quick_measure, quick_tag, stored, struct_if, struct_measure, union_bytes}
+use Rattle.cyc_types.specs.Measures.{union_if}
 use Rattle.cyc_types.specs.Tags.{members_of}
 use Rattle.cyc_types.specs.declared.tag.Known.{Known}
 use Rattle.cyc_types.proofs.InLayouts.{kept, same_as}

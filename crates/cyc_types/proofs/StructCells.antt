@@ -40,7 +40,8 @@ module _ (before : List Entry) (f g : List ℕ → List KindAt) (agree : Agree b
   all_cells of (Some s) [] h = refl
   all_cells of (Some s) (p ∷ ps) h =
       let both = and_parts (if_known (is_declared before) p.type) (each_part (is_declared before) ps) h in
-      ap (λ cs. cells_after s (part_extent of p.type) cs ++ placed_onto of (quick_cells f) (placed_after s (part_extent of p.type)) ps) (same_cells p.type both.0)
+      ap (λ cs. cells_after s (part_extent of p.type) cs ++ placed_onto of (quick_cells f) (placed_after s (part_extent of p.type)) ps)
+      (same_cells p.type both.0)
       ∙ ap (λ cs. cells_after s (part_extent of p.type) (part_cells (quick_cells g) p.type) ++ cs)
       (all_cells of (placed_after s (part_extent of p.type)) ps both.1)
 

@@ -13,7 +13,8 @@ use Rattle.source_typing.specs.Tables.{Entry, OfBuiltin, OfFunction, OfOther, Of
 use Rattle.source_typing.specs.Tags.{fits_member, member_fitting, member_type, parts_by, settled_alone}
 use Rattle.source_typing.specs.Types.{Char, Fat, Handle, Int, Key, Null, PartialType, StaticType, Struct, Thin, Union, Unique, Unsigned, Void}
 use Rattle.source_typing.specs.Verdicts.{Faulty, Of, Unjudged, Verdict, after, if_fits, known, unless_faulty}
-use Rattle.source_typing.specs.Written.{Found, RegionNamed, all_found, as_region, base_of, built, count_fits, counted_type, pointer_to, pointers_to, thin_to, Is, IsUnique, Missing, spots_of, tag_of, type_built, with_arguments, written, written_on, written_with}
+use Rattle.source_typing.specs.Written.{Found, RegionNamed, all_found, as_region, base_of, built, count_fits, counted_type, pointer_to, pointers_to, thin_to}
+use Rattle.source_typing.specs.Written.{Is, IsUnique, Missing, spots_of, tag_of, type_built, with_arguments, written, written_on, written_with}
 use Rattle.cyc_types.specs.Known.{has_declared}
 use Rattle.cyc_tree.specs.Tree as tree
 use Rattle.cyc_tree.specs.declared.name.Sign.TheVariants as sign

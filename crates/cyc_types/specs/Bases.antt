@@ -1,4 +1,4 @@
--- Types that are no pointers, as the rules say them.
+-- View of code: types that are no pointers, as the rules say them.
 use Rattle.source_typing.specs.Types.{Char, Handle, Int, Key, Null, StaticType, Struct, Union, Unsigned, Void}
 use Rattle.cyc_types.specs.Regions.{region_of, regions_of}
 use Rattle.cyc_types.specs.declared.base.BaseType.{BaseType}

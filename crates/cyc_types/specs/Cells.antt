@@ -1,4 +1,4 @@
--- Where the cells of types lie, by what is known of structs once they are declared.
+-- View of code: where the cells of types lie, by what is known of structs once they are declared.
 use Rattle.std.specs.Prelude.{List, None, Option, Some, bytes_eq, false, map, true, ℕ, ◌+◌, if◌then◌else◌, [], ◌∷◌, ◌++◌}
 use Rattle.source_meaning.specs.Placing.{Placed, placed_by, struct_placed}
 use Rattle.source_meaning.specs.Sizes.{Extent, rounded_up}

@@ -1,4 +1,4 @@
--- Conversions, by the outermost pointers of two types.
+-- View of code: conversions, by the outermost pointers of two types.
 use Rattle.std.specs.Prelude.{Bool, None, Option, Some, option_map, ℕ}
 use Rattle.source_meaning.specs.Shapes.{may_be_null}
 use Rattle.source_typing.specs.Conversions.{if_enough, nullable, ordered, unless_differs}
@@ -27,7 +27,8 @@ null_rule (code.Thin n r) = nullable (may_be_null (reach_of n))
 null_rule (code.Fat r) = None
 null_rule (code.Unique n) = nullable n
 
--- a pointer to a pointer that leads to no more elements, by how alike the types are that they lead to, and by whether the first one's region outlives the other's
+-- a pointer to a pointer that leads to no more elements, by how alike the types are that they lead to, and by whether the first one's region outlives the
+-- other's
 abbrev pub bounded_rule : Layer → Layer → Match → Bool → Option ℕ
 bounded_rule (code.Unique n) (code.Unique m) inner outlives = unless_differs inner None (Some outlives_rule)
 bounded_rule (code.Unique n) (code.Thin m q) inner outlives = unless_differs inner (Some region_rule) (Some region_rule)

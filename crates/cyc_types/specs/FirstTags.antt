@@ -1,4 +1,4 @@
--- The structs and unions that the names of a program mean.
+-- View of code: the structs and unions that the names of a program mean.
 use Rattle.std.specs.Prelude.{List, Some, ℕ, ◌≡◌, [], ◌∷◌}
 use Rattle.source_typing.specs.Extents.{meant_first}
 use Rattle.source_typing.specs.Tables.{Entry, Named, OfTag, Tables, as_tag}

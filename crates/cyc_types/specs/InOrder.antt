@@ -1,4 +1,4 @@
--- Structs and unions in the order of their declarations, with what is known of each.
+-- View of code: structs and unions in the order of their declarations, with what is known of each.
 use Rattle.std.specs.Prelude.{Bool, List, is_none, true, ℕ, ◌&&◌, [], ◌∷◌, ◌++◌}
 use Rattle.source_typing.specs.Tables.{each_part}
 use Rattle.source_typing.specs.Types.{same_bool}

@@ -1,4 +1,4 @@
--- What is known of structs and unions once they are declared, each after those that its members are.
+-- View of code: what is known of structs and unions once they are declared, each after those that its members are.
 use Rattle.std.specs.Borrow.{Bor}
 use Rattle.std.specs.Map.{lookup}
 use Rattle.std.specs.Prelude.{Bool, List, None, Option, Some, bytes_eq, false, is_some, map, option_map, true, ℕ}

@@ -1,4 +1,4 @@
--- Pointers of a type in code, as the rules say them.
+-- View of code: pointers of a type in code, as the rules say them.
 use Rattle.std.specs.Prelude.{Bool, List, None, Option, Some, false, nat_le, true, [], ◌∷◌}
 use Rattle.source_meaning.specs.Shapes.{count_of, may_be_null, same_bound, single}
 use Rattle.source_typing.specs.Regions.{same_id}

@@ -1,4 +1,4 @@
--- A type's cells are found struct by struct: what is found, and the members that are still to come.
+-- View of code: a type's cells are found struct by struct: what is found, and the members that are still to come.
 use Rattle.std.specs.Prelude.{List, None, Option, Some, map, zero, ℕ, ◌+◌, ◌≡◌, ◌≤◌, [], ◌∷◌, ◌++◌}
 use Rattle.source_meaning.specs.Sizes.{Extent}
 use Rattle.source_typing.specs.Extents.{most_bytes}

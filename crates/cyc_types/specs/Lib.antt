@@ -7,6 +7,7 @@ pub mod Known
 pub mod Laying
 pub mod Layers
 pub mod Likeness
+pub mod MemberNames
 pub mod Measures
 pub mod Pointers
 pub mod Reaches

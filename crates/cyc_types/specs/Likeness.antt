@@ -1,4 +1,4 @@
--- How alike two types are, as the rules say it.
+-- View of code: how alike two types are, as the rules say it.
 use Rattle.source_typing.specs.Types.{ByRegions, Differs, Equals, Match}
 use Rattle.cyc_types.specs.declared.likeness.Likeness.{Likeness}
 use Rattle.cyc_types.specs.declared.likeness.Likeness.TheVariants as code

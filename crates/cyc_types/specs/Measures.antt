@@ -1,4 +1,4 @@
--- How many bytes types have, up to the most that any may have, by what is known of structs and unions once they are declared.
+-- View of code: how many bytes types have, up to the most that any may have, by what is known of structs and unions once they are declared.
 use Rattle.std.specs.Prelude.{Bool, List, None, Option, Some, false, max, nat_eq, option_map, true, ℕ, ◌&&◌, ◌+◌, if◌then◌else◌, [], ◌∷◌}
 use Rattle.source_meaning.specs.Sizes.{Extent, extent_by, largest, no_extent, rounded_up, struct_extent, union_extent}
 use Rattle.source_typing.specs.Extents.{fits_bytes, known_shape, layouts_of, part_shapes}

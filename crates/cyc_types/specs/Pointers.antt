@@ -1,4 +1,4 @@
--- The pointers of a type, as a contract sees them.
+-- View of code: the pointers of a type, as a contract sees them.
 use Rattle.std.specs.Prelude.{ℕ, zero, suc, ◌≡◌, Bool, true, false, List, [], ◌∷◌, ⊤}
 use Rattle.source_typing.specs.Regions.{is_heap}
 use Rattle.cyc_types.specs.Regions.{region_of}

@@ -1,4 +1,4 @@
--- How far a thin pointer leads in code, as the rules say it.
+-- View of code: how far a thin pointer leads in code, as the rules say it.
 use Rattle.source_meaning.specs.Shapes.{MayBeNull, NeverNull}
 use Rattle.cyc_types.specs.declared.reach.Reach.{Reach}
 use Rattle.cyc_types.specs.declared.reach.Reach.TheVariants as code

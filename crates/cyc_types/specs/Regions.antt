@@ -1,4 +1,4 @@
--- Regions of a type in code, as the rules say them.
+-- View of code: regions of a type in code, as the rules say them.
 use Rattle.std.specs.Prelude.{Bool, List, map}
 use Rattle.source_typing.specs.Regions.{Level, Region, TheHeap, same_id}
 use Rattle.cyc_types.specs.declared.region.RegionId.{RegionId}

@@ -1,4 +1,4 @@
--- A pointer again and again, or into one region after the other, in code.
+-- View of code: a pointer again and again, or into one region after the other, in code.
 use Rattle.std.specs.Prelude.{List}
 use Rattle.cyc_types.specs.Pointers.{BeginsWith}
 use Rattle.cyc_types.specs.declared.layer.Layer.{Layer}

@@ -1,4 +1,4 @@
--- When what is known of structs and unions in code is what the rules' tables know of them.
+-- View of code: when what is known of structs and unions in code is what the rules' tables know of them.
 use Rattle.std.specs.Prelude.{Bool, List, length, ℕ, ◌≡◌, ◌≤◌}
 use Rattle.source_typing.specs.Extents.{layouts_of}
 use Rattle.source_typing.specs.Tables.{tag_in}

@@ -1,7 +1,8 @@
--- Which scalar a value of a type is, by the one cell that the rules give it.
+-- View of code: which scalar a value of a type is, by the one cell that the rules give it.
 use Rattle.std.specs.Prelude.{Bool, List, None, Option, Some, ℕ, [], ◌∷◌}
 use Rattle.source_meaning.specs.Placing.{Placed, placed_by}
-use Rattle.source_meaning.specs.Shapes.{Alone, ArrayShape, CharShape, FatShape, HandleShape, IntShape, KeyShape, Owner, Shape, Shared, StructShape, ThinShape, UnionShape, Unsaid, UnsignedShape, VoidShape, may_be_null}
+use Rattle.source_meaning.specs.Shapes.{Alone, ArrayShape, CharShape, FatShape, HandleShape, IntShape, KeyShape, Owner, Shape, Shared, StructShape, ThinShape}
+use Rattle.source_meaning.specs.Shapes.{UnionShape, Unsaid, UnsignedShape, VoidShape, may_be_null}
 use Rattle.source_typing.specs.Types.{StaticType, shape_of}
 use Rattle.cyc_types.specs.Reaches.{reach_of}
 use Rattle.cyc_types.specs.declared.layer.Layer.{Layer}

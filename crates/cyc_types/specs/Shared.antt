@@ -1,4 +1,4 @@
--- Pointers of a type in code: its own, or the innermost of a list that types share and some that stand on them.
+-- View of code: pointers of a type in code: its own, or the innermost of a list that types share and some that stand on them.
 use Rattle.std.specs.Prelude.{◌≡◌, ◌++◌, true, List, take, ⊤}
 use Rattle.std.specs.List.{list_all}
 use Rattle.cyc_types.specs.Pointers.{Pointers, is_closed}

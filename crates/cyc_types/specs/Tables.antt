@@ -1,4 +1,4 @@
--- The structs and unions of a program in code, as the rules say them.
+-- View of code: the structs and unions of a program in code, as the rules say them.
 use Rattle.cyc_types.specs.Known.{entries_of}
 use Rattle.cyc_types.specs.declared.tables.Tables.{Tables}
 use Rattle.source_typing.specs.Tables as rules

@@ -1,4 +1,4 @@
--- Structs and unions in code, as the rules say them.
+-- View of code: structs and unions in code, as the rules say them.
 use Rattle.std.specs.Prelude.{List, ℕ, map, option_map}
 use Rattle.source_typing.specs.Tables.{Named, OfTag, Part}
 use Rattle.cyc_types.specs.Types.{static_type}

@@ -1,4 +1,4 @@
--- A type in code, as the rules say it.
+-- View of code: a type in code, as the rules say it.
 use Rattle.source_typing.specs.Types.{StaticType}
 use Rattle.cyc_types.specs.Bases.{base_type}
 use Rattle.cyc_types.specs.Layers.{pointed}

@@ -1,7 +1,8 @@
 // Kinds of types.
 
 ghost use Rattle.std.specs.Prelude.{◌≡◌};
-ghost use Rattle.source_typing.specs.Types.{is_integer, is_pointer, is_testable, is_null, is_scalar, is_union, is_key, is_void, is_makeable, is_element, is_unique};
+ghost use Rattle.source_typing.specs.Types.{is_integer, is_pointer, is_testable, is_null, is_scalar, is_union, is_key, is_void, is_makeable, is_element};
+ghost use Rattle.source_typing.specs.Types.{is_unique};
 ghost use Rattle.cyc_types.specs.Bases.{base_type};
 ghost use Rattle.cyc_types.specs.Layers.{is_plain};
 ghost use Rattle.cyc_types.specs.Types.{static_type};

@@ -19,6 +19,7 @@ mod laying;
 mod likeness;
 mod making;
 mod measuring;
+mod member_names;
 mod pointer_list;
 mod reach;
 mod region;

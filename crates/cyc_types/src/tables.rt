@@ -21,7 +21,7 @@ pub struct Tables<'p> {
 impl<'p> Tables<'p> {
     ghost use Rattle.std.specs.Prelude.{IsErrOf, IsOkUnless, IsSome, OnOk, OnErr, ◌++◌, ◌∷◌, None, false, is_some, option_copied};
     ghost use Rattle.std.specs.List.{list_all};
-    ghost use Rattle.source_typing.specs.Tables.{each_part, if_known, is_copyable, has_beginning, tag_in};
+    ghost use Rattle.source_typing.specs.Tables.{each_part, if_known, is_copyable, has_beginning, part_in, parts_in, tag_in};
     ghost use Rattle.cyc_types.specs.Known.{found, has_declared, is_declared, quick_copies, quick_begins, known_tag};
     ghost use Rattle.cyc_types.specs.Tags.{member_of, members_of, named_tag, tag_of};
     ghost use Rattle.cyc_types.specs.Tables.{tables_of};
@@ -53,6 +53,16 @@ impl<'p> Tables<'p> {
     {
         match self.tags.get_key_value(name) {
             Some((declared, known)) => Some((*declared, &known.tag)),
+            None => None,
+        }
+    }
+
+    /// The member of a name of the struct or union of another name, where there are both: of members of one name, the first.
+    pub fn member(&self, tag: &[u8], name: &[u8]) -> Option<&Member<'p>>
+        ensures { option_map (λ m. member_of m.now) result ≡ part_in (parts_in (tables_of self.now) tag.now) name.now }
+    {
+        match self.known(tag) {
+            Some(known) => known.member(name),
             None => None,
         }
     }
@@ -219,15 +229,9 @@ impl<'p> Tables<'p> {
         let copyable = self.all_copied(&tag.members);
         let begins = self.all_begin(&tag.members);
         let extent = self.tag_extent(&tag);
-        self.tags.insert(
-            name,
-            Known {
-                tag,
-                copyable,
-                begins,
-                extent,
-            },
-        )?;
+        let alloc = *self.tags.allocator();
+        let known = Known::of(alloc, tag, copyable, begins, extent)?;
+        self.tags.insert(name, known)?;
         Ok(())
     }
 

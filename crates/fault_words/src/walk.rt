@@ -277,7 +277,7 @@ fn bind_in<'p>(
     };
     let judged = judge(&walk.scope, walk.alloc, place)?;
     let tables = walk.scope.tables;
-    let union = union_of(tables, walk.alloc, &judged)?;
+    let union = union_of(tables, &judged);
     bind(&mut walk.scope, &union, frame, &clause.pattern)
 }
 

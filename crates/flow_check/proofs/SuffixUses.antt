@@ -35,7 +35,8 @@ same_place g at bt s t a b p q e f h i = λ j. uses_as_place (e j) (is_moved_sho
 module _ (g : Env) (s t : Short Value) (u : Uses) (r : Suffixed) (x : OneSuffix) (at : ℕ) (own : Bool) (p : Passage) where
   pub after_index : (e : Expression) → x ≡ OneSuffix.Index e → at ≡ place_short s → t ≡ short_suffix g s (OneSuffix.Index e)
       → own ≡ (u.own && not (is_unique_short s))
-      → p ≡ in_turn (uses_of g e).look (in_turn u.look (copied_if (is_unique_short s && not u.whole) (place_short s))) → IsSuffixed t (uses_as_place at (is_moved_short g t) own p) r
+      → p ≡ in_turn (uses_of g e).look (in_turn u.look (copied_if (is_unique_short s && not u.whole) (place_short s)))
+      → IsSuffixed t (uses_as_place at (is_moved_short g t) own p) r
       → IsSuffixed (short_suffix g s x) (short_uses g s u x) r
   after_index e is place judged owned passes h =
       same_suffixed t (short_suffix g s x) (uses_as_place at (is_moved_short g t) own p) (short_uses g s u x) r (judged ∙ ap (short_suffix g s) (sym is))

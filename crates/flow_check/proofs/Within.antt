@@ -25,7 +25,8 @@ pub nothing_around : {s : Scope} {a : Around} {g : Env} → Knows s g → AreLoc
     → IsWithin s a g
 nothing_around {s} {a} {g} k ls none e = record {
   scope = judged.nothing_around k none e;
-  locals = λ x. subst (λ cs. SameLocal (is_counter cs x) (find_what s.locals x) (position_of s.locals x) (find_local g.locals x) (number_of g.locals x)) (sym none)
+  locals = λ x. subst (λ cs. SameLocal (is_counter cs x) (find_what s.locals x) (position_of s.locals x) (find_local g.locals x)
+      (number_of g.locals x)) (sym none)
       (same_local x s.locals g.locals ls);
   count = subst (λ cs. length g.locals ≡ length cs + length s.locals) (sym none) (omega (arith, same_count s.locals g.locals ls));
 }
@@ -35,7 +36,8 @@ pub inside_goal : {s : Scope} {a : Around} {g : Env} (b : Around) (v : Verdict G
     → enclosed v ≡ enclosing_of b.enclosing → IsWithin s b (inside v g)
 inside_goal {s} {a} {g} b v h same e = record {
   scope = judged.inside_goal b v h.scope same e;
-  locals = λ x. subst (λ c. SameLocal (is_counter c.now x) (find_what s.locals x) (position_of s.locals x) (find_local g.locals x) (number_of g.locals x)) (sym same)
+  locals = λ x. subst (λ c. SameLocal (is_counter c.now x) (find_what s.locals x) (position_of s.locals x) (find_local g.locals x)
+      (number_of g.locals x)) (sym same)
       (h.locals x);
   count = h.count ∙ ap (λ c. length c.now + length s.locals) (sym same);
 }

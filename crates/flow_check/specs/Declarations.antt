@@ -1,4 +1,4 @@
--- What a declaration adds to its block.
+-- View of code: what a declaration adds to its block.
 use Rattle.std.specs.Prelude.{List, ℕ, ◌≡◌, ◌∷◌}
 use Rattle.cyc_tree.specs.Tree as tree
 use Rattle.flow_summaries.specs.Exits.{Exits, lent_in, with_passage}

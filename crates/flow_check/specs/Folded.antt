@@ -1,4 +1,4 @@
--- What parts do one after another, after what stands before them.
+-- View of code: what parts do one after another, after what stands before them.
 use Rattle.std.specs.Prelude.{List, [], ◌∷◌}
 use Rattle.cyc_tree.specs.Tree.{Expressions, Links, MoreExpressions, MoreLinks, NoExpressions, NoLinks}
 use Rattle.cyc_tree.specs.View.{OneSuffix}

@@ -1,4 +1,4 @@
--- What an expression is, beside what it does.
+-- View of code: what an expression is, beside what it does.
 use Rattle.std.specs.Prelude.{◌≡◌}
 use Rattle.check_faults.specs.Verdicts.{Short, short_of}
 use Rattle.check_operators.specs.Values.{value_of}

@@ -1,4 +1,4 @@
--- What is known where the flow of a statement is told.
+-- View of code: what is known where the flow of a statement is told.
 use Rattle.std.specs.Prelude.{List, ℕ}
 use Rattle.check_scopes.specs.Changes.{AllAround}
 use Rattle.check_scopes.specs.Knows.{Knows}

@@ -1,4 +1,4 @@
--- What stands after suffixes.
+-- View of code: what stands after suffixes.
 use Rattle.std.specs.Prelude.{false, ◌≡◌}
 use Rattle.check_operators.specs.Values.{value_of}
 use Rattle.flow_summaries.specs.Uses.{Uses, uses_as_place}

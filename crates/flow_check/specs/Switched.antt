@@ -1,4 +1,4 @@
--- One clause of a `switch`.
+-- View of code: one clause of a `switch`.
 use Rattle.std.specs.Prelude.{Option}
 use Rattle.flow_summaries.specs.Exits.{Exits}
 use Rattle.flow_summaries.specs.Statements.{exits_of_items, exits_within}

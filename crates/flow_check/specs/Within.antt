@@ -1,4 +1,4 @@
--- What is known of locals within an expression.
+-- View of code: what is known of locals within an expression.
 use Rattle.std.specs.Prelude.{Bool, List, None, Option, Some, false, length, true, ℕ, ◌+◌, ◌≡◌}
 use Rattle.source_typing.specs.Scope.{Env, Local, find_local}
 use Rattle.source_typing.specs.Tables.{Counter}
@@ -21,5 +21,6 @@ SameLocal counted w p l n = ⊥
 -- All that an expression asks for of its scope is known.
 pub record IsWithin (s : Scope) (a : Around) (g : Env) : Type 0 where
   pub scope : IsIn s a g
-  pub locals : (x : List ℕ) → SameLocal (is_counter a.counters.now x) (find_what s.locals x) (position_of s.locals x) (find_local g.locals x) (number_of g.locals x)
+  pub locals : (x : List ℕ) → SameLocal (is_counter a.counters.now x) (find_what s.locals x) (position_of s.locals x) (find_local g.locals x)
+      (number_of g.locals x)
   pub count : length g.locals ≡ length a.counters.now + length s.locals

@@ -220,7 +220,7 @@ fn switch_exits<'p>(
     ensures kept { OnOk result (names.new ≡ names.old) }
 {
     let judged = judge(scope, alloc, place)?;
-    let union = union_of(scope.tables, alloc, &judged)?;
+    let union = union_of(scope.tables, &judged);
     let ways = switched(scope, names, alloc, context.switching(), &union, clauses)?;
     switch_after(scope, alloc, place, ways)
 }

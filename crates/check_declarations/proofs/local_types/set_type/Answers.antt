@@ -14,7 +14,8 @@ returns-then-misses_region_in c g v known suits value =
     let w = written (tags_in_scope g) g.names t in
     let e = c.in_ok-written.ensures (tags_in_scope g) (c.local_tag-tag.ensures g known) ∙ ap (λ n. shortened (written (tags_in_scope g) n t)) suits.names in
     let same =
-    ap (λ b. after w (taken_from g t.at b v)) (sym c.if-misses_region_in.true ∙ c.misses_region_in.ensures (tags_in_scope g) (c.local_tag-tag.ensures g known)) in
+    ap (λ b. after w (taken_from g t.at b v))
+    (sym c.if-misses_region_in.true ∙ c.misses_region_in.ensures (tags_in_scope g) (c.local_tag-tag.ensures g known)) in
     subst (λ a. IfOk c.taken_from.result (λ found. short_of static_type found ≡ shortened a)) same
     (c.taken_from.ensures g w v known suits.item e value)
 
@@ -24,6 +25,7 @@ returns-else-misses_region_in c g v known suits value =
     let w = written (tags_in_scope g) g.names t in
     let e = c.in_ok-written.ensures (tags_in_scope g) (c.local_tag-tag.ensures g known) ∙ ap (λ n. shortened (written (tags_in_scope g) n t)) suits.names in
     let same =
-    ap (λ b. after w (taken_from g t.at b v)) (sym c.if-misses_region_in.false ∙ c.misses_region_in.ensures (tags_in_scope g) (c.local_tag-tag.ensures g known)) in
+    ap (λ b. after w (taken_from g t.at b v))
+    (sym c.if-misses_region_in.false ∙ c.misses_region_in.ensures (tags_in_scope g) (c.local_tag-tag.ensures g known)) in
     subst (λ a. IfOk c.local_type.result (λ found. short_of static_type found ≡ shortened a)) same
     (c.local_type.ensures g w known suits.item e)

@@ -1,6 +1,7 @@
 use Rattle.std.proofs.Common.{◌≡◌, ◌≤◌, ◌+◌, ⊎_elim, IfOk, List, ap, arith, drop, length, map, subst, sym, ◌∙◌, ◌++◌, ℕ}
 use Rattle.std.specs.Prelude.{option_map, ◌&&◌}
-use Rattle.cyc_tree.specs.View.{OneClause, OneItem, clause_tree, clauses_of, declaration_tree, expression_tree, item_tree, items_of, pattern_tree, statement_tree}
+use Rattle.cyc_tree.specs.View.{OneClause, OneItem, clause_tree, clauses_of, declaration_tree, expression_tree, item_tree, items_of, pattern_tree}
+use Rattle.cyc_tree.specs.View.{statement_tree}
 use Rattle.cyc_tree.specs.declared.statement.BlockItem.{BlockItem}
 use Rattle.cyc_tree.specs.declared.statement.Clause.{Clause}
 use Rattle.cyc_tree.proofs.PartForms.{clause_parts}
@@ -283,12 +284,12 @@ statement_fault-returns-in_ok-inside-in-Switch-clause-fault t c = λ g h suits a
     let v = judge g (expression_tree x.place) in
     let cs = clauses_of (map clause_tree x.clauses.items) in
     let place = c.in_ok-place-in-Switch.ensures g h in
-    let union = c.in_ok-union-in-Switch.ensures.union v place in
+    let union = c.union_of-union.ensures.union v place in
     let inside =
     c.in_ok-inside-in-Switch.ensures.fault (in_a_switch g) (switch_known s g h)
     (switch_suits c.args.context c.switching-inner.result c.args.names.now g suits c.switching-inner.ensures) around
-    (c.in_ok-union-in-Switch.ensures.parts (in_a_switch g) h.tags)
-    ∙ ap (λ (l : List Clause). earliest (clauses_faults (in_a_switch g) reached (option_map switched_in c.in_ok-union-in-Switch.union)
+    (c.union_of-union.ensures.parts (in_a_switch g) h.tags)
+    ∙ ap (λ (l : List Clause). earliest (clauses_faults (in_a_switch g) reached (option_map switched_in c.union_of-union.result)
     (clauses_of (map clause_tree l)))) c.deref-in-Switch.ensures.value
     ∙ ap (λ u. earliest (clauses_faults (in_a_switch g) reached u cs)) union in
     let parts = clauses_faults (in_a_switch g) reached (chosen v) cs in

@@ -135,13 +135,15 @@ pub seen-returns-else-is_empty-2 : goal.seen-returns-else-is_empty-2
 seen-returns-else-is_empty-2 t c = λ g h.
     let e = c.in-Chain.first.value in
     let ls = c.in-Chain.links.items in
-    let does_it = λ (y : code.Expression) (xs : List code_link.Link). IfOk c.linked.result (IsSeen c.args.how (short_links g (judged g y) (links_of (map link_tree xs)))
+    let does_it = λ (y : code.Expression) (xs : List code_link.Link).
+    IfOk c.linked.result (IsSeen c.args.how (short_links g (judged g y) (links_of (map link_tree xs)))
     (uses_as_value (passed_links g (uses_of g (expression_tree y)).look (links_of (map link_tree xs))))) in
     seen_told g c.args.how c.linked.result c.args.expression.now (Expression.Chain (expression_tree e) (links_of (map link_tree ls)))
     (ap (λ e. expression_tree e) c.in-Chain.is ∙ chain_tree c.in-Chain.first c.in-Chain.links)
     (linked_same g (λ s u. IfOk c.linked.result (IsSeen c.args.how s u)) e ls (judged g e) (uses_of g (expression_tree e)).look
     (tested_length c.in-Chain.links c.is_empty-in-Chain.result c.is_empty-in-Chain.ensures ∙ c.if-is_empty-2.false) refl refl
-    (subst (λ y. does_it y ls) c.deref-in-Chain.ensures (subst (does_it c.deref-in-Chain.result.now) c.deref-in-Chain-2.ensures.value (c.linked.ensures g c.args.how h))))
+    (subst (λ y. does_it y ls) c.deref-in-Chain.ensures
+    (subst (does_it c.deref-in-Chain.result.now) c.deref-in-Chain-2.ensures.value (c.linked.ensures g c.args.how h))))
 
 pub seen-returns-then-is_empty-3 : goal.seen-returns-then-is_empty-3
 seen-returns-then-is_empty-3 t c = λ g h.
@@ -165,7 +167,8 @@ seen-returns-else-is_empty-3 t c = λ g h.
     (ap (λ e. expression_tree e) c.in-AllOf.is ∙ all_of_tree c.in-AllOf.first c.in-AllOf.others)
     (tested_same g (λ s u. IfOk c.all_tested.result (IsSeen c.args.how s u)) e es (judged g e) (uses_of g (expression_tree e)).look
     (tested_length c.in-AllOf.others c.is_empty-in-AllOf.result c.is_empty-in-AllOf.ensures ∙ c.if-is_empty-3.false) refl refl
-    (subst (λ y. does_it y es) c.deref-in-AllOf.ensures (subst (does_it c.deref-in-AllOf.result.now) c.deref-in-AllOf-2.ensures.value (c.all_tested.ensures g c.args.how h))))
+    (subst (λ y. does_it y es) c.deref-in-AllOf.ensures
+    (subst (does_it c.deref-in-AllOf.result.now) c.deref-in-AllOf-2.ensures.value (c.all_tested.ensures g c.args.how h))))
 
 pub seen-returns-then-is_empty-4 : goal.seen-returns-then-is_empty-4
 seen-returns-then-is_empty-4 t c = λ g h.
@@ -189,7 +192,8 @@ seen-returns-else-is_empty-4 t c = λ g h.
     (ap (λ e. expression_tree e) c.in-AnyOf.is ∙ any_of_tree c.in-AnyOf.first c.in-AnyOf.others)
     (tested_same g (λ s u. IfOk c.all_tested-in-AnyOf.result (IsSeen c.args.how s u)) e es (judged g e) (uses_of g (expression_tree e)).look
     (tested_length c.in-AnyOf.others c.is_empty-in-AnyOf.result c.is_empty-in-AnyOf.ensures ∙ c.if-is_empty-4.false) refl refl
-    (subst (λ y. does_it y es) c.deref-in-AnyOf.ensures (subst (does_it c.deref-in-AnyOf.result.now) c.deref-in-AnyOf-2.ensures.value (c.all_tested-in-AnyOf.ensures g c.args.how h))))
+    (subst (λ y. does_it y es) c.deref-in-AnyOf.ensures
+    (subst (does_it c.deref-in-AnyOf.result.now) c.deref-in-AnyOf-2.ensures.value (c.all_tested-in-AnyOf.ensures g c.args.how h))))
 
 pub seen-returns-in_ok-to-in-Assign : goal.seen-returns-in_ok-to-in-Assign
 seen-returns-in_ok-to-in-Assign t c = λ g h.

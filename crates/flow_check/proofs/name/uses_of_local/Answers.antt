@@ -15,7 +15,8 @@ returns-then-is_copyable c = λ g has h.
     let x = name_tree c.args.name.now in
     let t = c.in-Variable.of in
     subst (λ u. IsUsed c.args.how u c.value.result)
-    (variable_copied g x (position_of c.args.scope.now.locals x.text) c.args.what.now t c.in-Variable.field-1 (find_local g.locals x.text) (number_of g.locals x.text)
+    (variable_copied g x (position_of c.args.scope.now.locals x.text) c.args.what.now t c.in-Variable.field-1 (find_local g.locals x.text)
+    (number_of g.locals x.text)
     c.in-Variable.is (copyable_same c.args.scope.now.tables.now g.tables has (static_type t) ∙ sym c.is_copyable.ensures ∙ c.if-is_copyable.true) h)
     (c.value.ensures c.args.how unchanged c.nothing.ensures)
 

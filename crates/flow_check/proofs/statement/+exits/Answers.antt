@@ -196,7 +196,8 @@ items_exits-each-preserved t c =
           let is = sym (declare_tree w.in-Declare.declaration) ∙ ap item_tree (sym w.in-Declare.is) in
           ap (λ s. step_before s (exits_of_items (scope_behind g (item_tree item)) (items_of rest))) w.step-is
           ∙ ap (λ i. declared_before w.in_ok-declared-in-Declare.field-0 (exits_of_items (scope_behind g i) (items_of rest))) (sym is)
-          ∙ subst (λ e. declared_before w.in_ok-declared-in-Declare.field-0 (exits_of_items (scope_behind g (OneItem.Declare (declaration_tree e))) (items_of rest))
+          ∙ subst (λ e. declared_before w.in_ok-declared-in-Declare.field-0
+          (exits_of_items (scope_behind g (OneItem.Declare (declaration_tree e))) (items_of rest))
           ≡ exits_of_items g (items_of (OneItem.Declare (declaration_tree e) ∷ rest))) w.deref.ensures
           (w.in_ok-declared-in-Declare.ensures.before g
           (exits_of_items (scope_behind g (OneItem.Declare (declaration_tree w.deref.result.now))) (items_of rest)) h)
@@ -251,7 +252,8 @@ items_exits-each-preserved t c =
       each = λ g h.
           let going = c.each.invariant.each g h in
           let whole = exits_of_items g (items_of (map item_tree items)) in
-          let longer_by_one = goes_on context names later outer c.each.scope c.match-item.scope c.each.steps.items c.match-item.step items c.each.item-index item
+          let longer_by_one = goes_on context names later outer c.each.scope c.match-item.scope c.each.steps.items c.match-item.step items
+          c.each.item-index item
           whole c.each-test.true c.item-item.is going (own going.env going.stands) (stands going.env going.stands) in
           record {
             env = longer_by_one.env;
@@ -387,9 +389,9 @@ switch_exits-returns-clause-exits t c = λ g h.
     let cs = clauses_of (map clause_tree c.args.clauses.now) in
     let ways = c.in_ok-ways.ensures in
     let after = still_follows c.args.context c.args.names.now c.switched.new.names all c.switched.new.scope g ways.scope ways.kept h in
-    let union = c.in_ok-union.ensures.union (judge g e) (c.in_ok-judged.ensures g h.known) in
+    let union = c.union_of-union.ensures.union (judge g e) (c.in_ok-judged.ensures g h.known) in
     let clauses = ways.exits (in_a_switch g) (switch_follows c.args.context c.switching.result c.args.names.now all g h c.switching.ensures)
-    (c.in_ok-union.ensures.parts (in_a_switch g) h.known.tags)
+    (c.union_of-union.ensures.parts (in_a_switch g) h.known.tags)
     ∙ ap (λ u. exits_of_clauses (in_a_switch g) u cs) union in
     answers_as c.switch_after.result _ (with_passage (uses_of g e).look (switch_left (exits_of_clauses (in_a_switch g) (chosen (judge g e)) cs)))
     (ap (λ w. with_passage (uses_of g e).look (switch_left w)) clauses) (c.switch_after.ensures g after.known after.locals)

@@ -12,7 +12,8 @@ use Rattle.flow_check.proofs.Blocks.{Going}
 use Rattle.flow_check.specs.Standing.{Follows, Stands}
 use Rattle.flow_check.proofs.statement.+exits.Given as goal
 
--- for each scope of the rules that is known at the block's beginning one is known now, with the steps so far; and leaving the block gives back what was in scope
+-- for each scope of the rules that is known at the block's beginning one is known now, with the steps so far; and leaving the block gives back what was in
+-- scope
 abbrev pub invariant-items_exits-each : goal.invariant-items_exits-each
 invariant-items_exits-each l = record {
   each : (g : Env) → Stands l.fn.context l.fn.names l.fn.outer l.fn.scope g

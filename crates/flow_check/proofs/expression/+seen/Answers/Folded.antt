@@ -48,7 +48,8 @@ linked-returns t c = λ g how h.
     let ls = c.args.links.now in
     let done : drop c.each.link-index ls ≡ [] = drop_all c.each.link-index ls (omega (arith, c.each-test.false)) in
     let all = c.each.invariant g h in
-    subst (λ s. IsSeen how s (uses_as_value (passed_links g (uses_of g (expression_tree c.args.first.now)).look (links_of (map link_tree ls)))) c.as_value.result)
+    subst (λ s. IsSeen how s (uses_as_value (passed_links g (uses_of g (expression_tree c.args.first.now)).look (links_of (map link_tree ls))))
+    c.as_value.result)
     (ap (λ xs. links_from g (short_of value_of c.each.found.judged) xs) (sym done) ∙ all.judged)
     (c.as_value.ensures how (passed_links g (uses_of g (expression_tree c.args.first.now)).look (links_of (map link_tree ls)))
     (ap (λ xs. passed_links g (passage_of c.each.found.used.passed) (links_of (map link_tree xs))) (sym done) ∙ all.passed))
@@ -82,7 +83,8 @@ all_tested-returns t c = λ g how h.
     let es = c.args.others.now in
     let done : drop c.each.expression-index es ≡ [] = drop_all c.each.expression-index es (omega (arith, c.each-test.false)) in
     let all = c.each.invariant g h in
-    subst (λ s. IsSeen how s (uses_as_value (passed_tests g (uses_of g (expression_tree c.args.first.now)).look (expressions_of (map expression_tree es)))) c.as_value.result)
+    subst (λ s. IsSeen how s (uses_as_value (passed_tests g (uses_of g (expression_tree c.args.first.now)).look (expressions_of (map expression_tree es))))
+    c.as_value.result)
     (ap (λ xs. tests_from g (short_of value_of c.each.found.judged) xs) (sym done) ∙ all.judged)
     (c.as_value.ensures how (passed_tests g (uses_of g (expression_tree c.args.first.now)).look (expressions_of (map expression_tree es)))
     (ap (λ xs. passed_tests g (passage_of c.each.found.used.passed) (expressions_of (map expression_tree xs))) (sym done) ∙ all.passed))

@@ -13,17 +13,16 @@ module _ (u first second : Surroundings) (these those : Statements) (kept out lo
   first_saves old new new_is =
       new_is ∙ (λ i. old ++ reverse (saves_of ((at_first i).homes) ((at_first i).statics) ((at_first i).names) ((at_first i).held) kept out loop these))
 
-  pub both_saves : (old middle new after : List Bool) → after ≡ kept
-      → middle ≡ old ++ reverse (saves_of second.homes second.statics second.names second.held after out loop those)
+  pub both_saves : (old middle new : List Bool)
+      → middle ≡ old ++ reverse (saves_of second.homes second.statics second.names second.held kept out loop those)
       → new ≡ middle ++ reverse (saves_of first.homes first.statics first.names first.held kept out loop these)
       → new ≡ old ++ reverse (saves_of u.homes u.statics u.names u.held kept out loop these
       ++ saves_of u.homes u.statics (names_after_all these u.names) u.held kept out loop those)
-  both_saves old middle new after after_is middle_is new_is =
+  both_saves old middle new middle_is new_is =
       let one = saves_of u.homes u.statics u.names u.held kept out loop these in
       let other = saves_of u.homes u.statics (names_after_all these u.names) u.held kept out loop those in
       let other_is : middle ≡ old ++ reverse other = middle_is
-      ∙ (λ i. old ++ reverse (saves_of ((at_second i).homes) ((at_second i).statics) ((at_second i).names) ((at_second i).held) (after_is i)
-      out loop those)) in
+      ∙ (λ i. old ++ reverse (saves_of ((at_second i).homes) ((at_second i).statics) ((at_second i).names) ((at_second i).held) kept out loop those)) in
       first_saves middle new new_is ∙ ap (λ bs. bs ++ reverse one) other_is ∙ append_assoc old (reverse other) (reverse one)
       ∙ ap (λ bs. old ++ bs) (sym (reverse-append one other))
 
@@ -32,16 +31,15 @@ module _ (u first second : Surroundings) (these those : Statements) (kept out lo
   first_live left left_is =
       left_is ∙ (λ i. live_of ((at_first i).homes) ((at_first i).statics) ((at_first i).names) ((at_first i).held) kept out loop these)
 
-  pub both_live : (after left one other two new : List Bool) → after ≡ kept
-      → other ≡ live_of second.homes second.statics second.names second.held after out loop those
-      → left ≡ live_of first.homes first.statics first.names first.held kept out loop these → one ≡ left → two ≡ other
-      → new ≡ either_flagged one two
+  pub both_live : (left other new : List Bool)
+      → other ≡ live_of second.homes second.statics second.names second.held kept out loop those
+      → left ≡ live_of first.homes first.statics first.names first.held kept out loop these → new ≡ either_flagged left other
       → new ≡ either_flagged (live_of u.homes u.statics u.names u.held kept out loop these)
       (live_of u.homes u.statics (names_after_all these u.names) u.held kept out loop those)
-  both_live after left one other two new after_is other_is left_is one_is two_is new_is =
-      let other_at = two_is ∙ other_is
-      ∙ (λ i. live_of ((at_second i).homes) ((at_second i).statics) ((at_second i).names) ((at_second i).held) (after_is i) out loop those) in
-      let one_at = one_is ∙ first_live left left_is in
+  both_live left other new other_is left_is new_is =
+      let other_at = other_is
+      ∙ (λ i. live_of ((at_second i).homes) ((at_second i).statics) ((at_second i).names) ((at_second i).held) kept out loop those) in
+      let one_at = first_live left left_is in
       new_is ∙ (λ i. either_flagged (one_at i) (other_at i))
 
   pub check_live : (left new : List Bool) → left ≡ live_of first.homes first.statics first.names first.held kept out loop these

@@ -25,7 +25,8 @@ module _ (u first second : Surroundings) (t : ℕ) (these those : Statements)
 
   pub choice_lines : (old tested one turned two new : List Line) (kept left : List Bool) (next inside past other out loop : ℕ)
       → tested ≡ old ++ choice_code u.wide u.passed u.held t next → inside ≡ next + 1 → one ≡ tested ++ statements_code kept u inside out loop these
-      → past ≡ inside + labels_of these → turned ≡ one ++ between_code (can_complete_all these) those past next → other ≡ past + 1 → left ≡ drop (results_all these) kept
+      → past ≡ inside + labels_of these → turned ≡ one ++ between_code (can_complete_all these) those past next → other ≡ past + 1
+      → left ≡ drop (results_all these) kept
       → two ≡ turned ++ statements_code left second other out loop those → new ≡ two ++ behind_code those past → check_of these those ≡ None
       → new ≡ old ++ statement_code kept u next out loop (If t these those)
   choice_lines old tested one turned two new kept left next inside past other out loop test_is inside_is one_is past_is turn_is other_is left_is two_is new_is

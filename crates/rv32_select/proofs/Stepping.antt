@@ -36,7 +36,8 @@ pub straight_first : (home : ℕ) (keeps : Bool) (u : Surroundings) (s : Stateme
     → new ≡ old ++ first_code home keeps u s code
 straight_first zero keeps u s old straight put new code e p n = n ∙ p ∙ ap (λ ls. ls ++ code) (e ∙ append-nil old)
 straight_first (suc h) keeps u s old straight put new code e p n =
-    n ∙ ap (λ none. if none then put else take (length straight) put) (is_home (suc h) (omega arith)) ∙ ap (take (length straight)) p ∙ take-append_seam straight code ∙ e
+    n ∙ ap (λ none. if none then put else take (length straight) put) (is_home (suc h) (omega arith)) ∙ ap (take (length straight)) p
+    ∙ take-append_seam straight code ∙ e
 
 -- the place at the start of statements, before one of them, and behind it
 module _ (start before behind : Surroundings) (s : Statement) (ss all : Statements)

@@ -1,10 +1,12 @@
--- How lines begin: where the first instruction of all is a jump or a call, it goes to another instruction. So it goes less far than the code is long.
+-- View of code: how lines begin: where the first instruction of all is a jump or a call, it goes to another instruction. So it goes less far than the code is
+-- long.
 use Rattle.std.specs.Prelude.{ℕ, Bool, true, false, List, [], ◌∷◌, Option, Some, None, nat_eq, nat_lt, if◌then◌else◌}
 use Rattle.core_lines.specs.declared.line.Line.{Line}
 use Rattle.core_lines.specs.declared.line.Line.TheVariants.{Plain, Label, Jump, JumpUnless, BranchUnless, CallTo}
 use Rattle.core_lines.specs.Lines.{code_length}
 
--- The label to which the first instruction goes, where it is a jump or a call. The jump that is made unless a comparison holds is its line's second instruction.
+-- The label to which the first instruction goes, where it is a jump or a call. The jump that is made unless a comparison holds is its line's second
+-- instruction.
 abbrev pub first_target : List Line → Option ℕ
 first_target [] = None
 first_target (Plain instr ∷ lines) = None

@@ -1,4 +1,4 @@
--- What a failed check raises, as the definition of code has it.
+-- View of code: what a failed check raises, as the definition of code has it.
 use Rattle.std.specs.Prelude.{ℕ, List, [], ◌∷◌}
 use Rattle.core_lines.specs.Checks as lines
 use Rattle.core_lines.specs.Held.{Holding}

@@ -1,4 +1,4 @@
--- One instruction or two that do an operation on a register and a number, or on two registers.
+-- View of code: one instruction or two that do an operation on a register and a number, or on two registers.
 use Rattle.std.specs.Prelude.{ℕ, List, [], ◌∷◌, ◌++◌, Option, Some, None, Bool, true, false}
 use Rattle.core_meaning.specs.Core as core
 use Rattle.core_lines.specs.Held.{source_of}

@@ -1,4 +1,4 @@
--- What is known of temporaries, as the definition of code has it.
+-- View of code: what is known of temporaries, as the definition of code has it.
 use Rattle.std.specs.Prelude.{ℕ, Option, Some, None}
 use Rattle.core_lines.specs.Held as lines
 use Rattle.rv32_select.specs.declared.keeper.Keeper.{Keeper}

@@ -6,3 +6,4 @@ pub mod Marks
 pub mod Beginning
 pub mod Listing
 pub mod Failures
+pub mod Runs

@@ -1,4 +1,4 @@
--- What a listing is: lines with labels, and of each function in turn where its locals live.
+-- View of code: what a listing is: lines with labels, and of each function in turn where its locals live.
 use Rattle.std.specs.Prelude.{ℕ, List, map}
 use Rattle.core_meaning.specs.Core.{Function}
 use Rattle.core_lines.specs.declared.line.Line.{Line}

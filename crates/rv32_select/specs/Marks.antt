@@ -1,4 +1,4 @@
--- Which locals may have a home, as one walk over a body finds it: each local of the blocks around is marked as long as its address isn't taken.
+-- View of code: which locals may have a home, as one walk over a body finds it: each local of the blocks around is marked as long as its address isn't taken.
 use Rattle.std.specs.Prelude.{ℕ, zero, suc, Bool, false, not, ◌&&◌, nat_eq, if◌then◌else◌, List, [], ◌∷◌}
 use Rattle.core_meaning.specs.Core.{Local}
 use Rattle.core_lines.specs.Homes.{fills, is_scalar, flag_at}

@@ -1,4 +1,4 @@
--- Where code stands, as the definition of code has it.
+-- View of code: where code stands, as the definition of code has it.
 use Rattle.std.specs.Prelude.{ℕ, ◌+◌, ◌-◌, ◌*◌, ◌/◌, nat_le, if◌then◌else◌, Bool, true, false, List, drop, map, reverse}
 use Rattle.core_lines.specs.Choosing.{far}
 use Rattle.core_lines.specs.Selected.{Surroundings, too_many}

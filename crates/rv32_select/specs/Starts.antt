@@ -1,4 +1,4 @@
--- Where the statements of a list begin: the homes of the names to come there, and what is known of temporaries.
+-- View of code: where the statements of a list begin: the homes of the names to come there, and what is known of temporaries.
 use Rattle.std.specs.Prelude.{ℕ, List, [], ◌∷◌, drop}
 use Rattle.core_meaning.specs.Core.{Statements, NoStatements, MoreStatements}
 use Rattle.core_lines.specs.Held.{Holding, held_behind}

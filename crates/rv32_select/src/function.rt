@@ -365,7 +365,8 @@ fn program_lines(
 pub fn select(alloc: Global, program: &Program) -> Result<Labelled, AllocError>
     // the lines are those of the definition, with no branch alone
     ensures selected { IfOk result (λ labelled. labelled.lines ≡ program_code far (program_tree program.now)) }
-    // no label stands twice in the lines; their words, where a conditional jump counts as two, are some, and are within the bound by the program's operations; and
+    // no label stands twice in the lines; their words, where a conditional jump counts as two, are some, and are within the bound by the program's operations;
+    // and
     // a machine that begins with the lines does what the program does, with frames within the bounds of its functions
     ensures lines { IfOk result (λ labelled. AreLinesOf (program_tree program.now) labelled.lines) }
     // of each function in turn, the registers of its locals in its order, 0 for one that has none

@@ -7,52 +7,47 @@ ghost use Rattle.core_lines.specs.Selected.{holding, naming};
 ghost use Rattle.cyc_core.specs.Trees.{temporary_tree, body_tree};
 ghost use Rattle.rv32_select.specs.Places.{surroundings};
 
-use crate::flags::either;
+use crate::flags::Flags;
 use crate::loads::{flag_some, flag_while};
 use crate::place::Place;
 use cyc_core::{Statement, Temporary};
-use std::alloc::{AllocError, Global};
+use std::alloc::AllocError;
 
 /// What is loaded where a `Break` and a `Continue` go.
 #[derive(Clone, Copy)]
 pub struct Exits<'l> {
     /// Where a `Break` goes.
-    pub out: &'l [bool],
+    pub out: &'l Flags,
     /// Where a `Continue` goes.
-    pub again: &'l [bool],
+    pub again: &'l Flags,
 }
 
 /// What is loaded where one way or another goes on, and a temporary, if there is one.
-pub fn joined(
-    alloc: Global,
-    first: &[bool],
-    second: Vec<bool>,
-    tested: Option<Temporary>,
-) -> Result<Vec<bool>, AllocError>
-    ensures { IfOk result (λ both. both.items
-        ≡ all_flagged true (option_to_list (option_map temporary_tree tested)) (either_flagged first.now second.items)) }
+pub fn joined(first: &Flags, second: Flags, tested: Option<Temporary>) -> Result<Flags, AllocError>
+    ensures { IfOk result (λ both. both
+        ≡ all_flagged true (option_to_list (option_map temporary_tree tested)) (either_flagged first.now second)) }
 {
-    let mut both = either(alloc, first, &second)?;
-    flag_some(&mut both, tested);
+    let mut both = first.either(&second)?;
+    flag_some(&mut both, tested)?;
     Ok(both)
 }
 
 /// What is loaded from the start of a loop on: all that it loads, and what is loaded where it is left. The place goes on behind the loop.
 pub fn loop_head(
     place: &mut Place,
-    after: &[bool],
+    after: &Flags,
     exits: Exits<'_>,
     test: &[Statement],
     flag: Temporary,
     body: &[Statement],
-) -> Result<Vec<bool>, AllocError>
-    ensures head { let u = surroundings place.old in IfOk result (λ head. head.items ≡ at_loop u.homes u.statics u.names
+) -> Result<Flags, AllocError>
+    ensures head { let u = surroundings place.old in IfOk result (λ head. head ≡ at_loop u.homes u.statics u.names
         after.now exits.entry.out.now exits.entry.again.now (core.While (body_tree test.now) flag.0 (body_tree body.now))) }
     ensures same { OnOk result (surroundings place.new ≡ holding place.new.held (naming (surroundings place.new).names (surroundings place.old))) }
     ensures homes { OnOk result (place.new.homes.items ≡ place.old.homes.items) }
 {
-    let ways = either(place.alloc, exits.out, exits.again)?;
-    let mut head = joined(place.alloc, after, ways, None)?;
+    let ways = exits.out.either(exits.again)?;
+    let mut head = joined(after, ways, None)?;
     flag_while(&mut head, place, test, flag, body)?;
     Ok(head)
 }

@@ -43,6 +43,7 @@ mod place;
 mod points;
 mod raising;
 mod results;
+mod runs;
 mod saves;
 mod settling;
 mod starts;

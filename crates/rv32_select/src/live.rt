@@ -10,7 +10,7 @@ ghost use Rattle.core_lines.specs.Selected.{names_after_all, holding, naming};
 ghost use Rattle.cyc_core.specs.Trees.{local_tree, statement_tree, body_tree};
 ghost use Rattle.rv32_select.specs.Places.{surroundings};
 
-use crate::flags::{copied, either, set_flag};
+use crate::flags::Flags;
 use crate::joining::{Exits, joined, loop_head};
 use crate::live_leaves::{
     live_call, live_check, live_end, live_jump, live_operation, live_request, live_return,
@@ -32,36 +32,29 @@ const FEW: usize = 4096;
 fn live_statement(
     saves: &mut Vec<bool>,
     place: &mut Place,
-    live: &mut Vec<bool>,
+    live: &mut Flags,
     exits: Exits<'_>,
     statement: &Statement,
 ) -> Result<(), AllocError>
     ensures saves { let u = surroundings place.old in OnOk result (saves.new.items ≡ saves.old.items
-        ++ reverse (saves_in u.homes u.statics u.names u.held live.old.items exits.entry.out.now exits.entry.again.now (statement_tree statement.now))) }
-    ensures live { let u = surroundings place.old in OnOk result (live.new.items
-        ≡ live_in u.homes u.statics u.names u.held live.old.items exits.entry.out.now exits.entry.again.now (statement_tree statement.now)) }
+        ++ reverse (saves_in u.homes u.statics u.names u.held live.old exits.entry.out.now exits.entry.again.now (statement_tree statement.now))) }
+    ensures live { let u = surroundings place.old in OnOk result (live.new
+        ≡ live_in u.homes u.statics u.names u.held live.old exits.entry.out.now exits.entry.again.now (statement_tree statement.now)) }
     ensures same { OnOk result (surroundings place.new ≡ holding place.new.held (naming (surroundings place.new).names (surroundings place.old))) }
     ensures homes { OnOk result (place.new.homes.items ≡ place.old.homes.items) }
 {
     match statement {
         Statement::Do(_, operation) => live_operation(saves, &place.held, live, *operation),
         Statement::Copy(to, from, _) => {
-            set_flag(live, *to, true);
-            set_flag(live, *from, true);
-            Ok(())
+            live.set(*to, true)?;
+            live.set(*from, true)
         }
-        Statement::Clear(pointer, _, _) => {
-            set_flag(live, *pointer, true);
-            Ok(())
-        }
+        Statement::Clear(pointer, _, _) => live.set(*pointer, true),
         Statement::RegionAlloc(to, handle, count, _) => {
             live_request(saves, &place.held, live, *to, *handle, *count)
         }
         Statement::UniqueAlloc(to, _) => settle(saves, live, *to),
-        Statement::Check(test, failure, _) => {
-            live_check(live, &place.held, *test, *failure);
-            Ok(())
-        }
+        Statement::Check(test, failure, _) => live_check(live, &place.held, *test, *failure),
         Statement::If(test, both) => { live_if(saves, place, live, exits, *test, &both.0, &both.1) }
         Statement::While(flag, both) => {
             live_while(saves, place, live, exits, &both.0, *flag, &both.1)
@@ -72,7 +65,7 @@ fn live_statement(
         Statement::Continue(_) => live_jump(live, exits.again),
         Statement::Call(call) => live_call(saves, &place.held, live, call.result, &call.arguments),
         Statement::Return(value, _) => live_return(place, live, *value),
-        Statement::Raise(..) => live_end(place, live),
+        Statement::Raise(..) => live_end(live),
     }
 }
 
@@ -81,18 +74,18 @@ fn live_statement(
 fn live_before(
     saves: &mut Vec<bool>,
     place: &mut Place,
-    after: &[bool],
+    after: &Flags,
     exits: Exits<'_>,
     statements: &[Statement],
-) -> Result<Vec<bool>, AllocError>
+) -> Result<Flags, AllocError>
     ensures saves { let u = surroundings place.old in OnOk result (saves.new.items ≡ saves.old.items
         ++ reverse (saves_of u.homes u.statics u.names u.held after.now exits.entry.out.now exits.entry.again.now (body_tree statements.now))) }
-    ensures live { let u = surroundings place.old in IfOk result (λ live. live.items
+    ensures live { let u = surroundings place.old in IfOk result (λ live. live
         ≡ live_of u.homes u.statics u.names u.held after.now exits.entry.out.now exits.entry.again.now (body_tree statements.now)) }
     ensures same { OnOk result (surroundings place.new ≡ holding place.new.held (naming (surroundings place.new).names (surroundings place.old))) }
     ensures homes { OnOk result (place.new.homes.items ≡ place.old.homes.items) }
 {
-    let mut live = copied(place.alloc, after)?;
+    let mut live = after.copied()?;
     live_statements(saves, place, &mut live, exits, statements)?;
     Ok(live)
 }
@@ -102,16 +95,16 @@ fn live_before(
 fn live_raising(
     saves: &mut Vec<bool>,
     place: &mut Place,
-    live: &mut Vec<bool>,
+    live: &mut Flags,
     exits: Exits<'_>,
     these: &[Statement],
     those: &[Statement],
 ) -> Result<(), AllocError>
     ensures saves { let u = surroundings place.old in OnOk result (saves.new.items ≡ saves.old.items
-        ++ reverse (saves_of u.homes u.statics u.names u.held live.old.items exits.entry.out.now exits.entry.again.now (body_tree these.now))) }
+        ++ reverse (saves_of u.homes u.statics u.names u.held live.old exits.entry.out.now exits.entry.again.now (body_tree these.now))) }
     ensures live { let u = surroundings place.old in let behind = names_after_all (body_tree these.now) u.names in
-        OnOk result (live.new.items ≡ all_flagged true (loads_of u.homes u.statics behind u.held (body_tree those.now))
-        (live_of u.homes u.statics u.names u.held live.old.items exits.entry.out.now exits.entry.again.now (body_tree these.now))) }
+        OnOk result (live.new ≡ all_flagged true (loads_of u.homes u.statics behind u.held (body_tree those.now))
+        (live_of u.homes u.statics u.names u.held live.old exits.entry.out.now exits.entry.again.now (body_tree these.now))) }
     ensures same { OnOk result (surroundings place.new ≡ holding place.new.held (naming (surroundings place.new).names (surroundings place.old))) }
     ensures homes { OnOk result (place.new.homes.items ≡ place.old.homes.items) }
 {
@@ -129,19 +122,19 @@ fn live_raising(
 fn live_both(
     saves: &mut Vec<bool>,
     place: &mut Place,
-    live: &mut Vec<bool>,
+    live: &mut Flags,
     exits: Exits<'_>,
     these: &[Statement],
     those: &[Statement],
 ) -> Result<(), AllocError>
     ensures saves { let u = surroundings place.old in let behind = names_after_all (body_tree these.now) u.names in
         OnOk result (saves.new.items ≡ saves.old.items
-        ++ reverse (saves_of u.homes u.statics u.names u.held live.old.items exits.entry.out.now exits.entry.again.now (body_tree these.now)
-        ++ saves_of u.homes u.statics behind u.held live.old.items exits.entry.out.now exits.entry.again.now (body_tree those.now))) }
+        ++ reverse (saves_of u.homes u.statics u.names u.held live.old exits.entry.out.now exits.entry.again.now (body_tree these.now)
+        ++ saves_of u.homes u.statics behind u.held live.old exits.entry.out.now exits.entry.again.now (body_tree those.now))) }
     ensures live { let u = surroundings place.old in let behind = names_after_all (body_tree these.now) u.names in
-        OnOk result (live.new.items ≡ either_flagged
-        (live_of u.homes u.statics u.names u.held live.old.items exits.entry.out.now exits.entry.again.now (body_tree these.now))
-        (live_of u.homes u.statics behind u.held live.old.items exits.entry.out.now exits.entry.again.now (body_tree those.now))) }
+        OnOk result (live.new ≡ either_flagged
+        (live_of u.homes u.statics u.names u.held live.old exits.entry.out.now exits.entry.again.now (body_tree these.now))
+        (live_of u.homes u.statics behind u.held live.old exits.entry.out.now exits.entry.again.now (body_tree those.now))) }
     ensures same { OnOk result (surroundings place.new ≡ holding place.new.held (naming (surroundings place.new).names (surroundings place.old))) }
     ensures homes { OnOk result (place.new.homes.items ≡ place.old.homes.items) }
 {
@@ -151,7 +144,7 @@ fn live_both(
     let other = live_before(saves, place, live, exits, those)?;
     place.go_to(first);
     live_statements(saves, place, live, exits, these)?;
-    *live = either(place.alloc, live, &other)?;
+    *live = live.either(&other)?;
     Ok(())
 }
 
@@ -160,20 +153,20 @@ fn live_both(
 fn live_ways(
     saves: &mut Vec<bool>,
     place: &mut Place,
-    live: &mut Vec<bool>,
+    live: &mut Flags,
     exits: Exits<'_>,
     these: &[Statement],
     those: &[Statement],
 ) -> Result<(), AllocError>
     ensures saves { let u = surroundings place.old in let behind = names_after_all (body_tree these.now) u.names in
         OnOk result (saves.new.items ≡ saves.old.items
-        ++ reverse (saves_of u.homes u.statics u.names u.held live.old.items exits.entry.out.now exits.entry.again.now (body_tree these.now)
-        ++ saves_of u.homes u.statics behind u.held live.old.items exits.entry.out.now exits.entry.again.now (body_tree those.now))) }
+        ++ reverse (saves_of u.homes u.statics u.names u.held live.old exits.entry.out.now exits.entry.again.now (body_tree these.now)
+        ++ saves_of u.homes u.statics behind u.held live.old exits.entry.out.now exits.entry.again.now (body_tree those.now))) }
     ensures live { let u = surroundings place.old in let behind = names_after_all (body_tree these.now) u.names in
-        OnOk result (live.new.items
+        OnOk result (live.new
         ≡ either_way (raises_only (body_tree those.now)) (loads_of u.homes u.statics behind u.held (body_tree those.now))
-        (live_of u.homes u.statics u.names u.held live.old.items exits.entry.out.now exits.entry.again.now (body_tree these.now))
-        (live_of u.homes u.statics behind u.held live.old.items exits.entry.out.now exits.entry.again.now (body_tree those.now))) }
+        (live_of u.homes u.statics u.names u.held live.old exits.entry.out.now exits.entry.again.now (body_tree these.now))
+        (live_of u.homes u.statics behind u.held live.old exits.entry.out.now exits.entry.again.now (body_tree those.now))) }
     ensures same { OnOk result (surroundings place.new ≡ holding place.new.held (naming (surroundings place.new).names (surroundings place.old))) }
     ensures homes { OnOk result (place.new.homes.items ≡ place.old.homes.items) }
 {
@@ -190,23 +183,22 @@ fn live_ways(
 fn live_if(
     saves: &mut Vec<bool>,
     place: &mut Place,
-    live: &mut Vec<bool>,
+    live: &mut Flags,
     exits: Exits<'_>,
     test: Temporary,
     these: &[Statement],
     those: &[Statement],
 ) -> Result<(), AllocError>
     ensures saves { let u = surroundings place.old in OnOk result (saves.new.items ≡ saves.old.items ++ reverse (saves_in u.homes u.statics u.names u.held
-        live.old.items exits.entry.out.now exits.entry.again.now (core.If test.0 (body_tree these.now) (body_tree those.now)))) }
-    ensures live { let u = surroundings place.old in OnOk result (live.new.items ≡ live_in u.homes u.statics u.names u.held
-        live.old.items exits.entry.out.now exits.entry.again.now (core.If test.0 (body_tree these.now) (body_tree those.now))) }
+        live.old exits.entry.out.now exits.entry.again.now (core.If test.0 (body_tree these.now) (body_tree those.now)))) }
+    ensures live { let u = surroundings place.old in OnOk result (live.new ≡ live_in u.homes u.statics u.names u.held
+        live.old exits.entry.out.now exits.entry.again.now (core.If test.0 (body_tree these.now) (body_tree those.now))) }
     ensures same { OnOk result (surroundings place.new ≡ holding place.new.held (naming (surroundings place.new).names (surroundings place.old))) }
     ensures homes { OnOk result (place.new.homes.items ≡ place.old.homes.items) }
 {
     let tested = if_unknown(&place.held, test);
     live_ways(saves, place, live, exits, these, those)?;
-    flag_some(live, tested);
-    Ok(())
+    flag_some(live, tested)
 }
 
 /// Goes back over a loop's body, and to behind its test, where the place is at the loop's start. Answers what is loaded behind the test.
@@ -214,15 +206,15 @@ fn live_if(
 fn live_body(
     saves: &mut Vec<bool>,
     place: &mut Place,
-    after: &[bool],
-    head: &[bool],
+    after: &Flags,
+    head: &Flags,
     test: &[Statement],
     flag: Temporary,
     body: &[Statement],
-) -> Result<Vec<bool>, AllocError>
+) -> Result<Flags, AllocError>
     ensures saves { let u = surroundings place.old in OnOk result (saves.new.items ≡ saves.old.items ++ reverse (saves_of u.homes u.statics
         (names_after_all (body_tree test.now) u.names) [] head.now after.now head.now (body_tree body.now))) }
-    ensures behind { let u = surroundings place.old in IfOk result (λ behind. behind.items ≡ behind_test u.homes u.statics u.names
+    ensures behind { let u = surroundings place.old in IfOk result (λ behind. behind ≡ behind_test u.homes u.statics u.names
         after.now head.now (body_tree test.now) flag.0 (body_tree body.now)) }
     ensures same { OnOk result (surroundings place.new ≡ holding place.new.held (naming (surroundings place.new).names (surroundings place.old))) }
     ensures homes { OnOk result (place.new.homes.items ≡ place.old.homes.items) }
@@ -236,7 +228,7 @@ fn live_body(
         again: head,
     };
     let inside = live_before(saves, place, head, exits, body)?;
-    joined(place.alloc, after, inside, tested)
+    joined(after, inside, tested)
 }
 
 /// Goes back over a loop.
@@ -244,16 +236,16 @@ fn live_body(
 fn live_while(
     saves: &mut Vec<bool>,
     place: &mut Place,
-    live: &mut Vec<bool>,
+    live: &mut Flags,
     exits: Exits<'_>,
     test: &[Statement],
     flag: Temporary,
     body: &[Statement],
 ) -> Result<(), AllocError>
     ensures saves { let u = surroundings place.old in OnOk result (saves.new.items ≡ saves.old.items ++ reverse (saves_in u.homes u.statics u.names u.held
-        live.old.items exits.entry.out.now exits.entry.again.now (core.While (body_tree test.now) flag.0 (body_tree body.now)))) }
-    ensures live { let u = surroundings place.old in OnOk result (live.new.items ≡ live_in u.homes u.statics u.names u.held
-        live.old.items exits.entry.out.now exits.entry.again.now (core.While (body_tree test.now) flag.0 (body_tree body.now))) }
+        live.old exits.entry.out.now exits.entry.again.now (core.While (body_tree test.now) flag.0 (body_tree body.now)))) }
+    ensures live { let u = surroundings place.old in OnOk result (live.new ≡ live_in u.homes u.statics u.names u.held
+        live.old exits.entry.out.now exits.entry.again.now (core.While (body_tree test.now) flag.0 (body_tree body.now))) }
     ensures same { OnOk result (surroundings place.new ≡ holding place.new.held (naming (surroundings place.new).names (surroundings place.old))) }
     ensures homes { OnOk result (place.new.homes.items ≡ place.old.homes.items) }
 {
@@ -272,15 +264,15 @@ fn live_while(
 fn live_block(
     saves: &mut Vec<bool>,
     place: &mut Place,
-    live: &mut Vec<bool>,
+    live: &mut Flags,
     exits: Exits<'_>,
     locals: &[Local],
     body: &[Statement],
 ) -> Result<(), AllocError>
     ensures saves { let u = surroundings place.old in OnOk result (saves.new.items ≡ saves.old.items ++ reverse (saves_in u.homes u.statics u.names u.held
-        live.old.items exits.entry.out.now exits.entry.again.now (core.Block (map local_tree locals.now) (body_tree body.now)))) }
-    ensures live { let u = surroundings place.old in OnOk result (live.new.items ≡ live_in u.homes u.statics u.names u.held
-        live.old.items exits.entry.out.now exits.entry.again.now (core.Block (map local_tree locals.now) (body_tree body.now))) }
+        live.old exits.entry.out.now exits.entry.again.now (core.Block (map local_tree locals.now) (body_tree body.now)))) }
+    ensures live { let u = surroundings place.old in OnOk result (live.new ≡ live_in u.homes u.statics u.names u.held
+        live.old exits.entry.out.now exits.entry.again.now (core.Block (map local_tree locals.now) (body_tree body.now))) }
     ensures same { OnOk result (surroundings place.new ≡ holding place.new.held (naming (surroundings place.new).names (surroundings place.old))) }
     ensures homes { OnOk result (place.new.homes.items ≡ place.old.homes.items) }
 {
@@ -295,18 +287,18 @@ fn live_block(
 fn live_leavable(
     saves: &mut Vec<bool>,
     place: &mut Place,
-    live: &mut Vec<bool>,
-    again: &[bool],
+    live: &mut Flags,
+    again: &Flags,
     body: &[Statement],
 ) -> Result<(), AllocError>
     ensures saves { let u = surroundings place.old in OnOk result (saves.new.items ≡ saves.old.items
-        ++ reverse (saves_of u.homes u.statics u.names u.held live.old.items live.old.items again.now (body_tree body.now))) }
-    ensures live { let u = surroundings place.old in OnOk result (live.new.items
-        ≡ live_of u.homes u.statics u.names u.held live.old.items live.old.items again.now (body_tree body.now)) }
+        ++ reverse (saves_of u.homes u.statics u.names u.held live.old live.old again.now (body_tree body.now))) }
+    ensures live { let u = surroundings place.old in OnOk result (live.new
+        ≡ live_of u.homes u.statics u.names u.held live.old live.old again.now (body_tree body.now)) }
     ensures same { OnOk result (surroundings place.new ≡ holding place.new.held (naming (surroundings place.new).names (surroundings place.old))) }
     ensures homes { OnOk result (place.new.homes.items ≡ place.old.homes.items) }
 {
-    let behind = copied(place.alloc, live)?;
+    let behind = live.copied()?;
     let exits = Exits {
         out: &behind,
         again,
@@ -319,14 +311,14 @@ fn live_leavable(
 pub fn live_statements(
     saves: &mut Vec<bool>,
     place: &mut Place,
-    live: &mut Vec<bool>,
+    live: &mut Flags,
     exits: Exits<'_>,
     statements: &[Statement],
 ) -> Result<(), AllocError>
     ensures saves { let u = surroundings place.old in OnOk result (saves.new.items ≡ saves.old.items
-        ++ reverse (saves_of u.homes u.statics u.names u.held live.old.items exits.entry.out.now exits.entry.again.now (body_tree statements.now))) }
-    ensures live { let u = surroundings place.old in OnOk result (live.new.items
-        ≡ live_of u.homes u.statics u.names u.held live.old.items exits.entry.out.now exits.entry.again.now (body_tree statements.now)) }
+        ++ reverse (saves_of u.homes u.statics u.names u.held live.old exits.entry.out.now exits.entry.again.now (body_tree statements.now))) }
+    ensures live { let u = surroundings place.old in OnOk result (live.new
+        ≡ live_of u.homes u.statics u.names u.held live.old exits.entry.out.now exits.entry.again.now (body_tree statements.now)) }
     ensures same { OnOk result (surroundings place.new ≡ holding place.new.held (naming (surroundings place.new).names (surroundings place.old))) }
     ensures homes { OnOk result (place.new.homes.items ≡ place.old.homes.items) }
 {
@@ -342,14 +334,14 @@ pub fn live_statements(
 fn live_few(
     saves: &mut Vec<bool>,
     place: &mut Place,
-    live: &mut Vec<bool>,
+    live: &mut Flags,
     exits: Exits<'_>,
     statements: &[Statement],
 ) -> Result<(), AllocError>
     ensures saves { let u = surroundings place.old in OnOk result (saves.new.items ≡ saves.old.items
-        ++ reverse (saves_of u.homes u.statics u.names u.held live.old.items exits.entry.out.now exits.entry.again.now (body_tree statements.now))) }
-    ensures live { let u = surroundings place.old in OnOk result (live.new.items
-        ≡ live_of u.homes u.statics u.names u.held live.old.items exits.entry.out.now exits.entry.again.now (body_tree statements.now)) }
+        ++ reverse (saves_of u.homes u.statics u.names u.held live.old exits.entry.out.now exits.entry.again.now (body_tree statements.now))) }
+    ensures live { let u = surroundings place.old in OnOk result (live.new
+        ≡ live_of u.homes u.statics u.names u.held live.old exits.entry.out.now exits.entry.again.now (body_tree statements.now)) }
     ensures same { OnOk result (surroundings place.new ≡ holding place.new.held (naming (surroundings place.new).names (surroundings place.old))) }
     ensures homes { OnOk result (place.new.homes.items ≡ place.old.homes.items) }
 {
@@ -367,15 +359,15 @@ fn live_few(
 fn live_halves(
     saves: &mut Vec<bool>,
     place: &mut Place,
-    live: &mut Vec<bool>,
+    live: &mut Flags,
     exits: Exits<'_>,
     statements: &[Statement],
 ) -> Result<(), AllocError>
     requires { 2 ≤ length statements.now }
     ensures saves { let u = surroundings place.old in OnOk result (saves.new.items ≡ saves.old.items
-        ++ reverse (saves_of u.homes u.statics u.names u.held live.old.items exits.entry.out.now exits.entry.again.now (body_tree statements.now))) }
-    ensures live { let u = surroundings place.old in OnOk result (live.new.items
-        ≡ live_of u.homes u.statics u.names u.held live.old.items exits.entry.out.now exits.entry.again.now (body_tree statements.now)) }
+        ++ reverse (saves_of u.homes u.statics u.names u.held live.old exits.entry.out.now exits.entry.again.now (body_tree statements.now))) }
+    ensures live { let u = surroundings place.old in OnOk result (live.new
+        ≡ live_of u.homes u.statics u.names u.held live.old exits.entry.out.now exits.entry.again.now (body_tree statements.now)) }
     ensures same { OnOk result (surroundings place.new ≡ holding place.new.held (naming (surroundings place.new).names (surroundings place.old))) }
     ensures homes { OnOk result (place.new.homes.items ≡ place.old.homes.items) }
 {

@@ -13,7 +13,7 @@ ghost use Rattle.rv32_select.specs.Places.{surroundings};
 use crate::answers::hold_answer;
 use crate::behind::hold_behind;
 use crate::calls::hold_called;
-use crate::flags::set_flag;
+use crate::flags::Flags;
 use crate::held::Known;
 use crate::place::Place;
 use cyc_core::{Failure, Local, Operation, Statement, Temporary, Words};
@@ -31,60 +31,79 @@ pub fn if_unknown(held: &Known, temporary: Temporary) -> Option<Temporary>
 }
 
 /// Flags a temporary, if there is one.
-pub fn flag_some(flags: &mut Vec<bool>, temporary: Option<Temporary>)
-    ensures { flags.new.items ≡ all_flagged true (option_to_list (option_map temporary_tree temporary)) flags.old.items }
+pub fn flag_some(flags: &mut Flags, temporary: Option<Temporary>) -> Result<(), AllocError>
+    ensures { OnOk result (flags.new ≡ all_flagged true (option_to_list (option_map temporary_tree temporary)) flags.old) }
 {
     match temporary {
-        Some(temporary) => set_flag(flags, temporary, true),
-        None => {}
+        Some(temporary) => flags.set(temporary, true),
+        None => Ok(()),
     }
 }
 
 /// Flags a temporary whose word isn't known to be elsewhere than in its slot.
-pub fn flag_unknown(flags: &mut Vec<bool>, held: &Known, temporary: Temporary)
-    ensures { flags.new.items ≡ all_flagged true (unknown_in held.now (temporary.0 ∷ [])) flags.old.items }
+pub fn flag_unknown(flags: &mut Flags, held: &Known, temporary: Temporary) -> Result<(), AllocError>
+    ensures { OnOk result (flags.new ≡ all_flagged true (unknown_in held.now (temporary.0 ∷ [])) flags.old) }
 {
-    flag_some(flags, if_unknown(held, temporary));
+    flag_some(flags, if_unknown(held, temporary))
 }
 
 /// Flags those of two temporaries.
-pub fn flag_both(flags: &mut Vec<bool>, held: &Known, first: Temporary, second: Temporary)
-    ensures { flags.new.items ≡ all_flagged true (unknown_in held.now (first.0 ∷ second.0 ∷ [])) flags.old.items }
+pub fn flag_both(
+    flags: &mut Flags,
+    held: &Known,
+    first: Temporary,
+    second: Temporary,
+) -> Result<(), AllocError>
+    ensures { OnOk result (flags.new ≡ all_flagged true (unknown_in held.now (first.0 ∷ second.0 ∷ [])) flags.old) }
 {
-    flag_unknown(flags, held, first);
-    flag_unknown(flags, held, second);
+    flag_unknown(flags, held, first)?;
+    flag_unknown(flags, held, second)
 }
 
 /// Flags those of several.
-pub fn flag_arguments(flags: &mut Vec<bool>, held: &Known, arguments: &[Temporary])
-    ensures { flags.new.items ≡ all_flagged true (unknown_in held.now (map temporary_tree arguments.now)) flags.old.items }
+pub fn flag_arguments(
+    flags: &mut Flags,
+    held: &Known,
+    arguments: &[Temporary],
+) -> Result<(), AllocError>
+    ensures { OnOk result (flags.new ≡ all_flagged true (unknown_in held.now (map temporary_tree arguments.now)) flags.old) }
 {
     'each: for argument in arguments {
-        flag_unknown(flags, held, *argument);
+        flag_unknown(flags, held, *argument)?;
     }
+    Ok(())
 }
 
 /// Flags what a failed check loads, beside what it tests.
-pub fn flag_failure(flags: &mut Vec<bool>, held: &Known, failure: Failure)
-    ensures { flags.new.items ≡ all_flagged true (failure_loads held.now failure) flags.old.items }
+pub fn flag_failure(flags: &mut Flags, held: &Known, failure: Failure) -> Result<(), AllocError>
+    ensures { OnOk result (flags.new ≡ all_flagged true (failure_loads held.now failure) flags.old) }
 {
     match failure {
-        Failure::Always(_) => {}
+        Failure::Always(_) => Ok(()),
         Failure::ByTest(test, _, _) => flag_unknown(flags, held, test),
     }
 }
 
 /// Flags what a check loads.
-fn flag_check(flags: &mut Vec<bool>, held: &Known, test: Temporary, failure: Failure)
-    ensures { flags.new.items ≡ all_flagged true (failure_loads held.now failure) (all_flagged true (unknown_in held.now (test.0 ∷ [])) flags.old.items) }
+fn flag_check(
+    flags: &mut Flags,
+    held: &Known,
+    test: Temporary,
+    failure: Failure,
+) -> Result<(), AllocError>
+    ensures { OnOk result (flags.new ≡ all_flagged true (failure_loads held.now failure) (all_flagged true (unknown_in held.now (test.0 ∷ [])) flags.old)) }
 {
-    flag_unknown(flags, held, test);
-    flag_failure(flags, held, failure);
+    flag_unknown(flags, held, test)?;
+    flag_failure(flags, held, failure)
 }
 
 /// Flags what an operation loads.
-pub fn flag_operation(flags: &mut Vec<bool>, held: &Known, operation: Operation)
-    ensures { flags.new.items ≡ all_flagged true (loads_of_operation held.now (operation_tree operation)) flags.old.items }
+pub fn flag_operation(
+    flags: &mut Flags,
+    held: &Known,
+    operation: Operation,
+) -> Result<(), AllocError>
+    ensures { OnOk result (flags.new ≡ all_flagged true (loads_of_operation held.now (operation_tree operation)) flags.old) }
 {
     match operation {
         Operation::Move(_, from)
@@ -112,68 +131,72 @@ pub fn flag_operation(flags: &mut Vec<bool>, held: &Known, operation: Operation)
         | Operation::Getchar(..)
         | Operation::HeapHandle(..)
         | Operation::RegionNew(..)
-        | Operation::KeyNew(..) => {}
+        | Operation::KeyNew(..) => Ok(()),
     }
 }
 
 /// Flags what puts the three words of a function's result into their registers loads. Less is known behind it.
 fn flag_three(
-    flags: &mut Vec<bool>,
+    flags: &mut Flags,
     place: &mut Place,
     first: Temporary,
     count: Temporary,
     index: Temporary,
-)
-    ensures flags { flags.new.items ≡ all_flagged true (loads_of_values place.old.held 9 (first.0 ∷ count.0 ∷ index.0 ∷ [])) flags.old.items }
+) -> Result<(), AllocError>
+    ensures flags { OnOk result (flags.new ≡ all_flagged true (loads_of_values place.old.held 9 (first.0 ∷ count.0 ∷ index.0 ∷ [])) flags.old) }
     ensures same { surroundings place.new ≡ holding place.new.held (surroundings place.old) }
     ensures homes { place.new.homes.items ≡ place.old.homes.items }
 {
-    flag_unknown(flags, &place.held, first);
+    flag_unknown(flags, &place.held, first)?;
     place.held.forget_register(Register::ARGUMENT_0);
-    flag_unknown(flags, &place.held, count);
+    flag_unknown(flags, &place.held, count)?;
     place.held.forget_register(Register::ARGUMENT_1);
-    flag_unknown(flags, &place.held, index);
+    flag_unknown(flags, &place.held, index)
 }
 
 /// Flags what a return loads. Nothing is known behind it.
-pub fn flag_return(flags: &mut Vec<bool>, place: &mut Place, value: Option<Words>)
-    ensures flags { flags.new.items ≡ all_flagged true (loads_of_values place.old.held 9 (optional_tree value)) flags.old.items }
-    ensures same { surroundings place.new ≡ holding [] (surroundings place.old) }
-    ensures homes { place.new.homes.items ≡ place.old.homes.items }
+pub fn flag_return(
+    flags: &mut Flags,
+    place: &mut Place,
+    value: Option<Words>,
+) -> Result<(), AllocError>
+    ensures flags { OnOk result (flags.new ≡ all_flagged true (loads_of_values place.old.held 9 (optional_tree value)) flags.old) }
+    ensures same { OnOk result (surroundings place.new ≡ holding [] (surroundings place.old)) }
+    ensures homes { OnOk result (place.new.homes.items ≡ place.old.homes.items) }
 {
     match value {
-        Some(Words::One(from)) => flag_unknown(flags, &place.held, from),
-        Some(Words::Three(first, count, index)) => flag_three(flags, place, first, count, index),
+        Some(Words::One(from)) => flag_unknown(flags, &place.held, from)?,
+        Some(Words::Three(first, count, index)) => flag_three(flags, place, first, count, index)?,
         None => {}
     }
     place.held.forget();
+    Ok(())
 }
 
 /// Flags what a statement loads, and goes on behind it.
 #[cycle(loads)]
 pub fn flag_statement(
-    flags: &mut Vec<bool>,
+    flags: &mut Flags,
     place: &mut Place,
     statement: &Statement,
 ) -> Result<(), AllocError>
-    ensures flags { let u = surroundings place.old in OnOk result (flags.new.items
-        ≡ all_flagged true (loads_in u.homes u.statics u.names u.held (statement_tree statement.now)) flags.old.items) }
+    ensures flags { let u = surroundings place.old in OnOk result (flags.new
+        ≡ all_flagged true (loads_in u.homes u.statics u.names u.held (statement_tree statement.now)) flags.old) }
     ensures same { let u = surroundings place.old in let s = statement_tree statement.now in
         OnOk result (surroundings place.new ≡ holding (held_behind u.homes u.statics u.held s) (naming (names_after s u.names) u)) }
     ensures homes { OnOk result (place.new.homes.items ≡ place.old.homes.items) }
 {
     match statement {
         Statement::Do(_, operation) => {
-            flag_operation(flags, &place.held, *operation);
+            flag_operation(flags, &place.held, *operation)?;
             return hold_behind(place, *operation);
         }
         Statement::Call(call) => {
-            flag_arguments(flags, &place.held, &call.arguments);
+            flag_arguments(flags, &place.held, &call.arguments)?;
             return hold_called(place, call.result);
         }
         Statement::Check(test, failure, _) => {
-            flag_check(flags, &place.held, *test, *failure);
-            return Ok(());
+            return flag_check(flags, &place.held, *test, *failure);
         }
         Statement::If(test, both) => return flag_if(flags, place, *test, &both.0, &both.1),
         Statement::While(again, both) => {
@@ -181,17 +204,17 @@ pub fn flag_statement(
         }
         Statement::Block(block) => return flag_block(flags, place, &block.0, &block.1),
         Statement::Leave(body) => flag_all(flags, place, body)?,
-        Statement::Return(value, _) => flag_return(flags, place, *value),
+        Statement::Return(value, _) => flag_return(flags, place, *value)?,
         Statement::RegionAlloc(to, handle, count, _) => {
-            flag_both(flags, &place.held, *handle, *count);
+            flag_both(flags, &place.held, *handle, *count)?;
             return hold_answer(place, *to);
         }
         Statement::UniqueAlloc(to, _) => return hold_answer(place, *to),
         Statement::Copy(first, second, _) => {
-            set_flag(flags, *first, true);
-            set_flag(flags, *second, true);
+            flags.set(*first, true)?;
+            flags.set(*second, true)?;
         }
-        Statement::Clear(pointer, _, _) => set_flag(flags, *pointer, true),
+        Statement::Clear(pointer, _, _) => flags.set(*pointer, true)?,
         Statement::Break(_) | Statement::Continue(_) | Statement::Raise(..) => {}
     }
     place.held.forget();
@@ -201,19 +224,19 @@ pub fn flag_statement(
 /// The same of a choice.
 #[cycle(loads)]
 fn flag_if(
-    flags: &mut Vec<bool>,
+    flags: &mut Flags,
     place: &mut Place,
     test: Temporary,
     these: &[Statement],
     those: &[Statement],
 ) -> Result<(), AllocError>
-    ensures flags { let u = surroundings place.old in OnOk result (flags.new.items ≡ all_flagged true
-        (loads_in u.homes u.statics u.names u.held (core.If test.0 (body_tree these.now) (body_tree those.now))) flags.old.items) }
+    ensures flags { let u = surroundings place.old in OnOk result (flags.new ≡ all_flagged true
+        (loads_in u.homes u.statics u.names u.held (core.If test.0 (body_tree these.now) (body_tree those.now))) flags.old) }
     ensures same { let u = surroundings place.old in let s = core.If test.0 (body_tree these.now) (body_tree those.now) in
         OnOk result (surroundings place.new ≡ holding (held_behind u.homes u.statics u.held s) (naming (names_after s u.names) u)) }
     ensures homes { OnOk result (place.new.homes.items ≡ place.old.homes.items) }
 {
-    flag_unknown(flags, &place.held, test);
+    flag_unknown(flags, &place.held, test)?;
     let known = place.known()?;
     flag_all(flags, place, these)?;
     let first = place.exchange(known);
@@ -225,21 +248,21 @@ fn flag_if(
 /// The same of a loop.
 #[cycle(loads)]
 pub fn flag_while(
-    flags: &mut Vec<bool>,
+    flags: &mut Flags,
     place: &mut Place,
     test: &[Statement],
     again: Temporary,
     body: &[Statement],
 ) -> Result<(), AllocError>
-    ensures flags { let u = surroundings place.old in OnOk result (flags.new.items ≡ all_flagged true
-        (loads_in u.homes u.statics u.names u.held (core.While (body_tree test.now) again.0 (body_tree body.now))) flags.old.items) }
+    ensures flags { let u = surroundings place.old in OnOk result (flags.new ≡ all_flagged true
+        (loads_in u.homes u.statics u.names u.held (core.While (body_tree test.now) again.0 (body_tree body.now))) flags.old) }
     ensures same { let u = surroundings place.old in OnOk result (surroundings place.new
         ≡ holding [] (naming (names_after (core.While (body_tree test.now) again.0 (body_tree body.now)) u.names) u)) }
     ensures homes { OnOk result (place.new.homes.items ≡ place.old.homes.items) }
 {
     place.held.forget();
     flag_all(flags, place, test)?;
-    flag_unknown(flags, &place.held, again);
+    flag_unknown(flags, &place.held, again)?;
     place.held.forget();
     flag_all(flags, place, body)?;
     place.held.forget();
@@ -249,13 +272,13 @@ pub fn flag_while(
 /// The same of a block with these locals.
 #[cycle(loads)]
 fn flag_block(
-    flags: &mut Vec<bool>,
+    flags: &mut Flags,
     place: &mut Place,
     locals: &[Local],
     body: &[Statement],
 ) -> Result<(), AllocError>
-    ensures flags { let u = surroundings place.old in OnOk result (flags.new.items ≡ all_flagged true
-        (loads_in u.homes u.statics u.names u.held (core.Block (map local_tree locals.now) (body_tree body.now))) flags.old.items) }
+    ensures flags { let u = surroundings place.old in OnOk result (flags.new ≡ all_flagged true
+        (loads_in u.homes u.statics u.names u.held (core.Block (map local_tree locals.now) (body_tree body.now))) flags.old) }
     ensures same { let u = surroundings place.old in OnOk result (surroundings place.new
         ≡ holding [] (naming (names_after (core.Block (map local_tree locals.now) (body_tree body.now)) u.names) u)) }
     ensures homes { OnOk result (place.new.homes.items ≡ place.old.homes.items) }
@@ -269,12 +292,12 @@ fn flag_block(
 /// The same of statements, one after the other.
 #[cycle(loads)]
 pub fn flag_all(
-    flags: &mut Vec<bool>,
+    flags: &mut Flags,
     place: &mut Place,
     statements: &[Statement],
 ) -> Result<(), AllocError>
-    ensures flags { let u = surroundings place.old in OnOk result (flags.new.items
-        ≡ all_flagged true (loads_of u.homes u.statics u.names u.held (body_tree statements.now)) flags.old.items) }
+    ensures flags { let u = surroundings place.old in OnOk result (flags.new
+        ≡ all_flagged true (loads_of u.homes u.statics u.names u.held (body_tree statements.now)) flags.old) }
     ensures same { let u = surroundings place.old in let ss = body_tree statements.now in OnOk result (surroundings place.new
         ≡ holding (held_behind_all u.homes u.statics u.held ss) (naming (names_after_all ss u.names) u)) }
     ensures homes { OnOk result (place.new.homes.items ≡ place.old.homes.items) }
@@ -291,6 +314,6 @@ pub fn pass(place: &mut Place, statements: &[Statement]) -> Result<(), AllocErro
         ≡ holding (held_behind_all u.homes u.statics u.held ss) (naming (names_after_all ss u.names) u)) }
     ensures homes { OnOk result (place.new.homes.items ≡ place.old.homes.items) }
 {
-    let mut none = Vec::new(place.alloc);
+    let mut none = Flags::new(place.alloc);
     flag_all(&mut none, place, statements)
 }

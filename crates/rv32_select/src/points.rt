@@ -6,6 +6,7 @@ ghost use Rattle.cyc_core.specs.Trees.{body_tree};
 ghost use Rattle.rv32_select.specs.Places.{surroundings};
 ghost use Rattle.rv32_select.specs.Starts.{point_start, starts_of};
 
+use crate::flags::Flags;
 use crate::loads::{flag_statement, pass};
 use crate::place::{Place, Point};
 use cyc_core::Statement;
@@ -31,7 +32,7 @@ pub fn points_of(place: &mut Place, statements: &[Statement]) -> Result<Vec<Poin
     ensures same { OnOk result (surroundings place.new ≡ holding place.new.held (naming (surroundings place.new).names (surroundings place.old))) }
     ensures homes { OnOk result (place.new.homes.items ≡ place.old.homes.items) }
 {
-    let mut none = Vec::new(place.alloc);
+    let mut none = Flags::new(place.alloc);
     let mut points = Vec::new(place.alloc);
     'each: for statement in statements {
         let point = place.point()?;

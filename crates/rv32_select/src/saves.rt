@@ -8,7 +8,7 @@ ghost use Rattle.core_lines.specs.Selected.{around};
 ghost use Rattle.cyc_core.specs.Trees.{function_tree};
 ghost use Rattle.rv32_select.specs.Places.{surroundings, saves_left};
 
-use crate::flags::no_flags;
+use crate::flags::Flags;
 use crate::joining::Exits;
 use crate::live::live_statements;
 use crate::place::Place;
@@ -31,13 +31,14 @@ pub fn find_saves(
 {
     let count = function.temporaries as usize;
     let mut saves = Vec::new(place.alloc);
-    let mut live = no_flags(place.alloc, count)?;
-    let none = no_flags(place.alloc, count)?;
+    let mut live = Flags::none(place.alloc, count)?;
+    let none = Flags::none(place.alloc, count)?;
     let exits = Exits {
         out: &none,
         again: &none,
     };
     live_statements(&mut saves, place, &mut live, exits, &function.body)?;
     place.begin_again(function, saves)?;
-    Ok(live)
+    let listed = live.listed()?;
+    Ok(listed)
 }

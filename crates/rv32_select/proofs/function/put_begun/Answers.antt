@@ -19,6 +19,7 @@ returns-clause-code c =
     let ended = c.end_lines.ensures
     ∙ ap (λ ss. ended_code (ends_in_return_all (body_tree ss)) c.put_statements.new.lines.items) c.deref-3.ensures.value in
     function_joined place.statics c.args.labels.refused number c.args.labels.next (function_tree c.args.function.now) _ _ _ _ _ _ _ c.in_ok-bytes.bytes
-    c.in_ok-first.first c.saved_slot-slot.result c.args.place.now.homes.items c.args.saved.now c.args.live.now kept place bytes c.requires.place c.in_ok-first.ensures
+    c.in_ok-first.first c.saved_slot-slot.result c.args.place.now.homes.items c.args.saved.now c.args.live.now kept place bytes c.requires.place
+    c.in_ok-first.ensures
     c.saved_slot-slot.ensures.slot c.requires.homes c.requires.saved c.requires.live c.requires.saves c.in_ok-put_lines.ensures
     c.in_ok-put_prologue.ensures inside ended c.in_ok-put_lines-2.ensures c.in_ok-put_epilogue.ensures

@@ -26,8 +26,8 @@ live_few-each-init n c =
     let size = ap (λ ss. statements_size (body_tree ss)) all in
     record {
       points = found ∙ ap (λ ss. starts_of u.homes u.statics u.names u.held (body_tree ss)) (sym all);
-      live = ap (λ ss. live_of u.homes u.statics u.names u.held c.args.live.now.items c.args.exits.out.now c.args.exits.again.now (body_tree ss)) all;
-      saves = ap (λ ss. c.args.saves.now.items ++ reverse (saves_of u.homes u.statics u.names u.held c.args.live.now.items c.args.exits.out.now
+      live = ap (λ ss. live_of u.homes u.statics u.names u.held c.args.live.now c.args.exits.out.now c.args.exits.again.now (body_tree ss)) all;
+      saves = ap (λ ss. c.args.saves.now.items ++ reverse (saves_of u.homes u.statics u.names u.held c.args.live.now c.args.exits.out.now
           c.args.exits.again.now
           (body_tree ss))) all;
       same = c.in_ok-points.ensures.same;
@@ -110,7 +110,7 @@ live_both-returns t c =
     let u = surroundings a.place.now in
     let these = body_tree a.these.now in
     let those = body_tree a.those.now in
-    let kept = a.live.now.items in
+    let kept = a.live.now in
     let behind = c.in_ok-second.ensures in
     let other = c.in_ok-other.ensures in
     let done = c.in_ok-live_statements.ensures in
@@ -130,11 +130,10 @@ live_both-returns t c =
     record {
       saves =
           both_saves u first second these those kept a.exits.out.now a.exits.again.now at_first at_second a.saves.now.items c.live_before.new.saves.items
-          c.live_statements.new.saves.items c.deref.result.now c.deref.ensures.value other.saves done.saves;
+          c.live_statements.new.saves.items other.saves done.saves;
       live =
-          both_live u first second these those kept a.exits.out.now a.exits.again.now at_first at_second c.deref.result.now c.live_statements.new.live.items
-          c.deref-2.result.now c.in_ok-other.other.items c.deref-3.result.now c.in_ok-live.field-0.items c.deref.ensures.value other.live done.live
-          c.deref-2.ensures.value c.deref-3.ensures.value c.in_ok-live.ensures;
+          both_live u first second these those kept a.exits.out.now a.exits.again.now at_first at_second c.live_statements.new.live c.in_ok-other.other
+          c.in_ok-live.field-0 other.live done.live c.in_ok-live.ensures;
       same = done.same ∙ ap (λ (v : Surroundings). holding last.held (naming last.names v)) at_first;
       homes = done.homes ∙ c.go_to-2.ensures.homes ∙ homes;
     }
@@ -145,7 +144,7 @@ live_raising-returns t c =
     let u = surroundings a.place.now in
     let these = body_tree a.these.now in
     let those = body_tree a.those.now in
-    let kept = a.live.now.items in
+    let kept = a.live.now in
     let behind = c.in_ok-second.ensures in
     let done = c.in_ok-live_statements.ensures in
     let loads = c.in_ok-flag_all.ensures in
@@ -168,7 +167,7 @@ live_raising-returns t c =
           first_saves u first second these those kept a.exits.out.now a.exits.again.now at_first at_second a.saves.now.items c.live_statements.new.saves.items
           done.saves;
       live = check_live u first second these those kept a.exits.out.now a.exits.again.now at_first at_second
-          c.live_statements.new.live.items c.flag_all.new.flags.items
+          c.live_statements.new.live c.flag_all.new.flags
           done.live loads.flags;
       same = as_same u (surroundings c.flag_all.new.place) _ _ last;
       homes = loads.homes ∙ c.go_to-2.ensures.homes ∙ homes;
@@ -182,7 +181,7 @@ live_ways-returns-in_ok-live_raising-clause-saves t c =
     let these = body_tree a.these.now in
     let only = sym c.raises_only.ensures ∙ c.if-raises_only.true in
     c.in_ok-live_raising.ensures.saves
-    ∙ ap (λ bs. a.saves.now.items ++ reverse bs) (check_saves u.homes u.statics u.held a.live.now.items a.exits.out.now a.exits.again.now u.names
+    ∙ ap (λ bs. a.saves.now.items ++ reverse bs) (check_saves u.homes u.statics u.held a.live.now a.exits.out.now a.exits.again.now u.names
     (names_after_all these u.names) these (body_tree a.those.now) only)
 
 pub live_halves-live_statements-requires : goal.live_halves-live_statements-requires
@@ -221,13 +220,13 @@ live_halves-returns t c =
     let is = c.split_at.ensures.by_index.0 in
     record {
       saves =
-          halves_saves u first second a.exits.out.now a.exits.again.now xs ys a.statements.now at_first middle.same is a.live.now.items
-          c.live_statements.new.live.items
+          halves_saves u first second a.exits.out.now a.exits.again.now xs ys a.statements.now at_first middle.same is a.live.now
+          c.live_statements.new.live
           a.saves.now.items c.live_statements.new.saves.items c.live_statements-2.new.saves.items later.live later.saves done.saves;
       live =
-          halves_live u first second a.exits.out.now a.exits.again.now xs ys a.statements.now at_first middle.same is a.live.now.items
-          c.live_statements.new.live.items
-          c.live_statements-2.new.live.items later.live done.live;
+          halves_live u first second a.exits.out.now a.exits.again.now xs ys a.statements.now at_first middle.same is a.live.now
+          c.live_statements.new.live
+          c.live_statements-2.new.live later.live done.live;
       same = done.same ∙ ap (λ (v : Surroundings). holding last.held (naming last.names v)) at_first;
       homes = done.homes ∙ c.go_to.ensures.homes ∙ homes;
     }

@@ -56,13 +56,13 @@ invariant-live_few-each l = record {
       starts_of (surroundings l.fn.place).homes (surroundings l.fn.place).statics (surroundings l.fn.place).names (surroundings l.fn.place).held
       (body_tree (take (length l.points.items) l.statements));
   live : live_of (surroundings l.fn.place).homes (surroundings l.fn.place).statics (surroundings l.fn.place).names (surroundings l.fn.place).held
-      l.live.items l.exits.out.now l.exits.again.now (body_tree (take (length l.points.items) l.statements)) ≡
+      l.live l.exits.out.now l.exits.again.now (body_tree (take (length l.points.items) l.statements)) ≡
       live_of (surroundings l.fn.place).homes (surroundings l.fn.place).statics (surroundings l.fn.place).names (surroundings l.fn.place).held
-      l.fn.live.items l.exits.out.now l.exits.again.now (body_tree l.statements);
+      l.fn.live l.exits.out.now l.exits.again.now (body_tree l.statements);
   saves : l.saves.items ++ reverse (saves_of (surroundings l.fn.place).homes (surroundings l.fn.place).statics (surroundings l.fn.place).names
-      (surroundings l.fn.place).held l.live.items l.exits.out.now l.exits.again.now (body_tree (take (length l.points.items) l.statements))) ≡
+      (surroundings l.fn.place).held l.live l.exits.out.now l.exits.again.now (body_tree (take (length l.points.items) l.statements))) ≡
       l.fn.saves.items ++ reverse (saves_of (surroundings l.fn.place).homes (surroundings l.fn.place).statics (surroundings l.fn.place).names
-      (surroundings l.fn.place).held l.fn.live.items l.exits.out.now l.exits.again.now (body_tree l.statements));
+      (surroundings l.fn.place).held l.fn.live l.exits.out.now l.exits.again.now (body_tree l.statements));
   same : surroundings l.place ≡ holding (surroundings l.place).held (naming (surroundings l.place).names (surroundings l.fn.place));
   homes : l.place.homes.items ≡ l.fn.place.homes.items;
   few : length l.points.items ≤ length l.statements;

@@ -27,7 +27,7 @@ flag_all-each-preserved t c =
     let size = ap (λ ss. statements_size (body_tree ss)) e in
     let fewer = c.each.invariant.size in
     record {
-      flags = flags_behind start before behind (statement_tree x) rest here same step is c.each.flags.items _ c.in_ok-flag_statement.ensures.flags
+      flags = flags_behind start before behind (statement_tree x) rest here same step is c.each.flags _ c.in_ok-flag_statement.ensures.flags
           ∙ c.each.invariant.flags;
       same = same_behind start before behind (statement_tree x) rest here same step is;
       names = names_behind start before behind (statement_tree x) rest here same step is ∙ c.each.invariant.names;
@@ -50,7 +50,7 @@ flag_if-returns-clause-flags t c =
     let u = surroundings c.args.place.now in
     let first = surroundings c.flag_all.new.place in
     choice_flags u first (surroundings c.exchange-first.new.self) c.args.test.0 (body_tree c.args.these.now) (body_tree c.args.those.now)
-    c.in_ok-flag_all.ensures.same (c.exchange-first.ensures.place ∙ ap (λ hs. holding hs first) c.in_ok-known.ensures) _ _ _ _ c.flag_unknown.ensures
+    c.in_ok-flag_all.ensures.same (c.exchange-first.ensures.place ∙ ap (λ hs. holding hs first) c.in_ok-known.ensures) _ _ _ _ c.in_ok-flag_unknown.ensures
     c.in_ok-flag_all.ensures.flags c.in_ok-flag_all-2.ensures.flags
 
 pub flag_while-returns-clause-flags : goal.flag_while-returns-clause-flags
@@ -60,7 +60,7 @@ flag_while-returns-clause-flags t c =
     let empty = holding c.forget.new.self u in
     let second = holding c.forget-2.new.self first in
     loop_flags u empty first second c.args.again.0 (body_tree c.args.test.now) (body_tree c.args.body.now) (ap (λ hs. holding hs u) c.forget.ensures)
-    c.in_ok-flag_all.ensures.same (ap (λ hs. holding hs first) c.forget-2.ensures) _ _ _ _ c.in_ok-flag_all.ensures.flags c.flag_unknown.ensures
+    c.in_ok-flag_all.ensures.same (ap (λ hs. holding hs first) c.forget-2.ensures) _ _ _ _ c.in_ok-flag_all.ensures.flags c.in_ok-flag_unknown.ensures
     c.in_ok-flag_all-2.ensures.flags
 
 pub flag_all-flag_statement-requires : goal.flag_all-flag_statement-requires
@@ -82,7 +82,7 @@ flag_all-returns t c =
     let names = ap (λ xs. names_after_all (body_tree xs) place.names) (sym none) ∙ before.names in
     record {
       flags =
-          ap (λ xs. all_flagged true (loads_of start.homes start.statics place.names place.held (body_tree xs)) c.each.flags.items) (sym none)
+          ap (λ xs. all_flagged true (loads_of start.homes start.statics place.names place.held (body_tree xs)) c.each.flags) (sym none)
           ∙ before.flags;
       same = before.same ∙ (λ i. holding (held i) (naming (names i) start));
       homes = before.homes;

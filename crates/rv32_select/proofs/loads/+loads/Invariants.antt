@@ -27,9 +27,9 @@ decreases-flag_block l = statements_size (body_tree l.body.now) + 1
 abbrev pub invariant-flag_all-each : goal.invariant-flag_all-each
 invariant-flag_all-each l = record {
   flags : all_flagged true (loads_of (surroundings l.initial.place).homes (surroundings l.initial.place).statics (surroundings l.place).names
-      (surroundings l.place).held (body_tree (drop l.statement-index l.statements))) l.flags.items ≡
+      (surroundings l.place).held (body_tree (drop l.statement-index l.statements))) l.flags ≡
       all_flagged true (loads_of (surroundings l.initial.place).homes (surroundings l.initial.place).statics (surroundings l.initial.place).names
-      (surroundings l.initial.place).held (body_tree l.statements)) l.initial.flags.items;
+      (surroundings l.initial.place).held (body_tree l.statements)) l.initial.flags;
   same : surroundings l.place ≡ holding (surroundings l.place).held (naming (surroundings l.place).names (surroundings l.initial.place));
   names : names_after_all (body_tree (drop l.statement-index l.statements)) (surroundings l.place).names ≡
       names_after_all (body_tree l.statements) (surroundings l.initial.place).names;

@@ -6,6 +6,6 @@ use Rattle.rv32_select.proofs.loads.flag_arguments.Given as goal
 
 abbrev pub invariant-each : goal.invariant-each
 invariant-each l = record {
-  whole : all_flagged true (unknown_in l.held (map temporary_tree (drop l.argument-index l.arguments))) l.flags.items ≡
-      all_flagged true (unknown_in l.held (map temporary_tree l.arguments)) l.initial.flags.items;
+  whole : all_flagged true (unknown_in l.held (map temporary_tree (drop l.argument-index l.arguments))) l.flags ≡
+      all_flagged true (unknown_in l.held (map temporary_tree l.arguments)) l.initial.flags;
 }

@@ -25,24 +25,22 @@ returns-clause-place c =
 pub returns-clause-saves : goal.returns-clause-saves
 returns-clause-saves c =
     let is = c.requires.place in
-    let body = ap body_tree c.deref-3.ensures.value in
-    let out = c.deref.ensures.value ∙ c.in_ok-none.ensures in
-    let again = c.deref-2.ensures.value ∙ c.in_ok-none.ensures in
+    let body = ap body_tree c.deref.ensures.value in
+    let none = c.in_ok-none.ensures in
     let live = c.in_ok-live.ensures in
     ap reverse c.in_ok-begin_again.ensures.saves
     ∙ ap reverse (c.in_ok-live_statements.ensures.saves
-    ∙ (λ i. c.new-saves.ensures.items i ++ reverse (saves_of ((is i).homes) ((is i).statics) ((is i).names) ((is i).held) (live i) (out i) (again i) (body i))))
+    ∙ (λ i. c.new-saves.ensures.items i ++ reverse (saves_of ((is i).homes) ((is i).statics) ((is i).names) ((is i).held) (live i) (none i) (none i) (body i))))
     ∙ reverse-reverse _
 
 pub returns-clause-live : goal.returns-clause-live
 returns-clause-live c =
     let is = c.requires.place in
-    let body = ap body_tree c.deref-3.ensures.value in
-    let out = c.deref.ensures.value ∙ c.in_ok-none.ensures in
-    let again = c.deref-2.ensures.value ∙ c.in_ok-none.ensures in
+    let body = ap body_tree c.deref.ensures.value in
+    let none = c.in_ok-none.ensures in
     let live = c.in_ok-live.ensures in
-    c.in_ok-live_statements.ensures.live
-    ∙ (λ i. live_of ((is i).homes) ((is i).statics) ((is i).names) ((is i).held) (live i) (out i) (again i) (body i))
+    c.in_ok-listed.ensures ∙ c.in_ok-live_statements.ensures.live
+    ∙ (λ i. live_of ((is i).homes) ((is i).statics) ((is i).names) ((is i).held) (live i) (none i) (none i) (body i))
 
 pub returns-clause-homes : goal.returns-clause-homes
 returns-clause-homes c = c.in_ok-begin_again.ensures.homes ∙ c.in_ok-live_statements.ensures.homes

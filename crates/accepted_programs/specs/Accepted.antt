@@ -1,4 +1,4 @@
--- The programs that are accepted.
+-- Believed: the programs that are accepted.
 use Rattle.std.specs.Prelude.{◌≡◌, None}
 use Rattle.cyc_tree.specs.Operands.{HasOperands}
 use Rattle.cyc_tree.specs.Tree.{Program}

@@ -8,7 +8,8 @@ use Rattle.source_typing.proofs.Parts.{each_as}
 use Rattle.source_typing.specs.Declarations.{can_be, converted_to, if_sized, stands_earlier, tag_earlier}
 use Rattle.source_typing.specs.Extents.{fits_bytes, is_named_before, layouts_of, layouts_onto, meant_first, size_by, variable_size}
 use Rattle.source_typing.specs.Functions.{head_of}
-use Rattle.source_typing.specs.Globals.{string_faults, constant, count_of, fitting_global, foreign_names, global_entry, global_faults, global_type, global_type_by, has_none}
+use Rattle.source_typing.specs.Globals.{string_faults, constant, count_of, fitting_global, foreign_names, global_entry, global_faults, global_type}
+use Rattle.source_typing.specs.Globals.{global_type_by, has_none}
 use Rattle.source_typing.specs.Globals.{initial_faults}
 use Rattle.source_typing.specs.Programs.{Judged, builtins, entries, entries_with, named}
 use Rattle.source_typing.specs.Scope.{Value, at_item}

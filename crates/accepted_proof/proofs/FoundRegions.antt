@@ -6,7 +6,8 @@ use Rattle.cyc_tree.specs.Tree.{Pointer}
 use Rattle.source_typing.specs.Named.{Below, NamesBelow}
 use Rattle.source_typing.specs.Regions.{Region}
 use Rattle.source_typing.specs.Tables.{Tables, tag_in}
-use Rattle.source_typing.specs.Written.{Found, Is, IsUnique, Missing, RegionNamed, Spot, all_found, argument_spots, base_spots, find_region, found_by, found_named, regions_of_tag, spot}
+use Rattle.source_typing.specs.Written.{Found, Is, IsUnique, Missing, RegionNamed, Spot, all_found, argument_spots, base_spots, find_region, found_by}
+use Rattle.source_typing.specs.Written.{found_named, regions_of_tag, spot}
 use Rattle.source_typing.proofs.Inversion.{none_of_both}
 
 -- ---- what is found

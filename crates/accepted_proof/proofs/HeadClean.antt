@@ -10,13 +10,15 @@ use Rattle.source_typing.specs.Tables.{Entry, OfBuiltin, OfOther, OfTag, Tables,
 use Rattle.source_typing.specs.Tags.{head_faults, head_fitting, head_type, member_faults, member_fitting, member_type, settled_alone}
 use Rattle.source_typing.specs.Types.{PartialType, StaticType, Struct, Union, same_bool}
 use Rattle.source_typing.specs.Verdicts.{Of, Unjudged, Verdict, after, faults_of, unless_faulty}
-use Rattle.source_typing.specs.Written.{Found, RegionNamed, all_found, argument_spots, built, count_fits, counted_type, regions_of_tag, if_sound, of_kind, spot, spots_of, tag_of, with_arguments, written_on}
+use Rattle.source_typing.specs.Written.{Found, RegionNamed, all_found, argument_spots, built, count_fits, counted_type, regions_of_tag, if_sound, of_kind, spot}
+use Rattle.source_typing.specs.Written.{spots_of, tag_of, with_arguments, written_on}
 use Rattle.source_typing.proofs.Inversion.{both_none, none_of_both}
 use Rattle.source_typing.specs.Named.{NamesBelow}
 use Rattle.accepted_proof.proofs.FoundRegions.{AreAllFound, base_arguments, spots_found}
 use Rattle.accepted_proof.proofs.good.Pointers.{HasRefused, PointedIfSome, struct_pointed, union_pointed}
 use Rattle.accepted_proof.proofs.good.Types.{count_is, union_count_is}
-use Rattle.accepted_proof.proofs.HeadTags.{IsTagged, IsUnjudged, MeansFirst, MemberCan, after_head, asks_fit, member_can, no_bad, pointed_fits, same_fault, tagged_pointers, union_asks_fit}
+use Rattle.accepted_proof.proofs.HeadTags.{IsTagged, IsUnjudged, MeansFirst, MemberCan, after_head, asks_fit, member_can, no_bad, pointed_fits, same_fault}
+use Rattle.accepted_proof.proofs.HeadTags.{tagged_pointers, union_asks_fit}
 
 -- ---- members
 

@@ -9,7 +9,9 @@ use Rattle.source_meaning.specs.Shapes as shapes
 use Rattle.type_proof.specs.Entries.{AreObjects}
 use Rattle.source_typing.specs.Named.{AllBelow, Below, BoundsBelow, TypesBelow, NamesBelow}
 use Rattle.source_typing.specs.Faults.{Fault, is_clean, type_rule}
-use Rattle.source_typing.specs.Functions.{AllSpotted, Parameters, Reading, Variables, all_faults, all_of, and_known, bounds_of, effect_of, effect_region, head_after, if_no_key, pair_of, used_named, used_region, head_judged, head_of, if_result, is_main, key_regions, levels_but, main_faults, main_form, parameter_type, read_parameters, result_type, take_spots, variables}
+use Rattle.source_typing.specs.Functions.{AllSpotted, Parameters, Reading, Variables, all_faults, all_of, and_known, bounds_of, effect_of, effect_region}
+use Rattle.source_typing.specs.Functions.{head_after, if_no_key, pair_of, used_named, used_region, head_judged, head_of, if_result, is_main, key_regions}
+use Rattle.source_typing.specs.Functions.{levels_but, main_faults, main_form, parameter_type, read_parameters, result_type, take_spots, variables}
 use Rattle.source_typing.specs.Regions.{Level, Region, is_among}
 use Rattle.source_typing.specs.Tables.{Tables}
 use Rattle.source_typing.specs.Tags.{repeated, settled_alone}
@@ -19,7 +21,8 @@ use Rattle.source_typing.specs.Written.{RegionNamed, base_spots, find_region, sp
 use Rattle.source_typing.proofs.Inversion.{none_of_both, of_is, own_is, test_is}
 use Rattle.source_typing.proofs.SameTags.{SameTags, parameters_same, written_same}
 use Rattle.accepted_proof.specs.Good.{IsGoodSignature}
-use Rattle.accepted_proof.proofs.HeadTypes.{PlainGood, ResultGood, SpotsGood, ObjectGood, parameter_good, result_facts, result_good, find_below, type_spots_good, object_more}
+use Rattle.accepted_proof.proofs.HeadTypes.{PlainGood, ResultGood, SpotsGood, ObjectGood, parameter_good, result_facts, result_good, find_below}
+use Rattle.accepted_proof.proofs.HeadTypes.{type_spots_good, object_more}
 use Rattle.accepted_proof.proofs.good.Pointers.{RegionBelow}
 use Rattle.accepted_proof.proofs.good.Types.{KnowsTags}
 use Rattle.accepted_proof.proofs.Sure.{surely_is}

@@ -137,7 +137,8 @@ fat_shaped s (Is r) (Some t) h = ap (λ z. FatShape z) h
 fat_shaped s IsUnique (Some t) h = tt
 fat_shaped s Missing (Some t) h = ap (λ z. FatShape z) h
 
-unique_shaped : (b : Bool) (o : Owner) (s : Shape) (t : Option StaticType) → o ≡ Alone → ShapedIfSome s t → ShapedIfSome (ThinShape (single b) o s) (unique_with b t)
+unique_shaped : (b : Bool) (o : Owner) (s : Shape) (t : Option StaticType) → o ≡ Alone → ShapedIfSome s t
+    → ShapedIfSome (ThinShape (single b) o s) (unique_with b t)
 unique_shaped b o s None e h = tt
 unique_shaped b o s (Some t) e h = same_thin (single b) o Alone s (shape_of t) e h
 

@@ -9,7 +9,8 @@ use Rattle.source_typing.specs.Programs.{Judged, all_tag_faults, bare_from, buil
 use Rattle.source_typing.specs.Regions.{Level, Region, TheHeap}
 use Rattle.source_typing.specs.Scope.{Env}
 use Rattle.source_typing.specs.Tables.{Entry, Named, OfBuiltin, OfFunction, OfOther, OfTag, OfValue, Tables, find}
-use Rattle.source_typing.specs.Tags.{bare_tag, head_entry, head_faults, head_scope, member_faults, parameter_added, parameters_from, region_parameters, repeated, struct_sized, tag_faults, tag_parts, tag_scope}
+use Rattle.source_typing.specs.Tags.{bare_tag, head_entry, head_faults, head_scope, member_faults, parameter_added, parameters_from, region_parameters}
+use Rattle.source_typing.specs.Tags.{repeated, struct_sized, tag_faults, tag_parts, tag_scope}
 use Rattle.source_typing.specs.Written.{RegionNamed, find_region}
 use Rattle.source_typing.proofs.Entries.{judged_name}
 use Rattle.source_typing.proofs.Inversion.{both_none, none_of_both, own_is}

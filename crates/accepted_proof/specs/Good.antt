@@ -1,4 +1,4 @@
--- What is known of the names in scope where a phrase is judged, and what is then known of the phrase.
+-- Believed, for this crate's laws: what is known of the names in scope where a phrase is judged, and what is then known of the phrase.
 use Rattle.std.specs.Prelude.{◌≡◌, ◌≤◌, ℕ, true, false, Option, Some, None, List, [], ◌∷◌, map}
 use Rattle.cyc_tree.specs.Operands.{ItemsHaveOperands}
 use Rattle.cyc_tree.specs.Tree.{BlockItems, Expression}

@@ -1,4 +1,4 @@
--- What holds of all programs that are accepted.
+-- Believed: what holds of all programs that are accepted.
 use Rattle.std.specs.Prelude.{◌≡◌, ◌<◌, ℕ, false, List, length}
 use Rattle.cyc_tree.specs.Tree.{Program}
 use Rattle.cyc_words.specs.Events.{SourceEnding}

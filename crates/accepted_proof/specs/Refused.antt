@@ -1,4 +1,4 @@
--- Programs that a rule refuses, and that do get stuck.
+-- Believed: programs that a rule refuses, and that do get stuck.
 use Rattle.std.specs.Prelude.{◌≡◌, ℕ, [], ◌∷◌}
 use Rattle.cyc_tree.specs.Tree.{Program}
 use Rattle.cyc_words.specs.Events.{SourceEnding}

@@ -1,5 +1,6 @@
 -- Each call keeps the agreement of the counts by births with the store's own.
-use Rattle.std.proofs.Common.{◌≡◌, ℕ, zero, suc, ◌-◌, ◌<◌, Bool, true, false, Option, Some, None, Result, Ok, Err, nat_eq, nat_le, refl, sym, ap, subst, ◌∙◌, arith}
+use Rattle.std.proofs.Common.{◌≡◌, ℕ, zero, suc, ◌-◌, ◌<◌, Bool, true, false, Option, Some, None, Result, Ok, Err, nat_eq, nat_le, refl, sym, ap, subst, ◌∙◌}
+use Rattle.std.proofs.Common.{arith}
 use Rattle.std.specs.Prelude.{◌&&◌, ◌^◌, nat_lt, if◌then◌else◌}
 use Rattle.std.proofs.lemmas.Bool.Decides.{nat_tests}
 use Rattle.arena_laws.specs.declared.refusal.StoreRefusal.{StoreRefusal}
@@ -8,7 +9,8 @@ use Rattle.arena_laws.specs.declared.standing.Standing.{Standing}
 use Rattle.arena_laws.specs.declared.standing.Standing.TheVariants.{Lexical, Opened, Closed}
 use Rattle.arena_laws.specs.Counts.{put, one_less, without_region, is_full}
 use Rattle.arena_laws.specs.Holdings.{Holdings, is_none, is_some}
-use Rattle.arena_laws.specs.Lawful.{Grants, Refuses, refuses, with_number, is_new_number, without_number, is_of, standing_as, frees_region, frees_key, opens, closes}
+use Rattle.arena_laws.specs.Lawful.{Grants, Refuses, refuses, with_number, is_new_number, without_number, is_of, standing_as, frees_region, frees_key, opens}
+use Rattle.arena_laws.specs.Lawful.{closes}
 use Rattle.arena_laws.specs.Laws.{Does, made}
 use Rattle.arena_laws.specs.Pages.{ByBirth, born}
 use Rattle.arena_laws.specs.Calls.{Names, Agree, is_granted_or_full}

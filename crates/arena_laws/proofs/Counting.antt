@@ -10,10 +10,13 @@ use Rattle.arena_laws.specs.Counts.{put, room_of, class_of, is_full, is_full_for
 use Rattle.arena_laws.specs.Holdings.{Holdings, fresh}
 use Rattle.arena_laws.specs.Lawful.{Grants, takes_blocks, without_number, without_alone, standing_as}
 use Rattle.arena_laws.specs.Laws.{Does, answer_of, is_refused_full, made, region_alloc, unique_alloc}
-use Rattle.arena_laws.specs.Pages.{Request, NewRegion, BlockIn, FreeRegion, NewAlone, FreeAlone, NewKey, OpenKey, CloseKey, FreeKey, ByBirth, unborn, born, is_refused, counted, said, refusals}
+use Rattle.arena_laws.specs.Pages.{Request, NewRegion, BlockIn, FreeRegion, NewAlone, FreeAlone, NewKey, OpenKey, CloseKey, FreeKey, ByBirth, unborn, born}
+use Rattle.arena_laws.specs.Pages.{is_refused, counted, said, refusals}
 use Rattle.arena_laws.specs.Calls.{Names, no_names, Agree, Answers, is_granted_or_full, named, Run, Done, Call, IsRun, refused_in, RefusedByCount}
-use Rattle.arena_laws.proofs.Births.{Gives, out_of_order, full_left, made_left, born_agrees, region_freed, key_freed, key_opened, key_closed, freed_agrees, turned_agrees}
-use Rattle.arena_laws.proofs.Rooms.{full_same, block_full, alone_full, block_placed, alone_placed, block_agrees, same_block_full, alone_agrees, same_slot_full, alone_freed, alone_freed_agrees}
+use Rattle.arena_laws.proofs.Births.{Gives, out_of_order, full_left, made_left, born_agrees, region_freed, key_freed, key_opened, key_closed, freed_agrees}
+use Rattle.arena_laws.proofs.Births.{turned_agrees}
+use Rattle.arena_laws.proofs.Rooms.{full_same, block_full, alone_full, block_placed, alone_placed, block_agrees, same_block_full, alone_agrees, same_slot_full}
+use Rattle.arena_laws.proofs.Rooms.{alone_freed, alone_freed_agrees}
 use Rattle.arena_laws.proofs.Classes.{class_is}
 
 -- a call's answer is the count's, and the counts agree after it

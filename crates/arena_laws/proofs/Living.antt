@@ -9,7 +9,8 @@ use Rattle.arena_laws.specs.declared.standing.Standing.{Standing}
 use Rattle.arena_laws.specs.declared.standing.Standing.TheVariants.{Lexical, Opened, Closed}
 use Rattle.arena_laws.specs.Counts.{room_of, class_of, is_full, is_full_for_slot, is_too_long, is_too_long_alone}
 use Rattle.arena_laws.specs.Holdings.{Holdings, fresh}
-use Rattle.arena_laws.specs.Lawful.{Answer, Grants, Refuses, Lacks, Done, refuses, makes, with_number, is_new_number, takes_blocks, is_lawful_room, is_in_room, owns, gives_block, gives_alone, frees_region, frees_key, frees_alone, opens, closes, is_of, is_alone}
+use Rattle.arena_laws.specs.Lawful.{Answer, Grants, Refuses, Lacks, Done, refuses, makes, with_number, is_new_number, takes_blocks, is_lawful_room, is_in_room}
+use Rattle.arena_laws.specs.Lawful.{owns, gives_block, gives_alone, frees_region, frees_key, frees_alone, opens, closes, is_of, is_alone}
 use Rattle.arena_laws.specs.Lawful as lawful
 use Rattle.arena_laws.specs.Laws.{Does, answer_of, made, is_block_refused, region_alloc, unique_alloc}
 use Rattle.arena_laws.specs.Asked.{Asked, RegionNew, RegionAlloc, RegionFree, UniqueAlloc, UniqueFree, KeyNew, KeyOpen, KeyClose, KeyFree}

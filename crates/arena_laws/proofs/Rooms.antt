@@ -1,14 +1,17 @@
 -- Each call that takes or frees a block keeps the agreement of the counts by births with the store's own.
-use Rattle.std.proofs.Common.{◌≡◌, ℕ, zero, suc, ◌+◌, ◌-◌, ◌*◌, ◌/◌, ◌%◌, ◌<◌, Bool, true, false, Option, Some, None, Result, Ok, Err, nat_eq, nat_le, nat_lt, refl, sym, ap, subst, ◌∙◌, arith}
+use Rattle.std.proofs.Common.{◌≡◌, ℕ, zero, suc, ◌+◌, ◌-◌, ◌*◌, ◌/◌, ◌%◌, ◌<◌, Bool, true, false, Option, Some, None, Result, Ok, Err, nat_eq, nat_le, nat_lt}
+use Rattle.std.proofs.Common.{refl, sym, ap, subst, ◌∙◌, arith}
 use Rattle.std.specs.Prelude.{◌&&◌, ◌||◌, if◌then◌else◌}
 use Rattle.std.proofs.lemmas.Bool.Decides.{nat_tests}
 use Rattle.arena_laws.specs.declared.owner.Owner.{Owner}
 use Rattle.arena_laws.specs.declared.owner.Owner.TheVariants.{Region, Alone}
 use Rattle.arena_laws.specs.declared.refusal.StoreRefusal.{StoreRefusal}
 use Rattle.arena_laws.specs.declared.refusal.StoreRefusal.TheVariants.{Full, BadHandle, NotABlock}
-use Rattle.arena_laws.specs.Counts.{Counts, put, room_of, class_of, with_block, with_slot, without_slot, block_needs_page, slot_needs_page, is_too_long, is_too_long_alone, is_large, run_of, with_run, with_single, is_full, is_full_for_block, is_full_for_slot}
+use Rattle.arena_laws.specs.Counts.{Counts, put, room_of, class_of, with_block, with_slot, without_slot, block_needs_page, slot_needs_page, is_too_long}
+use Rattle.arena_laws.specs.Counts.{is_too_long_alone, is_large, run_of, with_run, with_single, is_full, is_full_for_block, is_full_for_slot}
 use Rattle.arena_laws.specs.Holdings.{Holdings, arena_base, is_none}
-use Rattle.arena_laws.specs.Lawful.{Grants, Refuses, refuses, gives_block, gives_alone, takes_blocks, is_lawful_room, is_clear, is_in_room, owns, with_region_block, with_alone, without_alone, is_alone, frees_alone, unique_free}
+use Rattle.arena_laws.specs.Lawful.{Grants, Refuses, refuses, gives_block, gives_alone, takes_blocks, is_lawful_room, is_clear, is_in_room, owns}
+use Rattle.arena_laws.specs.Lawful.{with_region_block, with_alone, without_alone, is_alone, frees_alone, unique_free}
 use Rattle.arena_laws.specs.Laws.{Does, is_block_refused, region_alloc, unique_alloc}
 use Rattle.arena_laws.specs.Pages.{ByBirth}
 use Rattle.arena_laws.specs.Calls.{Names, Agree}
@@ -229,7 +232,8 @@ same_block_full names b s d h bytes is a =
 pub same_slot_full : (names : Names) (b : ByBirth) (s : Holdings) (bytes : ℕ) → Agree names b s →
     is_full_for_slot bytes s.counts ≡ is_full_for_slot bytes b.counts
 same_slot_full names b s bytes a =
-    ap (λ n. is_too_long_alone bytes || (nat_eq n (s.counts.class_pages (class_of bytes) * (4096 / class_of bytes)) && is_full s.counts)) (a.slots (class_of bytes))
+    ap (λ n. is_too_long_alone bytes || (nat_eq n (s.counts.class_pages (class_of bytes) * (4096 / class_of bytes)) && is_full s.counts))
+    (a.slots (class_of bytes))
     ∙ ap (λ n. is_too_long_alone bytes || (nat_eq (b.counts.slots (class_of bytes)) (n * (4096 / class_of bytes)) && is_full s.counts)) (a.class_pages
     (class_of bytes))
     ∙ ap (λ t. is_too_long_alone bytes || (nat_eq (b.counts.slots (class_of bytes)) (b.counts.class_pages (class_of bytes) *

@@ -1,4 +1,4 @@
--- What is asked of a store, what any lawful store makes of it, and which calls its counts refuse.
+-- Believed: what is asked of a store, what any lawful store makes of it, and which calls its counts refuse.
 use Rattle.std.specs.Prelude.{ℕ, Bool, true, false}
 use Rattle.arena_laws.specs.Counts.{is_full, is_full_for_slot}
 use Rattle.arena_laws.specs.Holdings.{Holdings}

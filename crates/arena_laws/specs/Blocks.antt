@@ -1,4 +1,4 @@
--- The live blocks of a store over a list of calls: those granted, and freed neither alone nor with their region or key.
+-- Believed: the live blocks of a store over a list of calls: those granted, and freed neither alone nor with their region or key.
 use Rattle.std.specs.Prelude.{◌≡◌, Option, Some, None, ℕ, Bool, List, [], ◌∷◌, Result, Ok, Err, if◌then◌else◌}
 use Rattle.arena_laws.specs.declared.owner.Owner.{Owner}
 use Rattle.arena_laws.specs.declared.owner.Owner.TheVariants.{Region, Alone}

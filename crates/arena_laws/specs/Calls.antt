@@ -1,4 +1,4 @@
--- A store over a list of calls: what it was asked, by births, and what it said, by its own numbers.
+-- Believed: a store over a list of calls: what it was asked, by births, and what it said, by its own numbers.
 use Rattle.std.specs.Prelude.{◌≡◌, Option, Some, None, ℕ, suc, ◌<◌, Bool, true, false, List, [], ◌∷◌, Result, Ok, Err}
 use Rattle.arena_laws.specs.declared.owner.Owner.TheVariants.{Alone}
 use Rattle.arena_laws.specs.declared.refusal.StoreRefusal.{StoreRefusal}
@@ -7,7 +7,8 @@ use Rattle.arena_laws.specs.Counts.{put, is_full, is_full_for_slot}
 use Rattle.arena_laws.specs.Holdings.{Holdings, fresh, is_some}
 use Rattle.arena_laws.specs.Lawful.{region_free, unique_free, key_open, key_close, key_free}
 use Rattle.arena_laws.specs.Laws.{Does, answer_of, is_refused_full, region_new, key_new, is_block_refused, region_alloc, unique_alloc}
-use Rattle.arena_laws.specs.Pages.{Request, NewRegion, BlockIn, FreeRegion, NewAlone, FreeAlone, NewKey, OpenKey, CloseKey, FreeKey, ByBirth, unborn, said, refusals}
+use Rattle.arena_laws.specs.Pages.{Request, NewRegion, BlockIn, FreeRegion, NewAlone, FreeAlone, NewKey, OpenKey, CloseKey, FreeKey, ByBirth, unborn, said}
+use Rattle.arena_laws.specs.Pages.{refusals}
 
 -- the number of each live region and key by its birth (the heap is 0), and the address of each live unique block
 pub record Names : Type 0 where

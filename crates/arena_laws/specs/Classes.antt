@@ -1,4 +1,4 @@
--- What the classes of unique blocks have in common.
+-- View of code: what the classes of unique blocks have in common.
 use Rattle.std.specs.Prelude.{◌≡◌, ℕ, ◌*◌, ◌/◌, ◌%◌, ◌≤◌}
 
 -- the bytes of a slot: they fill a page, in at most 128 slots

@@ -1,4 +1,4 @@
--- The page numbers of a store: how many pages are free, never used or given back, and who has the others. No address is among them.
+-- Believed: the page numbers of a store: how many pages are free, never used or given back, and who has the others. No address is among them.
 use Rattle.std.specs.Prelude.{ℕ, ◌+◌, ◌-◌, ◌*◌, ◌/◌, Bool, ◌&&◌, ◌||◌, nat_eq, nat_le, nat_lt, if◌then◌else◌}
 
 -- Pages that were never used, and pages that were given back; of each region and key (the heap is 0) its pages and the bytes left in its last

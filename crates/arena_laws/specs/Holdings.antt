@@ -1,4 +1,4 @@
--- What a store holds beside its bytes, as plain numbers.
+-- Believed: what a store holds beside its bytes, as plain numbers.
 use Rattle.std.specs.Prelude.{Option, Some, None, ℕ, ◌+◌, ◌*◌, Bool, true, false, ◌&&◌, nat_le, nat_lt}
 use Rattle.arena_laws.specs.declared.owner.Owner.{Owner}
 use Rattle.arena_laws.specs.declared.standing.Standing.{Standing}

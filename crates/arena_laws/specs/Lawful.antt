@@ -1,7 +1,8 @@
--- What a call does over any lawful store: a function of its arguments, of the store's answer and of what was held, to what it says and what
--- is held then. A store chooses numbers and addresses freely, and may refuse what takes memory; a grant that isn't lawful comes to a refusal.
--- The counts are carried along, and no choice of this file depends on them.
-use Rattle.std.specs.Prelude.{Option, Some, None, ℕ, zero, suc, ◌+◌, ◌*◌, ◌%◌, ◌^◌, Bool, true, false, ◌&&◌, nat_eq, nat_le, nat_lt, if◌then◌else◌, Result, Ok, Err}
+-- Believed: what a call does over any lawful store: a function of its arguments, of the store's answer and of what was held, to what it says and what is held
+-- then. A store chooses numbers and addresses freely, and may refuse what takes memory; a grant that isn't lawful comes to a refusal. The counts are carried
+-- along, and no choice of this file depends on them.
+use Rattle.std.specs.Prelude.{Option, Some, None, ℕ, zero, suc, ◌+◌, ◌*◌, ◌%◌, ◌^◌, Bool, true, false, ◌&&◌, nat_eq, nat_le, nat_lt, if◌then◌else◌, Result, Ok}
+use Rattle.std.specs.Prelude.{Err}
 use Rattle.arena_laws.specs.declared.refusal.StoreRefusal.{StoreRefusal}
 use Rattle.arena_laws.specs.declared.refusal.StoreRefusal.TheVariants.{Full, BadHandle, NotABlock, BadKey, Open, NotOpen, Memory}
 use Rattle.arena_laws.specs.declared.standing.Standing.{Standing}

@@ -1,4 +1,4 @@
--- The law of each call of a store: what any lawful store does, and Full exactly where the counts say so.
+-- Believed: the law of each call of a store: what any lawful store does, and Full exactly where the counts say so.
 use Rattle.std.specs.Prelude.{◌≡◌, Option, Some, None, ℕ, Bool, true, false, ◌&&◌, if◌then◌else◌, Result, Ok, Err}
 use Rattle.arena_laws.specs.declared.refusal.StoreRefusal.{StoreRefusal}
 use Rattle.arena_laws.specs.declared.refusal.StoreRefusal.TheVariants.{Full, Memory}

@@ -1,8 +1,9 @@
--- Which requests a store with a number of pages refuses: a count over the requests alone, with no store in it. Regions, keys and unique blocks
--- are named by one count of births from 1 on; the heap is 0. No page was used at first. Requests are in order: they name what is live, and
--- a key is open where a block is asked of it.
+-- Believed: which requests a store with a number of pages refuses: a count over the requests alone, with no store in it. Regions, keys and unique blocks are
+-- named by one count of births from 1 on; the heap is 0. No page was used at first. Requests are in order: they name what is live, and a key is open where a
+-- block is asked of it.
 use Rattle.std.specs.Prelude.{ℕ, suc, Bool, false, List, [], ◌∷◌, if◌then◌else◌}
-use Rattle.arena_laws.specs.Counts.{Counts, fresh_counts, put, room_of, class_of, with_region, without_region, with_block, with_slot, without_slot, is_full, is_full_for_block, is_full_for_slot}
+use Rattle.arena_laws.specs.Counts.{Counts, fresh_counts, put, room_of, class_of, with_region, without_region, with_block, with_slot, without_slot, is_full}
+use Rattle.arena_laws.specs.Counts.{is_full_for_block, is_full_for_slot}
 
 -- what is asked for; `birth` is a region's or key's, or a unique block's
 pub data Request : Type 0 where

@@ -46,7 +46,8 @@ counter_around {s} {a} {g} b index h e more = record {
 }
 
 -- the same is in scope for what is made
-pub inside_goal : {s : Scope} {a : Around} {g : Env} (b : Around) (v : Verdict Goal) → IsIn s a g → b.counters ≡ a.counters → enclosed v ≡ enclosing_of b.enclosing
+pub inside_goal : {s : Scope} {a : Around} {g : Env} (b : Around) (v : Verdict Goal) → IsIn s a g → b.counters ≡ a.counters
+    → enclosed v ≡ enclosing_of b.enclosing
     → IsIn s b (inside v g)
 inside_goal {s} {a} {g} b v h same e = record {
   sees = record { tags = h.sees.tags; regions = h.sees.regions; lenient = h.sees.lenient };

@@ -1,4 +1,4 @@
--- What is answered of makings, by what is answered of their parts.
+-- View of code: what is answered of makings, by what is answered of their parts.
 use Rattle.std.specs.Prelude.{Bool, false, not, true, ℕ, ◌||◌}
 use Rattle.cyc_tree.specs.Tree.{Array, Made, One}
 use Rattle.source_typing.specs.Expressions.{judge}

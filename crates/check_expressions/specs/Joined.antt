@@ -1,4 +1,4 @@
--- What is answered of phrases of several parts, one part after another.
+-- View of code: what is answered of phrases of several parts, one part after another.
 use Rattle.std.specs.Prelude.{List, map, [], ◌∷◌, ◌++◌}
 use Rattle.cyc_tree.specs.Tree.{Expressions, Links, MoreExpressions, MoreLinks, NoExpressions, NoLinks}
 use Rattle.check_operators.specs.Values.{value_of}

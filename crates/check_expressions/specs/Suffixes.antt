@@ -1,4 +1,4 @@
--- Members and subscripts, one after another.
+-- View of code: members and subscripts, one after another.
 use Rattle.std.specs.Prelude.{List, [], ◌∷◌}
 use Rattle.cyc_tree.specs.View.{OneSuffix}
 use Rattle.source_typing.specs.Expressions.{judge}

@@ -1,4 +1,4 @@
--- What is known where an expression within a larger one is judged.
+-- View of code: what is known where an expression within a larger one is judged.
 use Rattle.std.specs.Borrow.{Bor}
 use Rattle.std.specs.List.{list_any}
 use Rattle.std.specs.Prelude.{Bool, List, Option, Some, bytes_eq, ℕ, ◌≡◌, if◌then◌else◌}

@@ -1,4 +1,4 @@
--- Faults in code, as the rules say them.
+-- Believed: faults in code, as the rules say them.
 use Rattle.std.specs.Prelude.{List, None, Option, Some, codes, option_map, ℕ, if◌then◌else◌}
 use Rattle.source_typing.specs.Faults.{
   consumed_rule,

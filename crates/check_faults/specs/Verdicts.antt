@@ -1,4 +1,4 @@
--- What is answered of a phrase: the fault that is answered, that it isn't checked, or what it is.
+-- View of code: what is answered of a phrase: the fault that is answered, that it isn't checked, or what it is.
 use Rattle.std.specs.Prelude.{None, Option, Some, unwrap_or, ◌∷◌}
 use Rattle.source_typing.specs.Faults.{earliest}
 use Rattle.check_faults.specs.Faults.{fault_of, first_of, sooner_found}

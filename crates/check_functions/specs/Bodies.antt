@@ -1,4 +1,4 @@
--- The fault of a function, by those of its parts.
+-- View of code: the fault of a function, by those of its parts.
 use Rattle.std.specs.Prelude.{None, Option, Some}
 use Rattle.source_typing.specs.Faults as rules
 

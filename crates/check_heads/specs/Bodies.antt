@@ -1,4 +1,4 @@
--- What a function's body is judged in.
+-- View of code: what a function's body is judged in.
 use Rattle.std.specs.Prelude.{List, Option, map, ℕ}
 use Rattle.cyc_types.specs.Sameness.{HasTags}
 use Rattle.source_typing.specs.Tables.{Tables, find}

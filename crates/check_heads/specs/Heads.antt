@@ -1,4 +1,4 @@
--- What a head in code says, as the rules say it.
+-- View of code: what a head in code says, as the rules say it.
 use Rattle.std.specs.Prelude.{None, Option, Some, is_none, map, ◌≡◌}
 use Rattle.cyc_types.specs.Regions.{regions_of}
 use Rattle.cyc_types.specs.Types.{static_type}

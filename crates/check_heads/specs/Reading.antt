@@ -1,4 +1,4 @@
--- The parameters of a head in code, as far as they are read.
+-- View of code: the parameters of a head in code, as far as they are read.
 use Rattle.std.specs.Prelude.{Bool, List, None, Option, bytes_eq, codes, false, not, true, ℕ, ◌≡◌, ◌||◌, [], ◌∷◌, ◌++◌}
 use Rattle.std.specs.Borrow.{Bor}
 use Rattle.cyc_types.specs.Types.{static_type}

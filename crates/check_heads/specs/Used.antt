@@ -1,4 +1,4 @@
--- The region names of effects and bounds, one by one, and the regions that keys name.
+-- View of code: the region names of effects and bounds, one by one, and the regions that keys name.
 use Rattle.std.specs.Prelude.{List, None, Option, Some, if◌then◌else◌, map, ℕ, ◌≡◌, [], ◌∷◌, ◌++◌}
 use Rattle.source_typing.specs.Faults.{earliest}
 use Rattle.source_typing.specs.Functions.{all_faults, all_of, pair_of, used_region}

@@ -1,4 +1,4 @@
--- The parts of a program's faults.
+-- View of code: the parts of a program's faults.
 use Rattle.std.specs.Prelude.{Bool, List, Option, is_some, ℕ, ◌≡◌}
 use Rattle.cyc_tree.specs.Tree.{Item}
 use Rattle.source_typing.specs.Faults.{earliest}

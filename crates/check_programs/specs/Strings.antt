@@ -1,4 +1,4 @@
--- The strings of one of several parts.
+-- View of code: the strings of one of several parts.
 use Rattle.std.specs.Prelude.{List, []}
 use Rattle.cyc_tree.specs.Tree.{Expression}
 use Rattle.cyc_tree.specs.View.{OneClause, OneItem, OneSuffix}

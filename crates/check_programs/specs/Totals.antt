@@ -1,4 +1,4 @@
--- The bytes of a program's data, counted one object after another.
+-- View of code: the bytes of a program's data, counted one object after another.
 use Rattle.std.specs.Prelude.{List, Option, Some, drop, map, nat_le, ℕ, ◌≡◌, ◌++◌}
 use Rattle.source_meaning.specs.Strings.{Literal}
 use Rattle.source_typing.specs.Extents.{most_static_bytes}

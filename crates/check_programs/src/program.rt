@@ -3,7 +3,8 @@
 ghost use Rattle.std.specs.Prelude.{◌≡◌, ◌∷◌, [], IfOk, codes};
 ghost use Rattle.cyc_tree.specs.View.{name_tree, program_item_tree, program_tree};
 ghost use Rattle.source_typing.specs.Faults.{earliest, fault, name_rule, test, type_rule};
-ghost use Rattle.source_typing.specs.Programs.{builtins, entries, item_faults, items_from, judged_tags, main_found, main_is, name_of, second_names, tables_of, typing_faults};
+ghost use Rattle.source_typing.specs.Programs.{builtins, entries, item_faults, items_from, judged_tags, main_found, main_is, name_of, second_names, tables_of};
+ghost use Rattle.source_typing.specs.Programs.{typing_faults};
 ghost use Rattle.source_typing.specs.Tables as rules_tables;
 ghost use Rattle.check_heads.specs.Bodies.{KnowsNames};
 ghost use Rattle.check_faults.specs.Faults.{fault_of, faults_of};

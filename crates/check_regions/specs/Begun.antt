@@ -1,4 +1,4 @@
--- What is known of a region name by the way it began.
+-- View of code: what is known of a region name by the way it began.
 use Rattle.std.specs.Prelude.{Bool, false, true}
 use Rattle.check_regions.specs.declared.begun.Begun.{Begun}
 use Rattle.check_regions.specs.declared.begun.Begun.TheVariants.{Block, Name, Variable}

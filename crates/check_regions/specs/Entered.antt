@@ -1,4 +1,4 @@
--- The names that are in scope where a function's body begins.
+-- View of code: the names that are in scope where a function's body begins.
 use Rattle.std.specs.Prelude.{Bool, List, suc, zero, ℕ, ◌++◌, [], ◌∷◌}
 use Rattle.source_typing.specs.Regions.{Level}
 use Rattle.check_regions.specs.Reached.{has}

@@ -1,4 +1,4 @@
--- What the lists of a scope say.
+-- View of code: what the lists of a scope say.
 use Rattle.std.specs.Prelude.{List}
 use Rattle.cyc_types.specs.Regions.{region_of, regions_of}
 use Rattle.cyc_types.specs.declared.region.RegionId.{RegionId}

@@ -1,4 +1,4 @@
--- The point up to which names are in scope.
+-- View of code: the point up to which names are in scope.
 use Rattle.std.specs.Prelude.{length}
 use Rattle.check_regions.specs.Scopes.{Scoped}
 use Rattle.check_regions.specs.declared.scope.RegionMark.{RegionMark}

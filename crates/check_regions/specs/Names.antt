@@ -1,4 +1,4 @@
--- Region names in scope with the regions that they name, as the rules list them.
+-- View of code: region names in scope with the regions that they name, as the rules list them.
 use Rattle.std.specs.Prelude.{None, Option, bytes_eq, map, reverse, ◌≡◌, ℕ, List, [], ◌∷◌}
 use Rattle.std.specs.Map.{lookup}
 use Rattle.std.specs.Borrow.{Bor}

@@ -1,4 +1,4 @@
--- Bounds, each of them once.
+-- View of code: bounds, each of them once.
 use Rattle.std.specs.Prelude.{Bool, List, map, ℕ, ◌≡◌}
 use Rattle.std.specs.List.{list_all}
 use Rattle.source_typing.specs.Regions.{Region}

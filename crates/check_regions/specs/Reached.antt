@@ -1,4 +1,4 @@
--- Regions that reach others by bounds: a set of regions in code, and in the rules.
+-- View of code: regions that reach others by bounds: a set of regions in code, and in the rules.
 use Rattle.std.specs.Prelude.{Bool, List, false, length, max, replicate, slice_get, slice_set, suc, true, unwrap_or, zero, ℕ, ◌+◌, ◌||◌, [], ◌∷◌}
 use Rattle.source_typing.specs.Regions.{Level, Region, TheHeap, by_bounds, is_among, is_heap, reaches}
 

@@ -1,4 +1,4 @@
--- Region names in scope in code, and when they are those of the rules.
+-- View of code: region names in scope in code, and when they are those of the rules.
 use Rattle.std.specs.Prelude.{Bool, List, None, Option, Some, false, length, nat_eq, nat_lt, slice_get, take, true, ℕ, ◌≡◌, ◌||◌}
 use Rattle.std.specs.Prelude.{if◌then◌else◌, [], ◌∷◌, ◌++◌}
 use Rattle.source_typing.specs.Named.{AllBelow, BoundsBelow}

@@ -1,4 +1,4 @@
--- A walk over bounds against their direction, level by level.
+-- View of code: a walk over bounds against their direction, level by level.
 use Rattle.std.specs.Prelude.{Bool, List, None, Option, Some, Vec, false, length, map, slice_get, slice_set, suc, true, unwrap_or, zero, ℕ}
 use Rattle.std.specs.Prelude.{◌≡◌, ◌-◌, [], ◌∷◌, ◌++◌, if◌then◌else◌}
 use Rattle.cyc_types.specs.Regions.{regions_of}

@@ -1,4 +1,4 @@
--- Ways along bounds: where a region leads.
+-- View of code: ways along bounds: where a region leads.
 use Rattle.std.specs.Prelude.{Bool, List, Option, Some, nat_lt, not, slice_get, true, ℕ, ◌≡◌, ◌&&◌, [], ◌∷◌}
 use Rattle.cyc_types.specs.Regions.{region_of}
 use Rattle.source_typing.specs.Regions.{Region, is_heap, reaches}

@@ -1,4 +1,4 @@
--- What is in scope in code where a local is declared, and where a block is entered and left.
+-- View of code: what is in scope in code where a local is declared, and where a block is entered and left.
 use Rattle.std.specs.Prelude.{List, length, ℕ, ◌≡◌, ◌≤◌, [], ◌∷◌}
 use Rattle.source_typing.specs.Scope.{Env, is_second}
 use Rattle.source_typing.specs.Scope as rules

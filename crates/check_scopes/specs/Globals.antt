@@ -1,4 +1,4 @@
--- What the functions and globals of a program are in code.
+-- View of code: what the functions and globals of a program are in code.
 use Rattle.std.specs.Prelude.{List, Option, bytes_eq, ℕ}
 use Rattle.indexmap.specs.IndexMap.{get_by}
 use Rattle.check_scopes.specs.declared.globals.Globals.{Globals}

@@ -1,4 +1,4 @@
--- When what is in scope in code is what is in scope by the rules.
+-- View of code: when what is in scope in code is what is in scope by the rules.
 use Rattle.std.specs.Prelude.{Bool, List, None, Option, Some, false, true, ℕ, ◌≡◌}
 use Rattle.cyc_types.specs.Sameness.{HasTags}
 use Rattle.source_typing.specs.Regions.{TheHeap}

@@ -1,4 +1,4 @@
--- How locals are linked: each name to its last local, and each local to the one that it hides.
+-- View of code: how locals are linked: each name to its last local, and each local to the one that it hides.
 use Rattle.std.specs.Prelude.{List, None, Option, Some, bytes_eq, length, map, reverse, unwrap_or, ℕ, ◌≡◌, if◌then◌else◌, [], ◌∷◌}
 use Rattle.indexmap.specs.IndexMap.{get_by}
 use Rattle.check_scopes.specs.Locals.{Known, known}

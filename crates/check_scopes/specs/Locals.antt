@@ -1,4 +1,4 @@
--- Locals in code, the latest first.
+-- View of code: locals in code, the latest first.
 use Rattle.std.specs.Prelude.{Bool, List, None, Option, Some, bytes_eq, false, length, nat_le, ℕ, ◌&&◌, ◌||◌, if◌then◌else◌, [], ◌∷◌}
 use Rattle.check_scopes.specs.declared.locals.What.{What}
 

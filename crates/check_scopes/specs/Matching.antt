@@ -1,4 +1,4 @@
--- When the locals in code are those of the rules.
+-- View of code: when the locals in code are those of the rules.
 use Rattle.std.specs.Prelude.{List, ◌≡◌, [], ◌∷◌}
 use Rattle.source_typing.specs.Scope.{Local}
 use Rattle.check_scopes.specs.Locals.{Known}

@@ -1,4 +1,4 @@
--- What names mean in code, as the rules say it.
+-- View of code: what names mean in code, as the rules say it.
 use Rattle.std.specs.Prelude.{None, Option, Some, false, map, option_map, true, ℕ, ◌≡◌}
 use Rattle.cyc_types.specs.Regions.{region_of, regions_of}
 use Rattle.cyc_types.specs.Types.{static_type}

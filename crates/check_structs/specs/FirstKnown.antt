@@ -1,4 +1,4 @@
--- What is known of the names of a program before its tags are judged.
+-- View of code: what is known of the names of a program before its tags are judged.
 use Rattle.std.specs.Prelude.{List, bytes_eq, if◌then◌else◌, length, ℕ, ◌≡◌, [], ◌∷◌}
 use Rattle.cyc_tree.specs.Tree.{Program, RegionName}
 use Rattle.source_typing.specs.Programs.{bare_from, builtins, first_from}

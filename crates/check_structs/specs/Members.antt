@@ -1,4 +1,4 @@
--- The members of a struct or union, one by one.
+-- View of code: the members of a struct or union, one by one.
 use Rattle.std.specs.Prelude.{Bool, List, Option, Some, false, true, ℕ, ◌≡◌, []}
 use Rattle.cyc_tree.specs.Tree.{Member, TypeName}
 use Rattle.cyc_types.specs.declared.layer.Layer.{Layer}

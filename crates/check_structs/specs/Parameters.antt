@@ -1,4 +1,4 @@
--- The region parameters of a struct or union, one by one.
+-- View of code: the region parameters of a struct or union, one by one.
 use Rattle.std.specs.Prelude.{Bool, List, false, is_none, is_some, length, ℕ, ◌+◌, ◌≡◌, []}
 use Rattle.source_typing.specs.Declarations.{name_added}
 use Rattle.source_typing.specs.Faults.{earliest}

@@ -1,4 +1,4 @@
--- How a struct or union is judged, by what is known of the names of a program and of the structs and unions before it.
+-- View of code: how a struct or union is judged, by what is known of the names of a program and of the structs and unions before it.
 use Rattle.std.specs.Prelude.{Bool, List, None, Option, Some, false, is_some, nat_lt, true, ℕ, ◌≡◌, ◌&&◌, [], ◌∷◌}
 use Rattle.cyc_tree.specs.Tree.{Program, Structure, TypeName}
 use Rattle.cyc_types.specs.FirstTags.{if_tag, tags_first}

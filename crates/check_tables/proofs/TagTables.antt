@@ -85,7 +85,8 @@ tags_are p = judged_are p (judged_tags p) (all_judged p)
 
 -- ---- the same structs and unions
 
-entries_alike : (l : Bool) (h : Tables) (i : ℕ) (items : List Item) (js : List Judged) → AreTagsOf items js → AlikeTags (entries js) (entries_with l h i js items)
+entries_alike : (l : Bool) (h : Tables) (i : ℕ) (items : List Item) (js : List Judged) → AreTagsOf items js
+    → AlikeTags (entries js) (entries_with l h i js items)
 entries_alike l h i [] [] n = tt
 entries_alike l h i [] (j ∷ js) n = absurd n
 entries_alike l h i (x ∷ items) [] n = absurd n

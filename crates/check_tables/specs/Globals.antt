@@ -1,4 +1,4 @@
--- Globals.
+-- View of code: globals.
 use Rattle.std.specs.Prelude.{Bool, List, None, Option, Some, false, map, nat_le, true, ℕ, ◌≡◌, ◌*◌, ◌++◌, [], ◌∷◌}
 use Rattle.cyc_tree.specs.Tree.{Initial, TypeName}
 use Rattle.source_typing.specs.Faults.{Fault}

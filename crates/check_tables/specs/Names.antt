@@ -1,4 +1,4 @@
--- What the names of items mean.
+-- View of code: what the names of items mean.
 use Rattle.std.specs.Prelude.{None, Option, Some, ◌≡◌}
 use Rattle.source_typing.specs.Tables.{Entry}
 use Rattle.check_scopes.specs.Means.{Means}

@@ -1,4 +1,4 @@
--- When what is known in code of a program's structs, where its globals and heads are judged, is what the rules' tables know of them.
+-- View of code: when what is known in code of a program's structs, where its globals and heads are judged, is what the rules' tables know of them.
 use Rattle.std.specs.Prelude.{Some}
 use Rattle.cyc_types.specs.Sameness.{HasTags}
 use Rattle.source_typing.specs.Tables.{Entry, Tables}

@@ -104,7 +104,8 @@ module _ (g : Tables) (names : List RegionNamed) (t : TypeName) (r : tree.Region
   pub handle_wrong : (f : rules.Fault) → earliest (own.1 ++ others.1) ≡ Some f → Wrong f ≡ shortened (written g names t)
   handle_wrong f h =
       sym (ap (λ v. shortened v) handle_written
-      ∙ shortened_faulty (own.1 ++ others.1) (type_built t.at (pointers_to t.pointers others.0 (Some (region_type (is_key_base t.base) (as_region own.0))))) f h)
+      ∙ shortened_faulty (own.1 ++ others.1)
+      (type_built t.at (pointers_to t.pointers others.0 (Some (region_type (is_key_base t.base) (as_region own.0))))) f h)
 
   pub handle_right : (q : Option Region) (o : Option (List WrittenLayer)) → earliest (own.1 ++ others.1) ≡ None → q ≡ as_region own.0
       → pointers_to t.pointers others.0 (Some (region_type (is_key_base t.base) q)) ≡ led_by o (region_type (is_key_base t.base) q)

@@ -1,4 +1,4 @@
--- The region arguments of structs and unions, where they are written or missing.
+-- View of code: the region arguments of structs and unions, where they are written or missing.
 use Rattle.std.specs.Prelude.{Bool, List, None, Some, false, length, map, nat_eq, replicate, true, ℕ, [], ◌∷◌, ◌++◌}
 use Rattle.source_typing.specs.Faults.{Fault, fault, region_rule}
 use Rattle.source_typing.specs.Written.{Spot, spot}

@@ -1,4 +1,4 @@
--- Types of handles and of keys as they are read.
+-- View of code: types of handles and of keys as they are read.
 use Rattle.std.specs.Prelude.{Bool, Option, false, true}
 use Rattle.source_typing.specs.Regions.{Region}
 use Rattle.source_typing.specs.Types.{PartialType}

@@ -1,4 +1,4 @@
--- What names mean in code where the tag of a struct or union is wanted.
+-- View of code: what names mean in code where the tag of a struct or union is wanted.
 use Rattle.std.specs.Prelude.{Bool, List, Option, bytes_eq, is_some, unwrap_or, ℕ}
 use Rattle.indexmap.specs.IndexMap.{get_by}
 use Rattle.source_typing.specs.Tables.{Tables}

@@ -1,4 +1,4 @@
--- Parameters' types, of what is written.
+-- View of code: parameters' types, of what is written.
 use Rattle.std.specs.Prelude.{ℕ}
 use Rattle.source_typing.specs.Functions.{if_parameter}
 use Rattle.source_typing.specs.Tags.{settled_alone}

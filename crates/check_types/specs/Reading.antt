@@ -1,4 +1,4 @@
--- Types as they are read: the pointers on a base, by what was found of their regions.
+-- View of code: types as they are read: the pointers on a base, by what was found of their regions.
 use Rattle.std.specs.Prelude.{Bool, List, None, Option, Some, false, map, true, ℕ, ◌&&◌, ◌||◌, ◌++◌, [], ◌∷◌}
 use Rattle.cyc_tree.specs.View.{pointer_tree}
 use Rattle.cyc_tree.specs.declared.name.Pointer.{Pointer}

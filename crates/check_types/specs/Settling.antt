@@ -1,4 +1,4 @@
--- Pointers with their missing regions from another type's.
+-- View of code: pointers with their missing regions from another type's.
 use Rattle.std.specs.Prelude.{List, None, Option, Some, length, option_map, suc, zero, ℕ, [], ◌∷◌}
 use Rattle.source_typing.specs.Missing.{fat_with, or_found, outer_region, pointee_of, thin_with, unique_with}
 use Rattle.source_typing.specs.Regions.{Region}

@@ -1,4 +1,4 @@
--- Types of structs and unions as they are read, and what their tags mean.
+-- View of code: types of structs and unions as they are read, and what their tags mean.
 use Rattle.std.specs.Prelude.{Bool, List, None, Option, Some, false, if◌then◌else◌, length, map, true, ℕ, ◌≡◌, ◌++◌}
 use Rattle.cyc_tree.specs.Tree.{Name, TypeName}
 use Rattle.cyc_types.specs.declared.region.RegionId.{RegionId}

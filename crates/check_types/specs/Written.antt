@@ -1,4 +1,4 @@
--- Types as a text writes them in code, as the rules say them.
+-- View of code: types as a text writes them in code, as the rules say them.
 use Rattle.std.specs.Prelude.{List, Option, map, option_map, [], ◌∷◌}
 use Rattle.source_typing.specs.Regions.{Region}
 use Rattle.source_typing.specs.Types.{Char, Fat, Handle, Int, Key, PartialType, Struct, Thin, Union, Unique, Unsigned, Void}

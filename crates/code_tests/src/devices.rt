@@ -4,7 +4,8 @@ use crate::texts::parted;
 use std::io;
 use std::io::{Error, ErrorKind, Read, Write};
 
-/// Gives one byte at a call, for `?` the byte 255, and the end after the last one; fails at the call of that number, and where it is asked for anything but one byte.
+/// Gives one byte at a call, for `?` the byte 255, and the end after the last one; fails at the call of that number, and where it is asked for anything but one
+/// byte.
 #[derive(Drop)]
 pub struct Script {
     bytes: &'static [u8],

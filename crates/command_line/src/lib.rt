@@ -2,7 +2,8 @@
 //!
 //! `words_of` takes the words of the program, and `command_of` reads them into a `Command`, or gives the text to be shown:
 //! help where it was asked for, else what is wrong with the words. `is_same_file` says whether two paths lead to one file,
-//! `is_same_entry` whether they would where there is none yet, and `is_replaceable` whether an image may be written over one; `write_whole` writes one whole or leaves it. Stands on `clap`, and on `explanations` for what `explain` says.
+//! `is_same_entry` whether they would where there is none yet, and `is_replaceable` whether an image may be written over one; `write_whole` writes one whole or
+//! leaves it. Stands on `clap`, and on `explanations` for what `explain` says.
 #![tactic(auto)]
 
 mod command;

@@ -1,6 +1,7 @@
 -- The data of a program that is taken are numbers, NULL and pointers to strings, each in a word or byte, in order. Structs, fat pointers that are NULL and
 -- arrays begin with nothing but zeros.
-use Rattle.std.proofs.Common.{◌≡◌, ℕ, zero, suc, ◌+◌, ◌%◌, ◌^◌, ◌<◌, ◌≤◌, Bool, true, false, Option, Some, None, nat_eq, List, [], ◌∷◌, ◌++◌, map, inl, inr, refl, sym, ap}
+use Rattle.std.proofs.Common.{◌≡◌, ℕ, zero, suc, ◌+◌, ◌%◌, ◌^◌, ◌<◌, ◌≤◌, Bool, true, false, Option, Some, None, nat_eq, List, [], ◌∷◌, ◌++◌, map, inl, inr}
+use Rattle.std.proofs.Common.{refl, sym, ap}
 use Rattle.std.proofs.Common.{subst, arith}
 use Rattle.std.specs.Prelude.{slice_get, length, unwrap_or, if◌then◌else◌, option_map}
 use Rattle.std.proofs.lemmas.Option.{same_Some, none-some}

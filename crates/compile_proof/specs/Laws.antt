@@ -1,4 +1,4 @@
--- What holds of all programs that lowering takes.
+-- Believed: what holds of all programs that lowering takes.
 use Rattle.std.specs.Prelude.{◌≤◌, ◌^◌}
 use Rattle.cyc_tree.specs.Tree.{Program}
 use Rattle.source_meaning.specs.Programs.{world_of, unions_of}

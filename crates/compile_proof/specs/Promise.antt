@@ -1,4 +1,4 @@
--- What is promised of lines for a program's lowered Core, whichever they are: a machine that begins with them does what the source does.
+-- Believed: what is promised of lines for a program's lowered Core, whichever they are: a machine that begins with them does what the source does.
 use Rattle.std.specs.Prelude.{◌≡◌, ℕ, ◌≤◌, Bool, false, List, [], ◌∷◌, length, Option, Some, None, slice_get, bytes_eq}
 use Rattle.std.specs.List.{All}
 use Rattle.cyc_words.specs.Events.{AreBytes}

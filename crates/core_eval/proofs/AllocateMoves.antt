@@ -98,7 +98,8 @@ module _ (known : Known) (ws : List Wait) (marks : List Mark) (c : Config) (h : 
       let block = block_cells false l count in
       let parts = block_parts l count in
       let m' = with_object m (Born 0) o in
-      born_agrees known ws marks c h m' (object_keeps m 0 o) (known.globals ++ block ∷ []) known.regions known.long_blocks (shows_grown h.globals h.born.heap o block parts)
+      born_agrees known ws marks c h m' (object_keeps m 0 o) (known.globals ++ block ∷ []) known.regions known.long_blocks
+      (shows_grown h.globals h.born.heap o block parts)
       (heap_changed m m' known.globals known.regions known.long_blocks h.born (object_others m 0 o) refl (known.globals ++ block ∷ [])
       (one_counted m (Born 0) o known.globals block h.born.heap))
   grown_agrees (suc n) objects has l count =

@@ -1,6 +1,7 @@
 -- From what the code of an operation answers to a move.
 use Rattle.std.specs.Prelude.{slice_index_or, slice_set, if◌then◌else◌}
-use Rattle.std.proofs.Common.{◌≡◌, ℕ, zero, suc, ◌+◌, ◌<◌, Bool, true, Option, Some, None, List, [], ◌∷◌, length, map, Result, Ok, Err, IfOk, OnOk, refl, ap, ◌∙◌, sym, subst, arith}
+use Rattle.std.proofs.Common.{◌≡◌, ℕ, zero, suc, ◌+◌, ◌<◌, Bool, true, Option, Some, None, List, [], ◌∷◌, length, map, Result, Ok, Err, IfOk, OnOk, refl, ap}
+use Rattle.std.proofs.Common.{◌∙◌, sym, subst, arith}
 use Rattle.core_meaning.specs.Memory.{Content}
 use Rattle.core_meaning.specs.Core as core
 use Rattle.core_meaning.specs.Steps as steps
@@ -150,7 +151,8 @@ module _ (f : Frame) (m m' : Memory) (x : ℕ) (v : Value) (is_there : Bool) (re
         refl (blocks_known f m m' entered owns called globals regions long_blocks)
         (put_moves (known_of f m) ws x v read out i w (blocks_of m') (put ∙ ap (λ b. stored_if b (blocks_of m')) stored))
 
-  pub unput_answer : m'.owns ≡ m.owns → m'.globals ≡ m.globals → m'.regions ≡ m.regions → m'.long_blocks ≡ m.long_blocks → (out i : ℕ) (w : Width) → blocks_of m' ≡ blocks_of m
+  pub unput_answer : m'.owns ≡ m.owns → m'.globals ≡ m.globals → m'.regions ≡ m.regions → m'.long_blocks ≡ m.long_blocks → (out i : ℕ) (w : Width)
+      → blocks_of m' ≡ blocks_of m
       → value_of 0 0 w (local_slot f.base (blocks_of m') out i) ≡ None
       → IsMove (Execute (core.Do (core.Put out i (bytes_of w) x))) ws (known_of f m) Wrong ws (known_of f m')
   unput_answer owns globals regions long_blocks out i w same missing =

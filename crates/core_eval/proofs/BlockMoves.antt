@@ -118,8 +118,10 @@ all_shown r (w ∷ locals) m objects shows counted =
     let m1 = with_object m r (blanks (local_layout w) (local_count w)) in
     let more : m1.objects r ≡ length (objects ++ blank_object w ∷ []) =
     ap (λ b. if b then m.objects r + 1 else m.objects r) (region_self r) ∙ ap (λ n. n + 1) counted ∙ length_more objects (blank_object w) in
-    subst (λ (os : List (List Slot)). Shows (with_objects r (map local_tree locals) m1) r os) (append_assoc objects (blank_object w ∷ []) (map blank_object locals))
-    (all_shown r locals m1 (objects ++ blank_object w ∷ []) (shows_grown shows counted (blanks (local_layout w) (local_count w)) (blank_object w) (blank_part w)) more)
+    subst (λ (os : List (List Slot)). Shows (with_objects r (map local_tree locals) m1) r os)
+    (append_assoc objects (blank_object w ∷ []) (map blank_object locals))
+    (all_shown r locals m1 (objects ++ blank_object w ∷ []) (shows_grown shows counted (blanks (local_layout w) (local_count w)) (blank_object w)
+    (blank_part w)) more)
 
 -- ---- a block is entered
 
@@ -127,7 +129,8 @@ all_shown r (w ∷ locals) m objects shows counted =
 abbrev begun : Memory → Memory
 begun m = record (with_standing m (Frame m.activations) Live) { activations = m.activations + 1 }
 
-shows_begun : (m : Memory) (q : Region) (objects : List (List Slot)) → same_region q (Frame m.activations) ≡ false → Shows m q objects → Shows (begun m) q objects
+shows_begun : (m : Memory) (q : Region) (objects : List (List Slot)) → same_region q (Frame m.activations) ≡ false → Shows m q objects
+    → Shows (begun m) q objects
 shows_begun m q objects other shows =
     let s = shows_standing shows (Frame m.activations) other Live in record { live = s.live; holds = s.holds }
 
@@ -168,7 +171,10 @@ module _ (known : Known) (ws : List Wait) (locals : List code.Local) where
           sym h.entered,
           omega (arith, counted),
           all_shown (Frame a) locals (begun m) []
-              (record { live = ap (λ b. is_live (if b then Live else m.standing (Frame a))) (region_self (Frame a)); holds = λ i k j. h.fresh.missing a i k j (omega arith) })
+              (record {
+                live = ap (λ b. is_live (if b then Live else m.standing (Frame a))) (region_self (Frame a));
+                holds = λ i k j. h.fresh.missing a i k j (omega arith);
+              })
               (h.fresh.empty a (omega arith)),
           nested_still m m' a a c.blocks known.base known.blocks ws marks (omega arith)
               (λ k objects below shows. still (Frame k) objects (other_number k a (omega (arith, below))) shows) h.nested,
@@ -212,7 +218,8 @@ left_goes : (exit : Exit) (ws : List Wait) (known : Known) (blocks : List Activa
     → Stands main (rest_of main (Block ∷ ws) marks exit c) (Go (Leave exit)) ws (record known { blocks = drop 1 blocks })
 left_goes exit ws known blocks is main [] c temps fresh globals entered live nested owned called values_live born = absurd nested
 left_goes exit ws known [] is main (mark ∷ marks) c temps fresh globals entered live nested owned called values_live born = absurd nested
-left_goes exit ws known (b ∷ blocks) is main (mark ∷ marks) c temps fresh globals entered live (same, number, below, shows, rest) owned called values_live born =
+left_goes exit ws known (b ∷ blocks) is main (mark ∷ marks) c temps fresh globals entered live (same, number, below, shows, rest) owned called
+    values_live born =
     let m' = with_standing c.memory (Frame mark.number) Dead in
     goes_here main marks (out_of_block mark.number mark.outside.blocks c) _ (Go (Leave exit)) ws (record known { blocks = blocks })
     (record {

@@ -1,6 +1,7 @@
 -- A call begins, and a program.
 use Rattle.std.specs.Prelude.{if◌then◌else◌, slice_get, slice_index_or, nat_eq}
-use Rattle.std.proofs.Common.{◌≡◌, ◌≢◌, ℕ, zero, suc, ◌+◌, ◌<◌, ◌≤◌, true, false, Option, Some, None, List, [], ◌∷◌, length, map, refl, ap, ◌∙◌, sym, subst, arith}
+use Rattle.std.proofs.Common.{◌≡◌, ◌≢◌, ℕ, zero, suc, ◌+◌, ◌<◌, ◌≤◌, true, false, Option, Some, None, List, [], ◌∷◌, length, map, refl, ap, ◌∙◌, sym, subst}
+use Rattle.std.proofs.Common.{arith}
 use Rattle.std.proofs.lemmas.Bool.Decides.{nat_tests}
 use Rattle.std.proofs.lemmas.List.{length-map}
 use Rattle.step_trees.specs.Trees as trees
@@ -185,7 +186,8 @@ module _ (functions : List code.Function) (results : List ℕ) (n : ℕ) (argume
       (rest_of main for_callee (record { number = c.memory.calls; outside = c } ∷ marks)) (callee f (map content_of arguments) c.memory)))) fits
 
   pub call_enters : (f : code.Function) → slice_get (map function_tree functions) n ≡ Some (function_tree f) → f.parameters ≡ length arguments
-      → IsCall (map function_tree functions) results n (map content_of arguments) ws known (Go (Follow (body_tree f.body.items))) for_callee (in_callee f.own.items)
+      → IsCall (map function_tree functions) results n (map content_of arguments) ws known (Go (Follow (body_tree f.body.items))) for_callee
+      (in_callee f.own.items)
   call_enters f at fits = λ main marks c h. record {
     said = Called n ∷ [];
     silent = (tt, tt);

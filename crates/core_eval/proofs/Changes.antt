@@ -22,7 +22,13 @@ abbrev pub stored_in : Known → Stored
 stored_in known = record { blocks = known.blocks; owns = known.owns; globals = known.globals; regions = known.regions; long_blocks = known.long_blocks }
 
 abbrev pub with_stored : Known → Stored → Known
-with_stored known after = record known { blocks = after.blocks; owns = after.owns; globals = after.globals; regions = after.regions; long_blocks = after.long_blocks }
+with_stored known after = record known {
+  blocks = after.blocks;
+  owns = after.owns;
+  globals = after.globals;
+  regions = after.regions;
+  long_blocks = after.long_blocks;
+}
 
 -- an area's objects are these, and afterwards those, and nothing else is stored in another way
 abbrev pub Replaces : Known → Area → (objects objects' : List (List Slot)) → Stored → Type 0
@@ -111,7 +117,8 @@ module _ (known : Known) (ws : List Wait) (marks : List Mark) (c : Config) (h : 
         → ((i k j : ℕ) → parts' (spot_of (Born 0) i k) j ≡ part_in (slot_at objects' i k) j)
         → Agrees (record known { globals = objects' }) ws marks (with_memory changed c)
     globals_agree objects' long others shows =
-        born_agrees known ws marks c h changed (keeps_frames 0 others) objects' known.regions known.long_blocks (record { live = h.globals.live; holds = shows })
+        born_agrees known ws marks c h changed (keeps_frames 0 others) objects' known.regions known.long_blocks
+        (record { live = h.globals.live; holds = shows })
         (heap_changed c.memory changed known.globals known.regions known.long_blocks h.born (keeps_others 0 others) refl objects' (h.born.heap ∙ sym long))
 
     region_agrees : (n : ℕ) (kept : Kept) (objects' : List (List Slot)) → slice_get known.regions n ≡ Some (Some kept) → length objects' ≡ length kept.objects

@@ -68,7 +68,8 @@ one_filled cells k y v None e = by (nat_eq y k) refl
 one_filled cells k y v (Some s) e = get_set cells k (with_held s (refilled s.held v)) s y e ∙ by (nat_eq y k) refl
   where
     by : (b : Bool) → nat_eq y k ≡ b
-        → (if b then Some (with_held s (refilled s.held v)) else slice_get cells y) ≡ (if b then filled_slot (Some v) (slice_get cells y) else slice_get cells y)
+        → (if b then Some (with_held s (refilled s.held v)) else slice_get cells y)
+        ≡ (if b then filled_slot (Some v) (slice_get cells y) else slice_get cells y)
     by true t =
         let same : y ≡ k = grind (arith, nat_tests, t) in
         sym (ap (filled_slot (Some v)) (ap (slice_get cells) same ∙ e))
@@ -192,7 +193,8 @@ module _ (change : Option ℕ → ℕ → Option Part → Option Part) (n : ℕ)
   pub object_changed : (r : Region) (x y j : ℕ)
       → change (cells_on n (spot_of r i k) (spot_of r x y)) j (part_in (slot_at objects x y) j) ≡ part_in (slot_at (fill_in objects i k vs) x y) j
   object_changed r x y j =
-      ap (λ b. change (if (b && nat_eq x i) && (nat_le k y && nat_lt y (k + n)) then Some (y - k) else None) j (part_in (slot_at objects x y) j)) (region_self r)
+      ap (λ b. change (if (b && nat_eq x i) && (nat_le k y && nat_lt y (k + n)) then Some (y - k) else None) j (part_in (slot_at objects x y) j))
+      (region_self r)
       ∙ by (nat_eq x i) refl ∙ ap (λ o. part_in o j) (sym (slot_filled objects i k vs x y))
     where
       by : (b : Bool) → nat_eq x i ≡ b

@@ -123,7 +123,8 @@ ends {ws' = ws'} {known' = known'} [] none r =
     (same_state (Follow NoStatements) ws' (Go (Leave steps.Falls)) ws' known' (λ main marks c h. (h, refl)) (omega arith))
 ends (s ∷ l) none r = absurd (omega (arith, none))
 
-module _ {task : Task} {ws : List Wait} {known : Known} {ws' : List Wait} {known' : Known} (l : List code.Statement) (s : code.Statement) (ls : List code.Statement)
+module _ {task : Task} {ws : List Wait} {known : Known} {ws' : List Wait} {known' : Known} (l : List code.Statement) (s : code.Statement)
+    (ls : List code.Statement)
     (is : l ≡ s ∷ ls) (r : Reaches task ws known (Follow (body_tree l)) ws' known') where
   at_first : Reaches task ws known (Follow (MoreStatements (statement_tree s) (body_tree ls))) ws' known'
   at_first = subst (λ (ss : Statements). Reaches task ws known (Follow ss) ws' known') (ap body_tree is) r
@@ -132,11 +133,13 @@ module _ {task : Task} {ws : List Wait} {known : Known} {ws' : List Wait} {known
   entered_next : (next : Next) (behind ws2 : List Wait) (known2 : Known) → behind ≡ waits_behind (body_tree ls) ws'
       → IsMove (Execute (statement_tree s)) behind known' next ws2 known2 → IsMove task ws known next ws2 known2
   entered_next next behind ws2 known2 waits m =
-      reaches_move (reaches_on at_first (Execute (statement_tree s)) (waits_behind (body_tree ls) ws') known' (first_next known' ws' (statement_tree s) (body_tree ls)))
+      reaches_move (reaches_on at_first (Execute (statement_tree s)) (waits_behind (body_tree ls) ws') known'
+      (first_next known' ws' (statement_tree s) (body_tree ls)))
       next ws2 known2 (subst (λ (b : List Wait). IsMove (Execute (statement_tree s)) b known' next ws2 known2) waits m)
 
   pub entered_answer : {E : Type 0} (a : Result Due E) (behind ws2 : List Wait) (known2 : Known) → behind ≡ waits_behind (body_tree ls) ws'
-      → IfOk a (λ due. IsMove (Execute (statement_tree s)) behind known' (next_of due) ws2 known2) → IfOk a (λ due. IsMove task ws known (next_of due) ws2 known2)
+      → IfOk a (λ due. IsMove (Execute (statement_tree s)) behind known' (next_of due) ws2 known2)
+      → IfOk a (λ due. IsMove task ws known (next_of due) ws2 known2)
   entered_answer (Ok due) behind ws2 known2 waits m = entered_next (next_of due) behind ws2 known2 waits m
   entered_answer (Err e) behind ws2 known2 waits m = tt
 

@@ -190,7 +190,8 @@ cells_are m r i b slots (c ∷ cs) k there =
     ∙ ap (λ t. is_cell (slots k) b c && t) (cells_are m r i b slots cs (k + 1) there)
 
 -- and those of so many elements
-elements_are : (m : Memory) (r : Region) (i : ℕ) (slots : ℕ → Option Slot) (l : Layout) (n k b : ℕ) → ((x j : ℕ) → m.parts (spot_of r i x) j ≡ part_in (slots x) j)
+elements_are : (m : Memory) (r : Region) (i : ℕ) (slots : ℕ → Option Slot) (l : Layout) (n k b : ℕ)
+    → ((x j : ℕ) → m.parts (spot_of r i x) j ≡ part_in (slots x) j)
     → operations.are_elements m (spot_of r i k) b (layout_tree l) n ≡ are_elements slots k b l.cells.items l.bytes n
 elements_are m r i slots l zero k b there = refl
 elements_are m r i slots l (suc n) k b there =
@@ -201,7 +202,8 @@ elements_are m r i slots l (suc n) k b there =
     ∙ ap (λ t. are_cells slots k b l.cells.items && t) (elements_are m r i slots l n (k + length l.cells.items) (b + l.bytes) there)
 
 module _ (known : Known) (ws : List Wait) (marks : List Mark) (c : Config) (h : Agrees known ws marks c) where
-  block_at : (n p : ℕ) (o : Option Activation) → position_of known.blocks n ≡ Some p → slice_get known.blocks p ≡ o → is_live (c.memory.standing (Frame n)) ≡ true
+  block_at : (n p : ℕ) (o : Option Activation) → position_of known.blocks n ≡ Some p → slice_get known.blocks p ≡ o
+      → is_live (c.memory.standing (Frame n)) ≡ true
   block_at n p None at e =
       let number = position_there known.blocks n p at in
       let none : option_map (λ (b : Activation). b.number) None ≡ Some n = ap (option_map (λ b. b.number)) (sym e) ∙ number in cc

@@ -62,7 +62,18 @@ behind : (w : Wait) (known : Known) (ws : List Wait) (marks : List Mark) (c : Co
     → (AreOwned c.memory c.memory.calls c.own known.owns (w ∷ ws) marks → AreOwned c.memory c.memory.calls c.own known.owns ws marks)
     → Agrees known ws marks c
 behind w known ws marks c h drops keeps =
-    record { temps = h.temps; fresh = h.fresh; globals = h.globals; nested = drops h.nested; entered = h.entered; live = h.live; owned = keeps h.owned; called = h.called; values_live = h.values_live; born = h.born }
+    record {
+      temps = h.temps;
+      fresh = h.fresh;
+      globals = h.globals;
+      nested = drops h.nested;
+      entered = h.entered;
+      live = h.live;
+      owned = keeps h.owned;
+      called = h.called;
+      values_live = h.values_live;
+      born = h.born;
+    }
 
 -- ---- results
 
@@ -124,13 +135,27 @@ module _ (known : Known) (ws : List Wait) where
       pub test_wrong : truth_of v ≡ None → IsMove (Leave steps.Falls) (Test test flag body ∷ ws) known Wrong ws known
       test_wrong is =
           same_state (Leave steps.Falls) (Test test flag body ∷ ws) Wrong ws known
-          (λ main marks c h. (behind (Test test flag body) known ws marks c h (λ n. n) (λ n. n), branches (c.temps flag) v None _ _ (h.temps flag ∙ sym read) is))
+          (λ main marks c h. (
+            behind (Test test flag body) known ws marks c h (λ n. n) (λ n. n),
+            branches (c.temps flag) v None _ _ (h.temps flag ∙ sym read) is,
+          ))
           (omega arith)
 
     again_as : (w : Wait) (main : ℕ) (marks : List Mark) (c : Config) → Agrees known (Body test flag body ∷ ws) marks c
         → Agrees known (Test test flag body ∷ ws) marks c
     again_as w main marks c h =
-        record { temps = h.temps; fresh = h.fresh; globals = h.globals; nested = h.nested; entered = h.entered; live = h.live; owned = h.owned; called = h.called; values_live = h.values_live; born = h.born }
+        record {
+          temps = h.temps;
+          fresh = h.fresh;
+          globals = h.globals;
+          nested = h.nested;
+          entered = h.entered;
+          live = h.live;
+          owned = h.owned;
+          called = h.called;
+          values_live = h.values_live;
+          born = h.born;
+        }
 
     pub turn_falls : IsMove (Leave steps.Falls) (Body test flag body ∷ ws) known (Go (Follow test)) (Test test flag body ∷ ws) known
     turn_falls =

@@ -18,7 +18,8 @@ use Rattle.core_eval.specs.declared.value.Place.{Place}
 use Rattle.core_eval.specs.declared.value.Value.{Value}
 use Rattle.core_eval.specs.declared.value.Value.TheVariants as value
 use Rattle.core_eval.specs.declared.value.Slot.{Slot}
-use Rattle.core_eval.specs.Values.{region_of, spot_of, place_spot, content_of, temp_of, part_in, slot_at, Shows, values_in, is_fit, is_kept, value_of, same_area, same_cell}
+use Rattle.core_eval.specs.Values.{region_of, spot_of, place_spot, content_of, temp_of, part_in, slot_at, Shows, values_in, is_fit, is_kept, value_of}
+use Rattle.core_eval.specs.Values.{same_area, same_cell}
 use Rattle.core_eval.specs.Regions.{Kept, region_at, live_at, is_open, open_objects, slot_within}
 use Rattle.core_eval.specs.Blocks.{
   Activation,
@@ -185,7 +186,8 @@ module _ (known : Known) (ws : List Wait) (marks : List Mark) (c : Config) (h : 
   own_value out i w next = own_is out i w (λ there p. next p.content) ∙ by (own_position known.base known.blocks out)
     where
       among : (o : Option Activation)
-          → needed (option_map (λ b. b.number) o) (λ k. found 0 0 w (λ p. next p.content) (slot_among o i 0)) ≡ value_step next (value_of 0 0 w (slot_among o i 0))
+          → needed (option_map (λ b. b.number) o) (λ k. found 0 0 w (λ p. next p.content) (slot_among o i 0))
+          ≡ value_step next (value_of 0 0 w (slot_among o i 0))
       among None = refl
       among (Some b) = found_value (slot_at b.objects i 0) 0 0 w next
 

@@ -98,7 +98,8 @@ nothing_from false true x y before e = ap (nothing_at true) e
 nothing_from begun false x y before e = refl
 
 -- the bytes behind the parts
-behind : (begun : Bool) (before at from n j : ℕ) → before + at ≡ from → shape_part begun before (slice_get (padding_parts at n) j) ≡ nothing_at (nat_lt j n) (from + j)
+behind : (begun : Bool) (before at from n j : ℕ) → before + at ≡ from
+    → shape_part begun before (slice_get (padding_parts at n) j) ≡ nothing_at (nat_lt j n) (from + j)
 behind begun before at from n j e =
     ap (shape_part begun before) (padding_part at n j) ∙ nothing_from begun (nat_lt j n) (at + j) (from + j) before (omega (arith, e))
 

@@ -38,7 +38,8 @@ pub alone_known : (f : Frame) (m m' : Memory) → RegionsAlone m m' → known_of
 alone_known f m m' alone = regions_known f m m' alone.blocks alone.entered alone.owns alone.called alone.globals alone.long_blocks
 
 -- what is done, or can't be
-pub done_answer : (due : Due) (f : Frame) (m m' : Memory) (o : core.Operation) (is_done : Bool) → next_of due ≡ (if is_done then Go (Leave steps.Falls) else Wrong)
+pub done_answer : (due : Due) (f : Frame) (m m' : Memory) (o : core.Operation) (is_done : Bool)
+    → next_of due ≡ (if is_done then Go (Leave steps.Falls) else Wrong)
     → RegionsAlone m m'
     → ((ws : List Wait) → IsMove (Execute (core.Do o)) ws (known_of f m) (if is_done then Go (Leave steps.Falls) else Wrong) ws
     (record (known_of f m) { regions = regions_of m'.regions }))
@@ -47,7 +48,8 @@ done_answer due f m m' o is_done next alone moves ws =
     move_as _ ws (known_of f m) (if is_done then Go (Leave steps.Falls) else Wrong) (next_of due) ws (record (known_of f m) { regions = regions_of m'.regions })
     (known_of f m') next (alone_known f m m' alone) (moves ws)
 
-pub turn_answered : (due : Due) (f : Frame) (m m' : Memory) (o : core.Operation) (x : ℕ) (from : Standing) (to : Option Standing) → IsTurn o x from to → (v : Value)
+pub turn_answered : (due : Due) (f : Frame) (m m' : Memory) (o : core.Operation) (x : ℕ) (from : Standing) (to : Option Standing) → IsTurn o x from to
+    → (v : Value)
     → content_of v ≡ temp_of f.temps.items x → (d : ℕ) → v ≡ value.Birth d → (is_done : Bool)
     → next_of due ≡ (if is_done then Go (Leave steps.Falls) else Wrong) → RegionsAlone m m'
     → turned (regions_of m.regions) d from to ≡ (if is_done then Some (regions_of m'.regions) else None)

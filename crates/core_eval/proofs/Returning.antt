@@ -53,7 +53,8 @@ module _ {task : Task} {ws : List Wait} {known : Known} {vs : List Content} {wai
   pub ended : (m' : Memory) → EndsWithin w m m' → Reaches task ws known (Leave (steps.Returns vs)) rest (known_of f m')
   ended m' ends =
       reaches_on r (Leave (steps.Returns vs)) rest (known_of f m')
-      (subst (λ (l : List Wait). IsMove (Leave (steps.Returns vs)) l (known_of f m) (Go (Leave (steps.Returns vs))) rest (known_of f m')) (sym is) (ends vs rest f))
+      (subst (λ (l : List Wait). IsMove (Leave (steps.Returns vs)) l (known_of f m) (Go (Leave (steps.Returns vs))) rest (known_of f m')) (sym is)
+      (ends vs rest f))
 
   -- its caller
   pub gone_on : {E : Type 0} (a : Result Due E) (results : List ℕ) (saved f' : Frame) (before after : Memory) → IsCaller w results (saved_of saved) → before ≡ m

@@ -109,7 +109,18 @@ module _ {p : Program} {fuel left : ℕ} {is_over : Bool} {ws : List Wait} {know
       record {
         s = _;
         stands = stands_at p (Go (Follow body)) (Body test flag body ∷ ws) known st.marks st.config
-            (record { temps = a.temps; fresh = a.fresh; globals = a.globals; nested = a.nested; entered = a.entered; live = a.live; owned = a.owned; called = a.called; values_live = a.values_live; born = a.born });
+            (record {
+              temps = a.temps;
+              fresh = a.fresh;
+              globals = a.globals;
+              nested = a.nested;
+              entered = a.entered;
+              live = a.live;
+              owned = a.owned;
+              called = a.called;
+              values_live = a.values_live;
+              born = a.born;
+            });
         progress = turned_once (settle (TurnDue test flag body) x) h (record { test = test; flag = flag; body = body })
             (rest_of p.main ws st.marks) st.config refl;
       }

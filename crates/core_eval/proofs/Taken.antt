@@ -63,7 +63,8 @@ module _ (exit : Exit) (results : List ℕ) (n : ℕ) (vs : List Content) (saved
   pub result_given : are_as_many results vs ≡ true → Takes results vs saved.temps.items f'.temps.items
       → IsMove (Leave exit) (Caller results n (saved_of saved) ∷ ws) (known_of f m) (Go (Leave steps.Falls)) ws (known_of f' m')
   result_given fits takes =
-      left_to (steps.Returns vs) exit (Caller results n (saved_of saved) ∷ ws) (Caller results n (saved_of saved) ∷ ws) (known_of f m) _ ws _ (known_of f' m') is refl
+      left_to (steps.Returns vs) exit (Caller results n (saved_of saved) ∷ ws) (Caller results n (saved_of saved) ∷ ws) (known_of f m) _ ws _
+      (known_of f' m') is refl
       (left_known f f' m m' left ∙ ap (λ b. back_known f'.temps.items b) base)
       (result_taken (known_of f m) ws results n vs (saved_of saved) f'.temps.items fits takes)
 
@@ -71,7 +72,8 @@ module _ (exit : Exit) (results : List ℕ) (n : ℕ) (vs : List Content) (saved
   pub result_ungiven : are_as_many results vs ≡ false → f'.temps.items ≡ saved.temps.items
       → IsMove (Leave exit) (Caller results n (saved_of saved) ∷ ws) (known_of f m) Wrong ws (known_of f' m')
   result_ungiven unfit kept =
-      left_to (steps.Returns vs) exit (Caller results n (saved_of saved) ∷ ws) (Caller results n (saved_of saved) ∷ ws) (known_of f m) _ ws _ (known_of f' m') is refl
+      left_to (steps.Returns vs) exit (Caller results n (saved_of saved) ∷ ws) (Caller results n (saved_of saved) ∷ ws) (known_of f m) _ ws _
+      (known_of f' m') is refl
       (left_known f f' m m' left ∙ ap (λ b. back_known f'.temps.items b) base ∙ ap (λ ts. back_known ts saved.base) kept)
       (result_unfit (known_of f m) ws results n vs (saved_of saved) unfit)
 

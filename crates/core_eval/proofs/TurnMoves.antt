@@ -101,9 +101,11 @@ module _ (known : Known) (ws : List Wait) (from : Standing) (to : Option Standin
   turned_agrees kept has marks c h =
       let m = c.memory in
       let at = held_there known.regions n kept has in
-      born_agrees known ws marks c h (then_memory c) (standing_keeps m (suc n) (standing_then to)) known.globals (slice_set known.regions n (as_now to kept)) known.long_blocks
+      born_agrees known ws marks c h (then_memory c) (standing_keeps m (suc n) (standing_then to)) known.globals (slice_set known.regions n (as_now to kept))
+      known.long_blocks
       (shows_standing h.globals (Born (suc n)) (other_number 0 (suc n) (omega arith)) (standing_then to))
-      (region_changed m (then_memory c) known.globals known.regions known.long_blocks h.born n (standing_others m (suc n) (standing_then to)) (as_now to kept) (Some kept) at
+      (region_changed m (then_memory c) known.globals known.regions known.long_blocks h.born n (standing_others m (suc n) (standing_then to)) (as_now to kept)
+      (Some kept) at
       (now_shows m kept to (region_shows m m known.globals known.regions known.long_blocks h.born n kept at)) known.long_blocks h.born.kept)
 
   -- an operation that does this to the region with a number

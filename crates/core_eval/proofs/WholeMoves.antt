@@ -174,7 +174,8 @@ module _ (known : Known) (ws : List Wait) (marks : List Mark) (c : Config) (h : 
     (none : (j : ℕ) (o : Option Part) → change None j o ≡ o)
     (lying : (q : Option ℕ) (j : ℕ) (o : Option Part) (byte : ℕ) → lies_at (change q j o) byte ≡ lies_at o byte)
     (some : (q j : ℕ) (v : Held) → slice_get vs q ≡ Some v
-    → change (Some q) j (part_in (slots_of (stored_in known) p (p.cell + q)) j) ≡ part_in (filled_slot (Some v) (slots_of (stored_in known) p (p.cell + q))) j) where
+    → change (Some q) j (part_in (slots_of (stored_in known) p (p.cell + q)) j)
+    ≡ part_in (filled_slot (Some v) (slots_of (stored_in known) p (p.cell + q))) j) where
   change_agrees : (parts' : Spot → ℕ → Option Part) → ((t : Spot) (j : ℕ) → parts' t j ≡ change (cells_on n (place_spot p) t) j (c.memory.parts t j))
       → Agrees (with_stored known (fill_to (stored_in known) p.area p.object p.cell vs)) ws marks (with_memory (record c.memory { parts = parts' }) c)
   change_agrees parts' is =

@@ -1,4 +1,4 @@
--- The locals of blocks in blocks, and what pointers lead to.
+-- View of code: the locals of blocks in blocks, and what pointers lead to.
 use Rattle.std.specs.Prelude.{
   ℕ,
   zero,

@@ -1,4 +1,4 @@
--- How many moves there are at most before a unit is due or the run is over: each move has fewer after it.
+-- View of code: how many moves there are at most before a unit is due or the run is over: each move has fewer after it.
 use Rattle.std.specs.Prelude.{◌≡◌, ℕ, ◌+◌, ◌≤◌, List, [], ◌∷◌}
 use Rattle.core_meaning.specs.Core.{Statement, Do, If, While, Block, Leave as LeaveOf, Statements, NoStatements, MoreStatements}
 use Rattle.core_meaning.specs.Memory.{Content, Word}

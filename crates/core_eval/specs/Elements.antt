@@ -1,4 +1,4 @@
--- The cells of objects, and how they begin: of many elements, or of one cell.
+-- View of code: the cells of objects, and how they begin: of many elements, or of one cell.
 use Rattle.std.specs.Prelude.{ℕ, zero, suc, ◌+◌, ◌-◌, ◌*◌, Bool, true, false, List, [], ◌∷◌, ◌++◌, map, if◌then◌else◌}
 use Rattle.cyc_core.specs.declared.operation.Cell.{Cell}
 use Rattle.cyc_core.specs.declared.layout.CellLayout.{CellLayout}

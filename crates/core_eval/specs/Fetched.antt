@@ -1,4 +1,4 @@
--- What a read does whose output comes first.
+-- View of code: what a read does whose output comes first.
 use Rattle.std.specs.Prelude.{◌≡◌, ℕ, Bool, false, List, Option, Result, Ok, Err}
 use Rattle.std.specs.Io.KnownBytes.{Appends, Keeps}
 use Rattle.cyc_host.specs.Transfers.{WritesSome}

@@ -1,4 +1,4 @@
--- How far a pointer may go.
+-- View of code: how far a pointer may go.
 use Rattle.std.specs.Prelude.{ℕ, ◌+◌, ◌&&◌, ◌||◌, Bool, true, false, Option, Some, None, List, [], ◌∷◌, slice_get, nat_eq, nat_lt, if◌then◌else◌}
 use Rattle.core_meaning.specs.Operations.{too_far}
 use Rattle.cyc_core.specs.declared.layout.CellLayout.{CellLayout}

@@ -1,4 +1,4 @@
--- A region that is lent.
+-- View of code: a region that is lent.
 use Rattle.std.specs.Prelude.{◌≡◌, ℕ, Option, slice_set}
 use Rattle.std.specs.Borrow.{LendsSo, MutBor, Fml}
 use Rattle.std.specs.Option.{OnSome}

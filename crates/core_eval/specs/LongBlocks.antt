@@ -1,5 +1,5 @@
--- Blocks of regions that have a cell far from where they begin. Where their cells lie is kept also when their region is closed or freed, since a pointer may still
--- be led on within them.
+-- View of code: blocks of regions that have a cell far from where they begin. Where their cells lie is kept also when their region is closed or freed, since a
+-- pointer may still be led on within them.
 use Rattle.std.specs.Prelude.{ℕ, zero, suc, ◌+◌, ◌*◌, ◌||◌, Bool, false, List, [], ◌∷◌, ◌++◌, nat_le, if◌then◌else◌}
 use Rattle.core_meaning.specs.Operations.{too_far}
 use Rattle.cyc_core.specs.declared.layout.CellLayout.{CellLayout}

@@ -1,4 +1,4 @@
--- What an evaluator has still to do, as steps of Core.
+-- View of code: what an evaluator has still to do, as steps of Core.
 use Rattle.std.specs.Prelude.{ℕ, List, [], ◌∷◌, Option, Some, None, map, reverse}
 use Rattle.cyc_words.specs.Events as events
 use Rattle.cyc_words.specs.Events.{SourceEnding}

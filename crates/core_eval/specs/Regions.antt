@@ -1,4 +1,4 @@
--- Regions that were born, by how many were before each, the heap not among them; and the blocks of regions.
+-- View of code: regions that were born, by how many were before each, the heap not among them; and the blocks of regions.
 use Rattle.std.specs.Prelude.{
   ℕ,
   zero,

@@ -1,4 +1,4 @@
--- When a run goes on only with a unit of fuel, or is over.
+-- View of code: when a run goes on only with a unit of fuel, or is over.
 use Rattle.std.specs.Prelude.{◌≡◌, ℕ}
 use Rattle.cyc_words.specs.Words.{word}
 use Rattle.core_eval.specs.declared.ending.EvalEnding.{EvalEnding}

@@ -1,4 +1,4 @@
--- A run between a reader and a writer: where it stands, and how far it has come.
+-- View of code: a run between a reader and a writer: where it stands, and how far it has come.
 use Rattle.std.specs.Prelude.{◌≡◌, ℕ, ◌+◌, Bool, true, List, [], ◌++◌, Option, None, Contains}
 use Rattle.std.specs.Io.KnownBytes.{Appends, Consumes, IsAtEnd}
 use Rattle.core_meaning.specs.Core.{Program}

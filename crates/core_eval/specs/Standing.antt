@@ -1,4 +1,4 @@
--- When an evaluator's state stands for a step of Core.
+-- View of code: when an evaluator's state stands for a step of Core.
 use Rattle.std.specs.Prelude.{◌≡◌, ℕ, suc, ◌<◌, ◌≤◌, Bool, true, false, Option, Some, None, List, [], ◌∷◌, length, map, drop, nat_lt}
 use Rattle.cyc_words.specs.Events.{ByteRead, ByteWritten}
 use Rattle.step_trees.specs.Trees.{Says}
@@ -62,7 +62,8 @@ AreOwned m bound own (o ∷ owns) (Caller results f saved ∷ ws) (mark ∷ mark
 AreOwned m bound own owns (w ∷ ws) marks = AreOwned m bound own owns ws marks
 
 -- What an evaluator knows: the temporaries of the function that it is in, and how many blocks there are outside of that; the blocks of all functions that are
--- active, the innermost first; how many blocks were entered so far; the unnamed values of all functions that are active, the innermost first; how many functions were
+-- active, the innermost first; how many blocks were entered so far; the unnamed values of all functions that are active, the innermost first; how many
+-- functions were
 -- called so far; the globals, with the heap's blocks behind them; the blocks of regions, and where the cells of long ones lie.
 pub record Known : Type 0 where
   pub temps : List Value

@@ -1,4 +1,4 @@
--- The values and objects that an evaluator has, as those of Core's memory.
+-- View of code: the values and objects that an evaluator has, as those of Core's memory.
 use Rattle.std.specs.Prelude.{
   ◌≡◌,
   ℕ,

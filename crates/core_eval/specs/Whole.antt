@@ -1,4 +1,4 @@
--- Whole objects: whether cells lie as a layout's, and cells that get other values.
+-- View of code: whole objects: whether cells lie as a layout's, and cells that get other values.
 use Rattle.std.specs.Prelude.{ℕ, zero, suc, ◌+◌, ◌&&◌, Bool, true, false, Option, Some, None, List, [], ◌∷◌, length, slice_get, slice_set, nat_eq, nat_le}
 use Rattle.cyc_core.specs.declared.layout.CellLayout.{CellLayout}
 use Rattle.cyc_core.specs.declared.layout.Layout.{Layout}

@@ -1,4 +1,4 @@
--- Checks: choices that go on where a temporary isn't 0, and else do no more than raise an exception. Their code has one branch, over what raises it.
+-- Believed: checks: choices that go on where a temporary isn't 0, and else do no more than raise an exception. Their code has one branch, over what raises it.
 use Rattle.std.specs.Prelude.{ℕ, zero, suc, pos, ◌+◌, List, [], ◌∷◌, ◌++◌, Option, Some, None}
 use Rattle.cyc_words.specs.declared.faults.Kind.{Kind}
 use Rattle.core_meaning.specs.Core.{

@@ -1,4 +1,4 @@
--- How a choice tests a temporary, and what stands between its ways and behind them.
+-- Believed: how a choice tests a temporary, and what stands between its ways and behind them.
 use Rattle.std.specs.Prelude.{ℕ, Bool, true, List, [], ◌∷◌, ◌++◌, if◌then◌else◌}
 use Rattle.core_meaning.specs.Core.{Statements, NoStatements, MoreStatements}
 use Rattle.core_lines.specs.declared.line.Line.{Line}

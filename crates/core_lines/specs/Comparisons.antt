@@ -1,4 +1,4 @@
--- What the branches of the machine test of two registers' words, and how code makes that a word.
+-- Believed: what the branches of the machine test of two registers' words, and how code makes that a word.
 use Rattle.std.specs.Prelude.{ℕ, ℤ, zero, suc, pos, Bool, not, nat_eq, nat_lt, List, [], ◌∷◌}
 use Rattle.rv32_isa.specs.declared.instruction.Instr.{Instr}
 use Rattle.rv32_isa.specs.declared.instruction.Instr.TheVariants.{Beq, Bne, Blt, Bge, Bltu, Bgeu, Sub, Slt, Sltu, Sltiu, Xori}

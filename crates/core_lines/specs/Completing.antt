@@ -1,4 +1,4 @@
--- Which statements can complete normally, so that what stands behind them is reached, and which end in a `Return`.
+-- Believed: which statements can complete normally, so that what stands behind them is reached, and which end in a `Return`.
 use Rattle.std.specs.Prelude.{Bool, true, false, ◌||◌, ◌&&◌, if◌then◌else◌}
 use Rattle.core_meaning.specs.Core.{
   Statement,

@@ -1,4 +1,4 @@
--- The lines that compute the result of an operation, from what is known of its operands.
+-- Believed: the lines that compute the result of an operation, from what is known of its operands.
 use Rattle.std.specs.Prelude.{ℕ, Bool, zero, suc, pos, ◌%◌, List, [], ◌∷◌, ◌++◌, Option, Some, None, nat_eq, nat_lt, if◌then◌else◌}
 use Rattle.rv32_isa.specs.declared.instruction.Instr.TheVariants as instr
 use Rattle.core_meaning.specs.Core.{Binary, Add, Subtract, Multiply, Divide, DivideUnsigned, Remainder, RemainderUnsigned, And, Or, Xor, ShiftLeft, ShiftRight}

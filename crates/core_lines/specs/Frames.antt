@@ -1,5 +1,5 @@
--- The code of frames: words into registers, loads and saves of slots, calls of the environment, and what the first and last lines of functions are made
--- of.
+-- Believed: the code of frames: words into registers, loads and saves of slots, calls of the environment, and what the first and last lines of functions are
+-- made of.
 use Rattle.std.specs.Prelude.{suc, ℕ, ℤ, pos, ◌-ℤ◌, ◌+◌, ◌*◌, ◌/◌, ◌%◌, ◌^◌, Bool, ◌||◌, nat_lt, nat_le, if◌then◌else◌, List, [], ◌∷◌, ◌++◌}
 use Rattle.cyc_words.specs.declared.faults.Kind.{Kind}
 use Rattle.cyc_words.specs.declared.faults.Kind.TheVariants.{NullException, ArrayBounds}

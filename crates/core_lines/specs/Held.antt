@@ -1,4 +1,4 @@
--- Where the words of temporaries are known to be besides their slots: in registers, or as numbers or comparisons that the code can make again.
+-- Believed: where the words of temporaries are known to be besides their slots: in registers, or as numbers or comparisons that the code can make again.
 use Rattle.std.specs.Prelude.{ℕ, zero, suc, ◌+◌, ◌%◌, ◌^◌, Bool, true, false, ◌&&◌, ◌||◌, List, [], ◌∷◌, take, Option, Some, None, nat_eq, nat_lt}
 use Rattle.std.specs.Prelude.{if◌then◌else◌}
 use Rattle.rv32_machine.specs.State.{data_base}

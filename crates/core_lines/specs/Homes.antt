@@ -1,4 +1,4 @@
--- The homes of locals: which registers they are, and which locals of a function have one.
+-- Believed: the homes of locals: which registers they are, and which locals of a function have one.
 use Rattle.std.specs.Prelude.{ℕ, zero, suc, ◌+◌, Bool, false, not, ◌||◌, ◌&&◌, nat_eq, nat_le, if◌then◌else◌, List, [], ◌∷◌, ◌++◌, length}
 use Rattle.core_meaning.specs.Memory.{PartShape}
 use Rattle.core_meaning.specs.Core.{

@@ -1,4 +1,4 @@
--- What holds of all programs of Core.
+-- Believed, for this crate's laws: what holds of all programs of Core.
 use Rattle.core_meaning.specs.Core.{Program}
 use Rattle.core_lines.specs.Choosing.{far}
 use Rattle.core_lines.specs.Selected.{program_code}

@@ -1,4 +1,4 @@
--- How a memory lies in a machine: where each thing that holds something stands, and what its bytes show.
+-- Believed: how a memory lies in a machine: where each thing that holds something stands, and what its bytes show.
 use Rattle.std.specs.Prelude.{◌≡◌, ℕ, zero, suc, ◌+◌, ◌*◌, ◌%◌, ◌^◌, ◌≤◌, ◌<◌, ◌⊎◌, ◌&&◌, Bool, true, false, nat_eq, if◌then◌else◌, Option, Some, None, List}
 use Rattle.std.specs.Prelude.{[], ◌∷◌}
 use Rattle.arena_laws.specs.Holdings.{arena_base, is_some}

@@ -1,4 +1,4 @@
--- What lines of code stand for: how long each is, its instructions, and when a machine's code has them.
+-- Believed: what lines of code stand for: how long each is, its instructions, and when a machine's code has them.
 use Rattle.std.specs.Prelude.{◌≡◌, ℕ, ℤ, pos, ◌+◌, ◌%◌, ◌≤◌, ◌^◌, ◌-ℤ◌, true, List, [], ◌∷◌, Some}
 use Rattle.std.specs.Prelude.{false, nat_eq}
 use Rattle.std.specs.List.{All}

@@ -1,4 +1,4 @@
--- Which temporaries code loads from their slots: those that are used where it isn't known where else their words are.
+-- Believed: which temporaries code loads from their slots: those that are used where it isn't known where else their words are.
 use Rattle.std.specs.Prelude.{ℕ, suc, List, [], ◌∷◌, ◌++◌, Option, Some, None}
 use Rattle.core_meaning.specs.Core.{
   Operation,

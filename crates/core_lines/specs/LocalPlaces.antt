@@ -1,4 +1,4 @@
--- Where locals lie in a frame, and globals and strings in the data.
+-- Believed: where locals lie in a frame, and globals and strings in the data.
 use Rattle.std.specs.Prelude.{ℕ, zero, suc, ◌+◌, ◌-◌, ◌*◌, ◌/◌, ◌^◌, List, [], ◌∷◌, nat_le, if◌then◌else◌, length}
 use Rattle.core_meaning.specs.Core.{
   Local,

@@ -1,4 +1,5 @@
--- The loops that copy and clear whole objects: each goes over an object's units, which are words where all parts of its layout are words, and else bytes.
+-- Believed: the loops that copy and clear whole objects: each goes over an object's units, which are words where all parts of its layout are words, and else
+-- bytes.
 use Rattle.std.specs.Prelude.{pos, negsuc, ◌&&◌, Bool, true, false, List, [], ◌∷◌, nat_eq}
 use Rattle.rv32_isa.specs.declared.instruction.Instr.TheVariants as instr
 use Rattle.core_meaning.specs.Memory.{PartShape, Layout}

@@ -1,4 +1,4 @@
--- A machine as a program runs on it: its state, with what its run keeps of its store's calls.
+-- Believed: a machine as a program runs on it: its state, with what its run keeps of its store's calls.
 use Rattle.std.specs.Prelude.{ℕ, List, [], None}
 use Rattle.cyc_words.specs.Events.{Event}
 use Rattle.arena_laws.specs.Holdings.{Holdings}

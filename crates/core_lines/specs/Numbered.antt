@@ -1,4 +1,4 @@
--- How code makes a word of a comparison with a number that an instruction has room for.
+-- Believed: how code makes a word of a comparison with a number that an instruction has room for.
 use Rattle.std.specs.Prelude.{ℕ, pos, ◌-◌, ◌%◌, ◌^◌, Bool, List, [], ◌∷◌}
 use Rattle.rv32_isa.specs.declared.instruction.Instr.TheVariants.{Addi, Slti, Sltu, Sltiu, Xori}
 use Rattle.core_lines.specs.declared.comparison.Condition.{Condition}

@@ -1,5 +1,5 @@
--- How code comes by the words of temporaries, also in calls and returns: it loads them from their slots where they aren't known to be elsewhere. How it saves
--- them, and the first lines of a function.
+-- Believed: how code comes by the words of temporaries, also in calls and returns: it loads them from their slots where they aren't known to be elsewhere. How
+-- it saves them, and the first lines of a function.
 use Rattle.std.specs.Prelude.{ℕ, zero, suc, pos, ◌+◌, ◌/◌, ◌%◌, ◌^◌, drop, Bool, List, [], ◌∷◌, ◌++◌, Option, Some, None, nat_eq, ◌&&◌, if◌then◌else◌}
 use Rattle.rv32_isa.specs.declared.instruction.Instr.TheVariants.{Lui, Addi}
 use Rattle.core_lines.specs.declared.line.Line.{Line}

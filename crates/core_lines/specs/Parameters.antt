@@ -1,4 +1,4 @@
--- The registers that a function's first lines take its parameters into.
+-- Believed: the registers that a function's first lines take its parameters into.
 use Rattle.std.specs.Prelude.{ℕ, zero, suc, List, [], ◌∷◌}
 use Rattle.core_meaning.specs.Core.{Statement, Block, Statements, NoStatements, MoreStatements, Function}
 use Rattle.core_lines.specs.Held.{result_index}

@@ -1,4 +1,4 @@
--- What is promised of the lines of a program of Core, whichever they are.
+-- Believed: what is promised of the lines of a program of Core, whichever they are.
 use Rattle.std.specs.Prelude.{◌≡◌, ◌≤◌, ◌<◌, Bool, List, length}
 use Rattle.core_meaning.specs.Core.{Program}
 use Rattle.core_meaning.specs.Bounds.{core_code}

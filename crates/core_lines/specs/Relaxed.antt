@@ -1,4 +1,5 @@
--- Which jumps of lines are branches alone: each begins as one, those that don't reach their labels become branches over jumps, and so on until all reach.
+-- Believed: which jumps of lines are branches alone: each begins as one, those that don't reach their labels become branches over jumps, and so on until all
+-- reach.
 use Rattle.std.specs.Prelude.{◌≡◌, ℕ, zero, suc, ◌+◌, Bool, true, false, not, ◌||◌, ◌&&◌, nat_eq, nat_le, if◌then◌else◌, List, [], ◌∷◌, length}
 use Rattle.core_lines.specs.declared.line.Line.{Line}
 use Rattle.core_lines.specs.declared.line.Line.TheVariants.{Plain, Label, Jump, JumpUnless, BranchUnless, CallTo}

@@ -1,4 +1,4 @@
--- When a machine with lines of code does what a program of Core does.
+-- Believed: when a machine with lines of code does what a program of Core does.
 use Rattle.std.specs.Prelude.{◌≡◌, ◌≢◌, ℕ, zero, suc, ◌+◌, ◌≤◌, ◌<◌, ◌^◌, ◌%◌, List, [], ◌∷◌, Option, Some, None, nat_eq, if◌then◌else◌, slice_get}
 use Rattle.cyc_words.specs.Events.{AreBytes, SourceEvent, SourceEnding}
 use Rattle.cyc_words.specs.Events as source

@@ -1,5 +1,5 @@
--- Which results are saved into their temporaries' slots: those whose slot is loaded later, before the temporary gets another word. What is loaded is found from
--- a function's end backwards, as flags of its temporaries.
+-- Believed: which results are saved into their temporaries' slots: those whose slot is loaded later, before the temporary gets another word. What is loaded is
+-- found from a function's end backwards, as flags of its temporaries.
 use Rattle.std.specs.Prelude.{ℕ, zero, suc, ◌+◌, Bool, true, false, ◌||◌, List, [], ◌∷◌, ◌++◌, length}
 use Rattle.core_meaning.specs.Core.{
   Operation,

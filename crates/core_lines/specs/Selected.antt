@@ -1,4 +1,4 @@
--- The lines that each operation, statement, function and program of Core becomes.
+-- Believed: the lines that each operation, statement, function and program of Core becomes.
 use Rattle.std.specs.Prelude.{ℕ, Bool, ◌+◌, ◌-◌, ◌*◌, ◌%◌, ◌^◌, List, [], ◌∷◌, ◌++◌, take, drop, nat_eq, if◌then◌else◌, length}
 use Rattle.rv32_isa.specs.declared.instruction.Instr.TheVariants as instr
 use Rattle.rv32_machine.specs.State.{data_base}

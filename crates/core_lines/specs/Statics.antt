@@ -1,4 +1,4 @@
--- The bytes of a program's data: globals and strings whose parts are words or bytes, in order. A pointer to one of them is its address.
+-- Believed: the bytes of a program's data: globals and strings whose parts are words or bytes, in order. A pointer to one of them is its address.
 use Rattle.std.specs.Prelude.{◌≡◌, ℕ, zero, suc, ◌+◌, ◌-◌, ◌*◌, ◌/◌, ◌%◌, ◌^◌, ◌<◌, List, [], ◌∷◌, ◌++◌, nat_eq, if◌then◌else◌, length}
 use Rattle.rv32_machine.specs.State.{data_base}
 use Rattle.core_meaning.specs.Memory.{Content, Blank, Word, Null, Pointer, Birth, Born, Spot, PartShape}

@@ -1,4 +1,4 @@
--- Results that go straight into the home of a local, where the next statement puts them there.
+-- Believed: results that go straight into the home of a local, where the next statement puts them there.
 use Rattle.std.specs.Prelude.{ℕ, zero, suc, Bool, true, false, not, ◌&&◌, nat_eq, if◌then◌else◌, List, [], ◌++◌, Option, Some, None}
 use Rattle.core_meaning.specs.Core.{Binary, Equal, NotEqual, Less, LessEqual, LessUnsigned, LessEqualUnsigned}
 use Rattle.core_meaning.specs.Core.{Operation, Apply, Put, Statement, Do, Statements, NoStatements, MoreStatements}

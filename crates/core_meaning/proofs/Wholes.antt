@@ -1,13 +1,15 @@
 -- Whole objects: the parts that a layout has of them, and what a copy or a clear makes of each part.
 use Rattle.std.specs.Prelude.{nat_eq, nat_lt, nat_le, ◌&&◌, length, slice_get, if◌then◌else◌}
-use Rattle.std.proofs.Common.{◌≡◌, ℕ, zero, suc, ◌+◌, ◌-◌, ◌*◌, ◌/◌, ◌%◌, ◌<◌, ◌⊎◌, inl, inr, ⊎_elim, ◌≤◌, Bool, true, false, List, [], ◌∷◌, Option, Some, None, refl, sym, ap, subst, ◌∙◌, arith}
+use Rattle.std.proofs.Common.{◌≡◌, ℕ, zero, suc, ◌+◌, ◌-◌, ◌*◌, ◌/◌, ◌%◌, ◌<◌, ◌⊎◌, inl, inr, ⊎_elim, ◌≤◌, Bool, true, false, List, [], ◌∷◌, Option, Some, None}
+use Rattle.std.proofs.Common.{refl, sym, ap, subst, ◌∙◌, arith}
 use Rattle.std.proofs.lemmas.Bool.{eq-eqb, le-leb, lt-ltb, cases_lt, eqb-true, leb-true, ltb-true, and_parts, and_from}
 use Rattle.std.proofs.lemmas.Nat.{mod-mul-add}
 use Rattle.std.proofs.lemmas.Option.{slice_get_within, same_Some}
 use Rattle.std.proofs.Math.Nat.{mod-add-div', mul-le-mul_right}
 use Rattle.core_meaning.specs.Memory as core
 use Rattle.core_meaning.specs.Memory.{Spot, Part, PartShape, Layout, Memory, shape_in, beyond, same_region}
-use Rattle.core_meaning.specs.Operations.{is_part, are_parts, are_laid, are_elements, same_object, cells_on, part_of, content_from, on_from, copied, in_element, begun, cleared}
+use Rattle.core_meaning.specs.Operations.{is_part, are_parts, are_laid, are_elements, same_object, cells_on, part_of, content_from, on_from, copied, in_element}
+use Rattle.core_meaning.specs.Operations.{begun, cleared}
 use Rattle.core_meaning.proofs.Spots.{region_same, region_self}
 
 -- ---- spots of one object

@@ -1,4 +1,4 @@
--- How many bytes of the stack a function may take, and how many bytes of code a program.
+-- Believed: how many bytes of the stack a function may take, and how many bytes of code a program.
 use Rattle.std.specs.Prelude.{ℕ, ◌+◌, ◌*◌, ◌/◌, List, [], ◌∷◌, length}
 use Rattle.core_meaning.specs.Core.{
   Operation,

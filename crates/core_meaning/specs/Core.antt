@@ -1,4 +1,5 @@
--- Core: a tree of statements over flat operations. Temporaries are words, numbered in their function; locals, globals and strings are objects of memory.
+-- Believed: core: a tree of statements over flat operations. Temporaries are words, numbered in their function; locals, globals and strings are objects of
+-- memory.
 use Rattle.std.specs.Prelude.{ℕ, List}
 use Rattle.cyc_words.specs.declared.faults.Kind.{Kind}
 use Rattle.core_meaning.specs.Memory.{Content, Layout}
@@ -97,7 +98,8 @@ mutual
     NoStatements : Statements
     MoreStatements : (first : Statement) (others : Statements) → Statements
 
--- A function: how many temporaries it has, the parameters the first; the most words that it passes to a call; its unnamed values; and its locals in the order of
+-- A function: how many temporaries it has, the parameters the first; the most words that it passes to a call; its unnamed values; and its locals in the order
+-- of
 -- the text, each by how many locals stand before it where those of a block stand together, before those of the blocks within it.
 pub record Function : Type 0 where
   pub parameters : ℕ

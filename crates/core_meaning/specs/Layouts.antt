@@ -1,5 +1,5 @@
--- When the parts of a layout lie as they have to: each within the layout's bytes, at a multiple of its width, and no two of them meeting; when they leave no
--- byte out; and when they begin with nothing.
+-- Believed: when the parts of a layout lie as they have to: each within the layout's bytes, at a multiple of its width, and no two of them meeting; when they
+-- leave no byte out; and when they begin with nothing.
 use Rattle.std.specs.Prelude.{◌≡◌, ℕ, ◌+◌, ◌%◌, ◌≤◌, ◌<◌, ◌⊎◌, ◌&&◌, false, nat_eq, List, [], ◌∷◌, Some, slice_get}
 use Rattle.core_meaning.specs.Memory.{Content, Blank, Word, Null, Pointer, Birth, PartShape, Layout, shape_in}
 

@@ -1,4 +1,4 @@
--- What Core does on an input, with an amount of fuel: a run as a tree of steps, cut where fuel is due.
+-- Believed: what Core does on an input, with an amount of fuel: a run as a tree of steps, cut where fuel is due.
 use Rattle.std.specs.Prelude.{ℕ, zero, suc, ◌+◌, nat_eq, if◌then◌else◌, Option, Some, None, List, [], ◌∷◌, slice_get, length}
 use Rattle.cyc_words.specs.Events.{SourceEnding}
 use Rattle.step_trees.specs.Trees.{Stops, Says, Turns, Calls, Outcome, Bodies, run}
@@ -100,7 +100,8 @@ with_objects r (l ∷ ls) m = with_objects r ls (with_object m r (blanks l.layou
 abbrev pub in_block : List Local → Config → Config
 in_block ls c = record c {
   blocks = c.memory.activations ∷ c.blocks;
-  memory = with_objects (Frame c.memory.activations) ls (record (with_standing c.memory (Frame c.memory.activations) Live) { activations = c.memory.activations + 1 });
+  memory = with_objects (Frame c.memory.activations) ls
+      (record (with_standing c.memory (Frame c.memory.activations) Live) { activations = c.memory.activations + 1 });
 }
 
 abbrev pub out_of_block : ℕ → List ℕ → Config → Config
@@ -119,7 +120,8 @@ abbrev mutual
   statement (If t these those) next c = branch (c.temps t) (statements these next c) (statements those next c)
   -- the unit of a turn is due after the test and before the body; the last test takes none
   statement (While test t body) next c =
-      statements test (λ exit. falls_to exit (λ tested. branch (tested.temps t) (Turns (record { test = test; flag = t; body = body }) next tested) (next Falls tested)) next) c
+      statements test (λ exit. falls_to exit (λ tested. branch (tested.temps t) (Turns (record { test = test; flag = t; body = body }) next tested)
+      (next Falls tested)) next) c
   statement (Block ls body) next c =
       statements body (λ exit left. next exit (out_of_block c.memory.activations c.blocks left)) (in_block ls c)
   statement (Leave body) next c = statements body (λ exit. left_by exit next) c

@@ -1,5 +1,6 @@
--- What each operation of Core does.
-use Rattle.std.specs.Prelude.{ℕ, zero, suc, ◌+◌, ◌-◌, ◌*◌, ◌%◌, ◌^◌, Bool, true, false, not, ◌&&◌, ◌||◌, List, [], ◌∷◌, nat_eq, nat_lt, nat_le, if◌then◌else◌, Option, Some, None, slice_get, length}
+-- Believed: what each operation of Core does.
+use Rattle.std.specs.Prelude.{ℕ, zero, suc, ◌+◌, ◌-◌, ◌*◌, ◌%◌, ◌^◌, Bool, true, false, not, ◌&&◌, ◌||◌, List, [], ◌∷◌, nat_eq, nat_lt, nat_le, if◌then◌else◌}
+use Rattle.std.specs.Prelude.{Option, Some, None, slice_get, length}
 use Rattle.cyc_words.specs.Events as events
 use Rattle.step_trees.specs.Trees.{Says, Reads, Pays}
 use Rattle.core_meaning.specs.Memory.{
@@ -135,7 +136,8 @@ abbrev pub lies_at : Option Part → ℕ → Bool
 lies_at None b = false
 lies_at (Some p) b = nat_eq p.offset b
 
--- A pointer goes less than too far from where its object begins, or to where a part lies. That is asked of parts whether or not their region is live: a pointer into
+-- A pointer goes less than too far from where its object begins, or to where a part lies. That is asked of parts whether or not their region is live: a pointer
+-- into
 -- a region that ended may go on within its object.
 abbrev pub reaches : Memory → Spot → ℕ → Bool
 reaches m s b = nat_lt b too_far || lies_at (m.parts s 0) b
@@ -283,7 +285,8 @@ does (RegionFree h) next c =
 does (UniqueAlloc t l) next c =
     let d = c.memory.births in
     says (events.UniqueAlloc d l.bytes)
-    (next (with_temp t (Pointer (record { region = Born d; object = 0; cell = 0 }) 0) (with_memory (with_object (born Single c.memory) (Born d) (blanks l 1)) c)))
+    (next (with_temp t (Pointer (record { region = Born d; object = 0; cell = 0 }) 0)
+    (with_memory (with_object (born Single c.memory) (Born d) (blanks l 1)) c)))
 does (UniqueFree p) next c = pointer_of (c.temps p) (λ s b. checked (nat_eq b 0) (alone_freed s.region next c))
 does (KeyNew t) next c =
     let d = c.memory.births in says (events.KeyNew d) (next (with_temp t (Birth d) (with_memory (born Closed c.memory) c)))

@@ -1,4 +1,4 @@
--- What has code: layouts whose parts lie apart, and functions whose numbers name what there is.
+-- Believed: what has code: layouts whose parts lie apart, and functions whose numbers name what there is.
 use Rattle.std.specs.Prelude.{◌≡◌, ℕ, zero, suc, ◌≤◌, ◌<◌, ◌^◌, List, [], ◌∷◌, Some, slice_get, length}
 use Rattle.core_meaning.specs.Core.{
   Operation,

@@ -1,4 +1,4 @@
--- The states of Core, and its runs as trees of steps.
+-- Believed: the states of Core, and its runs as trees of steps.
 use Rattle.std.specs.Prelude.{ℕ, Bool, true, false, Option, Some, None, List, nat_eq, if◌then◌else◌}
 use Rattle.cyc_words.specs.Events as events
 use Rattle.cyc_words.specs.Events.{SourceEnding}

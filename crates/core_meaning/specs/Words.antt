@@ -1,4 +1,4 @@
--- What the operations on two words give. A word is a number below 2^32, read as two's complement where the sign counts.
+-- Believed: what the operations on two words give. A word is a number below 2^32, read as two's complement where the sign counts.
 use Rattle.std.specs.Prelude.{ℕ, Bool, true, false, not, nat_eq, nat_lt, nat_le, int_lt, bit_and, bit_or, bit_xor}
 use Rattle.cyc_words.specs.Words.{
   signed,

@@ -55,7 +55,12 @@ module _ (s : Plain) (h bytes room r left : ℕ) (sound : IsSound s) (takes : ta
   needs d l = subst (λ k. left_of s.used k < room) (sym read_is) (subst (λ n. n < room) d l)
 
   pub taken : (p : ℕ) → left ≡ left_of s.used r → left < room → Finds 0 s.owner (Some p) → IsLowest 0 s.owner (Some p) →
-      IsTakenFor s (record s { owner = slice_set s.owner p (2 * h + 1); used = slice_set s.used p room; last = slice_set s.last h (p + 1); ever_used = used_up p s.ever_used }) h bytes
+      IsTakenFor s (record s {
+        owner = slice_set s.owner p (2 * h + 1);
+        used = slice_set s.used p room;
+        last = slice_set s.last h (p + 1);
+        ever_used = used_up p s.ever_used;
+      }) h bytes
       (arena_base + 4096 * p)
   taken p d l f w = record {
     sound = new_sound s h room sound takes room_is.eights room_is.most (needs d l) p f w;

@@ -35,7 +35,8 @@ use Rattle.arena_laws.specs.declared.owner.Owner.TheVariants.{Alone}
 use Rattle.arena_laws.specs.Classes.{IsClass}
 use Rattle.arena_laws.specs.Counts.{put, slot_needs_page, one_less}
 use Rattle.arena_laws.specs.Holdings.{arena_base}
-use Rattle.cyc_arena.specs.Plain.{Plain, IsSound, IsInPage, Finds, IsLowest, used_up, count_of, filled, address_of, owner_in, owner_at, page_at, place_at, counts_of, holdings_of}
+use Rattle.cyc_arena.specs.Plain.{Plain, IsSound, IsInPage, Finds, IsLowest, used_up, count_of, filled, address_of, owner_in, owner_at, page_at, place_at}
+use Rattle.cyc_arena.specs.Plain.{counts_of, holdings_of}
 use Rattle.cyc_arena.proofs.Pages.{free_less}
 use Rattle.region_runtime.proofs.Words.{index_at, index_else, index_set}
 use Rattle.cyc_arena.proofs.Words.{count_set, none_found}

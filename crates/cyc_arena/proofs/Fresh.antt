@@ -1,6 +1,7 @@
 -- A store that was just made.
 use Rattle.cyc_arena.proofs.Pages.{below_zero}
-use Rattle.std.proofs.Common.{◌≡◌, ℕ, zero, suc, ◌+◌, ◌*◌, ◌/◌, ◌<◌, ◌≤◌, Bool, true, false, Option, None, nat_lt, refl, sym, ap, subst, ◌∙◌, arith, length, ◌-◌}
+use Rattle.std.proofs.Common.{◌≡◌, ℕ, zero, suc, ◌+◌, ◌*◌, ◌/◌, ◌<◌, ◌≤◌, Bool, true, false, Option, None, nat_lt, refl, sym, ap, subst, ◌∙◌, arith, length}
+use Rattle.std.proofs.Common.{◌-◌}
 use Rattle.std.specs.Prelude.{slice_index}
 use Rattle.std.proofs.Math.ListN.{replicate}
 use Rattle.std.proofs.lemmas.List.{length-replicate}
@@ -111,7 +112,15 @@ pub record AreFresh (n : ℕ) (s : Plain) : Type 0 where
   pub ever_used : s.ever_used ≡ 0
 
 pub fresh_is : (n : ℕ) (s : Plain) → AreFresh n s → s ≡ made n
-fresh_is n s f = λ i. record { bytes = f.bytes i; owner = f.owner i; used = f.used i; last = f.last i; standing = f.standing i; slots = f.slots i; ever_used = f.ever_used i }
+fresh_is n s f = λ i. record {
+  bytes = f.bytes i;
+  owner = f.owner i;
+  used = f.used i;
+  last = f.last i;
+  standing = f.standing i;
+  slots = f.slots i;
+  ever_used = f.ever_used i;
+}
 
 pub fresh_holds : (n : ℕ) (s : Plain) → AreFresh n s → holdings_of s ≡ fresh n
 fresh_holds n s f = ap holdings_of (fresh_is n s f) ∙ made_holds n

@@ -1,5 +1,6 @@
 -- A region or a key is made: the table's first free page becomes its own.
-use Rattle.std.proofs.Common.{◌≡◌, ℕ, zero, suc, ◌+◌, ◌-◌, ◌*◌, ◌/◌, ◌<◌, ◌≤◌, Bool, true, false, length, Some, None, Ok, nat_eq, nat_lt, refl, sym, ap, subst, ◌∙◌, arith, length-set}
+use Rattle.std.proofs.Common.{◌≡◌, ℕ, zero, suc, ◌+◌, ◌-◌, ◌*◌, ◌/◌, ◌<◌, ◌≤◌, Bool, true, false, length, Some, None, Ok, nat_eq, nat_lt, refl, sym, ap, subst}
+use Rattle.std.proofs.Common.{◌∙◌, arith, length-set}
 use Rattle.std.specs.Prelude.{slice_index, slice_set, if◌then◌else◌}
 use Rattle.std.proofs.lemmas.Bool.Decides.{nat_tests}
 use Rattle.std.proofs.lemmas.Grind.{common_steps}
@@ -9,7 +10,8 @@ use Rattle.arena_laws.specs.Counts.{put, with_region, is_full}
 use Rattle.arena_laws.specs.Holdings.{is_none, arena_base}
 use Rattle.arena_laws.specs.Lawful.{Grants, makes, refuses, with_number, is_new_number}
 use Rattle.arena_laws.specs.Laws.{Does, made}
-use Rattle.cyc_arena.specs.Plain.{Plain, IsSound, IsInPage, Finds, IsLowest, used_up, count_of, owner_at, page_at, place_at, standing_at, left_of, counts_of, holdings_of}
+use Rattle.cyc_arena.specs.Plain.{Plain, IsSound, IsInPage, Finds, IsLowest, used_up, count_of, owner_at, page_at, place_at, standing_at, left_of, counts_of}
+use Rattle.cyc_arena.specs.Plain.{holdings_of}
 use Rattle.region_runtime.proofs.Words.{index_at, index_else, index_set}
 use Rattle.cyc_arena.proofs.Words.{standing_set, count_none, count_set}
 use Rattle.cyc_arena.proofs.Pages.{free_less, page_found, none_free}

@@ -1,5 +1,6 @@
 -- Free pages: those given back, among the pages that were ever used, and those never used, behind them.
-use Rattle.std.proofs.Common.{◌≡◌, ℕ, zero, suc, ◌+◌, ◌-◌, ◌<◌, ◌≤◌, Bool, true, false, List, [], ◌∷◌, length, Some, None, nat_eq, nat_lt, refl, sym, ap, ◌∙◌, arith, length-set}
+use Rattle.std.proofs.Common.{◌≡◌, ℕ, zero, suc, ◌+◌, ◌-◌, ◌<◌, ◌≤◌, Bool, true, false, List, [], ◌∷◌, length, Some, None, nat_eq, nat_lt, refl, sym, ap, ◌∙◌}
+use Rattle.std.proofs.Common.{arith, length-set}
 use Rattle.std.specs.Prelude.{slice_index, slice_set, ◌&&◌, if◌then◌else◌}
 use Rattle.std.proofs.lemmas.Bool.Decides.{nat_tests}
 use Rattle.cyc_arena.specs.Plain.{Plain, IsSound, Finds, IsLowest, IsCleared, count_of, count_below, used_up}
@@ -151,7 +152,8 @@ page_found s p sound f = by_order (nat_lt p s.ever_used) refl
     by_order true e = let k = below_some s.ever_used 0 s.owner p (grind (arith, nat_tests)) f.1 in grind (arith, nat_tests)
     by_order false e = let l = f.0 in grind (arith, nat_tests)
 
-pub none_free : (s : Plain) → IsSound s → Finds 0 s.owner None → (nat_eq (length s.owner - s.ever_used) 0 && nat_eq (count_below s.ever_used 0 s.owner) 0) ≡ true
+pub none_free : (s : Plain) → IsSound s → Finds 0 s.owner None
+    → (nat_eq (length s.owner - s.ever_used) 0 && nat_eq (count_below s.ever_used 0 s.owner) 0) ≡ true
 none_free s sound f =
     let b = sound.begun in
     let g = below_none s.ever_used 0 s.owner (λ q l. f q (omega (arith, l, b))) in

@@ -40,7 +40,8 @@ use Rattle.arena_laws.specs.declared.owner.Owner.TheVariants.{Region}
 use Rattle.arena_laws.specs.Holdings.{is_none, arena_base}
 use Rattle.arena_laws.specs.Lawful.{Grants, owns, is_in_room, is_lawful_room, with_region_block, takes_blocks}
 use Rattle.arena_laws.specs.Laws.{Does, is_block_refused, region_alloc}
-use Rattle.cyc_arena.specs.Plain.{Plain, IsSound, IsInPage, Finds, IsLowest, used_up, count_of, owner_at, page_at, place_at, standing_at, left_of, counts_of, holdings_of}
+use Rattle.cyc_arena.specs.Plain.{Plain, IsSound, IsInPage, Finds, IsLowest, used_up, count_of, owner_at, page_at, place_at, standing_at, left_of, counts_of}
+use Rattle.cyc_arena.specs.Plain.{holdings_of}
 use Rattle.region_runtime.proofs.Owners.{is_lawful}
 use Rattle.region_runtime.proofs.Placed.{granted, not_large}
 use Rattle.cyc_arena.proofs.Pages.{free_less, page_found}
@@ -217,7 +218,12 @@ module _ (s : Plain) (h room : ℕ) (sound : IsSound s) (takes : takes_blocks h 
 
     module _ (p : ℕ) (found : Finds 0 s.owner (Some p)) (lowest : IsLowest 0 s.owner (Some p)) where
       abbrev pub after_new : Plain
-      after_new = record s { owner = slice_set s.owner p (2 * h + 1); used = slice_set s.used p room; last = slice_set s.last h (p + 1); ever_used = used_up p s.ever_used }
+      after_new = record s {
+        owner = slice_set s.owner p (2 * h + 1);
+        used = slice_set s.used p room;
+        last = slice_set s.last h (p + 1);
+        ever_used = used_up p s.ever_used;
+      }
 
       new_used_in : p < length s.used
       new_used_in = let n = sound.used_long in let b = found.0 in omega (arith, n, b)
@@ -268,7 +274,8 @@ module _ (s : Plain) (h room : ℕ) (sound : IsSound s) (takes : takes_blocks h 
       classes_kept : (c : ℕ) → count_of (2 * c + 2) after_new.owner ≡ count_of (2 * c + 2) s.owner
       classes_kept c = let n = count_set (2 * c + 2) s.owner p (2 * h + 1) found.0 in let e = found.1 in grind (arith, nat_tests)
 
-      counted_new : counts_of after_new.ever_used after_new.owner after_new.used after_new.last s.slots ≡ with_block h room (counts_of s.ever_used s.owner s.used s.last s.slots)
+      counted_new : counts_of after_new.ever_used after_new.owner after_new.used after_new.last s.slots
+          ≡ with_block h room (counts_of s.ever_used s.owner s.used s.last s.slots)
       unfolding counts_of
       counted_new =
           let c = counts_of s.ever_used s.owner s.used s.last s.slots in

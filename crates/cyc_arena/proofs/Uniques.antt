@@ -1,5 +1,6 @@
 -- A unique block is granted: a vacant slot of its class, or the first of a page that is cut for it.
-use Rattle.std.proofs.Common.{◌≡◌, ℕ, zero, ◌+◌, ◌*◌, ◌/◌, ◌%◌, ◌≤◌, Bool, true, false, List, length, Some, None, Ok, refl, sym, ap, subst, ◌∙◌, arith, length-set}
+use Rattle.std.proofs.Common.{◌≡◌, ℕ, zero, ◌+◌, ◌*◌, ◌/◌, ◌%◌, ◌≤◌, Bool, true, false, List, length, Some, None, Ok, refl, sym, ap, subst, ◌∙◌, arith}
+use Rattle.std.proofs.Common.{length-set}
 use Rattle.std.specs.Prelude.{slice_set, ◌&&◌, ◌||◌}
 use Rattle.std.proofs.lemmas.Bool.Decides.{nat_tests}
 use Rattle.arena_laws.proofs.Classes.{class_is}
@@ -78,7 +79,11 @@ module _ (s : Plain) (bytes c : ℕ) (sound : IsSound s) (short : bytes ≤ 4096
       class = is_class bytes c of
 
       abbrev after : Plain
-      after = record s { owner = slice_set s.owner p (2 * c + 2); slots = slice_set (cut s p c sound class found lowest).slots (128 * p) (2 * c + 1); ever_used = used_up p s.ever_used }
+      after = record s {
+        owner = slice_set s.owner p (2 * c + 2);
+        slots = slice_set (cut s p c sound class found lowest).slots (128 * p) (2 * c + 1);
+        ever_used = used_up p s.ever_used;
+      }
 
       first : IsInPage (cut s p c sound class found lowest).owner (128 * p) c
       first = (cut_sound s p c sound class found lowest).vacant (128 * p) c (first_vacant s p c sound class found lowest)
@@ -103,10 +108,12 @@ module _ (s : Plain) (bytes c : ℕ) (sound : IsSound s) (short : bytes ≤ 4096
       lawful_front =
           subst (λ a. is_lawful_room (holdings_of s) a c ≡ true) at_front
           (subst (λ h. is_lawful_room h (arena_base + 4096 * (128 * p / 128) + 128 * p % 128 * c) c ≡ true) same_owner
-          (taken_lawful (cut s p c sound class found lowest) (128 * p) c (cut_sound s p c sound class found lowest) first (first_vacant s p c sound class found lowest)))
+          (taken_lawful (cut s p c sound class found lowest) (128 * p) c (cut_sound s p c sound class found lowest) first
+          (first_vacant s p c sound class found lowest)))
 
       holds_cut : holdings_of after ≡ with_alone (arena_base + 4096 * (128 * p / 128) + 128 * p % 128 * c) c (holdings_of (cut s p c sound class found lowest))
-      holds_cut = taken_holds (cut s p c sound class found lowest) (128 * p) c (cut_sound s p c sound class found lowest) first (first_vacant s p c sound class found lowest)
+      holds_cut = taken_holds (cut s p c sound class found lowest) (128 * p) c (cut_sound s p c sound class found lowest) first
+          (first_vacant s p c sound class found lowest)
 
       counts_front : with_slot c (holdings_of (cut s p c sound class found lowest)).counts ≡ with_slot c (holdings_of s).counts
       counts_front =
@@ -126,9 +133,17 @@ module _ (s : Plain) (bytes c : ℕ) (sound : IsSound s) (short : bytes ≤ 4096
           ∙ ap (λ a. with_alone a c (holdings_of s)) at_front
 
       pub front_granted : (filled_slots : List ℕ) → filled_slots ≡ filled (4096 / c) (128 * p) (2 * c + 2) s.slots →
-          IsGranted s (record s { owner = slice_set s.owner p (2 * c + 2); slots = slice_set filled_slots (128 * p) (2 * c + 1); ever_used = used_up p s.ever_used }) bytes (arena_base + 4096 * p)
+          IsGranted s (record s {
+            owner = slice_set s.owner p (2 * c + 2);
+            slots = slice_set filled_slots (128 * p) (2 * c + 1);
+            ever_used = used_up p s.ever_used;
+          }) bytes (arena_base + 4096 * p)
       front_granted xs e =
-          subst (λ xs. IsGranted s (record s { owner = slice_set s.owner p (2 * c + 2); slots = slice_set xs (128 * p) (2 * c + 1); ever_used = used_up p s.ever_used }) bytes
+          subst (λ xs. IsGranted s (record s {
+            owner = slice_set s.owner p (2 * c + 2);
+            slots = slice_set xs (128 * p) (2 * c + 1);
+            ever_used = used_up p s.ever_used;
+          }) bytes
           (arena_base + 4096 * p)) (sym e)
           (by_class after (arena_base + 4096 * p) (taken_sound (cut s p c sound class found lowest) (128 * p) c (cut_sound s p c sound class found lowest) first
           (first_vacant s p c sound class found lowest))

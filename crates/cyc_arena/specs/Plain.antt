@@ -1,4 +1,4 @@
--- What the plain store's tables stand for.
+-- View of code: what the plain store's tables stand for.
 use Rattle.std.specs.Prelude.{
   ◌≡◌,
   ℕ,

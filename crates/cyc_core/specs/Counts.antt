@@ -1,4 +1,4 @@
--- How many raises and how many calls a program has.
+-- View of code: how many raises and how many calls a program has.
 use Rattle.std.specs.Prelude.{ℕ, ◌+◌, List, [], ◌∷◌}
 use Rattle.core_meaning.specs.Core.{
   Function,

@@ -1,4 +1,4 @@
--- The code's programs as programs of Core.
+-- Believed: the code's programs as programs of Core.
 use Rattle.std.specs.Prelude.{ℕ, zero, suc, ◌+◌, ◌%◌, Option, Some, None, List, [], ◌∷◌, ◌++◌, map, length, slice_get, unwrap_or}
 use Rattle.core_meaning.specs.Memory.{PartShape, Layout, Content, shape_in}
 use Rattle.core_meaning.specs.Memory as memory

@@ -1,5 +1,6 @@
 -- Comments from the front on.
-use Rattle.std.proofs.Common.{◌≡◌, ℕ, zero, suc, ◌+◌, ◌-◌, ◌<◌, true, false, List, [], ◌∷◌, length, take, drop, get_or, Some, None, refl, ap, sym, ◌∙◌, subst, arith}
+use Rattle.std.proofs.Common.{◌≡◌, ℕ, zero, suc, ◌+◌, ◌-◌, ◌<◌, true, false, List, [], ◌∷◌, length, take, drop, get_or, Some, None, refl, ap, sym, ◌∙◌, subst}
+use Rattle.std.proofs.Common.{arith}
 use Rattle.std.proofs.lemmas.Bool.{cond-true, cond-false}
 use Rattle.std.proofs.lemmas.List.{at_drop_more, take_rest}
 use Rattle.cyc_lexer.specs.Bytes.{is_space}
@@ -37,10 +38,12 @@ none_listed b bs h g =
 
 -- ---- at an index
 
-pub space_here : (bytes : List ℕ) (i : ℕ) → i < length bytes → is_space (get_or bytes i 0) ≡ true → comments_of (drop i bytes) ≡ comments_of (drop (i + 1) bytes)
+pub space_here : (bytes : List ℕ) (i : ℕ) → i < length bytes → is_space (get_or bytes i 0) ≡ true
+    → comments_of (drop i bytes) ≡ comments_of (drop (i + 1) bytes)
 space_here bytes i lt h =
     at_drop_more comments_of bytes i 0 lt
-    ∙ cond-true (is_space (get_or bytes i 0)) (comments_of (drop (i + 1) bytes)) (with_comment (gap_at (get_or bytes i 0 ∷ drop (i + 1) bytes)) (get_or bytes i 0 ∷ drop (i + 1) bytes) (λ m. comments_from m (drop (i + 1) bytes))) h
+    ∙ cond-true (is_space (get_or bytes i 0)) (comments_of (drop (i + 1) bytes))
+    (with_comment (gap_at (get_or bytes i 0 ∷ drop (i + 1) bytes)) (get_or bytes i 0 ∷ drop (i + 1) bytes) (λ m. comments_from m (drop (i + 1) bytes))) h
 
 pub comment_here : (bytes : List ℕ) (i n : ℕ) → i < length bytes → is_space (get_or bytes i 0) ≡ false → gap_at (drop i bytes) ≡ Some n →
     comments_of (drop i bytes) ≡ stripped (take n (drop i bytes)) ∷ comments_of (drop n (drop i bytes))
@@ -51,7 +54,8 @@ comment_here bytes i n lt h g =
     at_drop_more comments_of bytes i 0 lt ∙ listed b bs n h here
     ∙ sym (at_drop_more (λ t. stripped (take n t) ∷ comments_of (drop n t)) bytes i 0 lt)
 
-pub nothing_here : (bytes : List ℕ) (i : ℕ) → i < length bytes → is_space (get_or bytes i 0) ≡ false → gap_at (drop i bytes) ≡ None → comments_of (drop i bytes) ≡ []
+pub nothing_here : (bytes : List ℕ) (i : ℕ) → i < length bytes → is_space (get_or bytes i 0) ≡ false → gap_at (drop i bytes) ≡ None
+    → comments_of (drop i bytes) ≡ []
 nothing_here bytes i lt h g =
     let b = get_or bytes i 0 in
     let bs = drop (i + 1) bytes in
@@ -63,7 +67,8 @@ nothing_here bytes i lt h g =
 abbrev pub rest_of : List ℕ → ℕ → List ℕ
 rest_of bytes i = take (length bytes - i) (drop i bytes)
 
-pub comment_found : (bytes : List ℕ) (i n : ℕ) (comment : List ℕ) → i < length bytes → is_space (get_or bytes i 0) ≡ false → comments_of bytes ≡ comments_of (drop i bytes) →
+pub comment_found : (bytes : List ℕ) (i n : ℕ) (comment : List ℕ) → i < length bytes → is_space (get_or bytes i 0) ≡ false
+    → comments_of bytes ≡ comments_of (drop i bytes) →
     gap_at (rest_of bytes i) ≡ Some n → comment ≡ stripped (take n (rest_of bytes i)) → comments_of bytes ≡ comment ∷ comments_of (rest_of (rest_of bytes i) n)
 comment_found bytes i n comment lt h was g e =
     let whole = take_rest bytes i in

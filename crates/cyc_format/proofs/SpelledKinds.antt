@@ -45,11 +45,13 @@ kind_alone : (k : TokenKind) (s rest : List ℕ) → IsToken k s rest → k ≡ 
 unfolding kind_of
 kind_alone k s rest h = sym (ap kind_of (token_again k s [] (token_alone k s rest h)))
 
-kinds_alone : {at : ℕ} {text : List ℕ} {tokens : List Token} {end : ℕ} {rest : List ℕ} → Lexing at text tokens end rest → kinds tokens ≡ map alone (spellings tokens)
+kinds_alone : {at : ℕ} {text : List ℕ} {tokens : List Token} {end : ℕ} {rest : List ℕ} → Lexing at text tokens end rest
+    → kinds tokens ≡ map alone (spellings tokens)
 kinds_alone (Lexing.stays at text) = refl
 kinds_alone (Lexing.gap at s text tokens end rest g more) = kinds_alone more
 kinds_alone (Lexing.token at k s text tokens end rest h more) =
     ap (λ (x : TokenKind). x ∷ kinds tokens) (kind_alone k s text h) ∙ ap (λ ks. alone s ∷ ks) (kinds_alone more)
 
-pub same_kinds : (text out : List ℕ) (tokens others : List Token) → AreTokens text tokens → AreTokens out others → spellings tokens ≡ spellings others → kinds tokens ≡ kinds others
+pub same_kinds : (text out : List ℕ) (tokens others : List Token) → AreTokens text tokens → AreTokens out others → spellings tokens ≡ spellings others
+    → kinds tokens ≡ kinds others
 same_kinds text out tokens others h g e = kinds_alone h ∙ ap (map alone) e ∙ sym (kinds_alone g)

@@ -27,7 +27,8 @@ other_behind (x ∷ xs) b h =
 
 -- ---- one byte further
 
-pub space_more : (s : List ℕ) (i end : ℕ) → i < length s → is_space (get_or s i 0) ≡ true → stripped (take i s) ≡ take end s → stripped (take (i + 1) s) ≡ take end s
+pub space_more : (s : List ℕ) (i end : ℕ) → i < length s → is_space (get_or s i 0) ≡ true → stripped (take i s) ≡ take end s
+    → stripped (take (i + 1) s) ≡ take end s
 space_more s i end lt h was = ap stripped (take_more s i 0 lt) ∙ space_behind (take i s) (get_or s i 0) h ∙ was
 
 pub other_more : (s : List ℕ) (i : ℕ) → i < length s → is_space (get_or s i 0) ≡ false → stripped (take (i + 1) s) ≡ take (i + 1) s

@@ -1,4 +1,4 @@
--- The comments of a text. They stand where no token does: before the first token, between two, and after the last.
+-- Believed: the comments of a text. They stand where no token does: before the first token, between two, and after the last.
 use Rattle.std.specs.Prelude.{ℕ, zero, suc, ◌+◌, ◌-◌, List, [], ◌∷◌, length, take, drop, Option, Some, None, if◌then◌else◌}
 use Rattle.cyc_lexer.specs.Bytes.{is_space, all_bytes}
 use Rattle.cyc_lexer.specs.Lexing.{Token}

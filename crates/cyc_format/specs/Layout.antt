@@ -1,4 +1,4 @@
--- When one text is another one in a new layout.
+-- Believed: when one text is another one in a new layout.
 use Rattle.std.specs.Prelude.{◌≡◌, ℕ, List, map}
 use Rattle.cyc_lexer.specs.Lexing.{Token, AreTokens}
 use Rattle.cyc_lexer.specs.declared.token.TokenKind.{TokenKind}

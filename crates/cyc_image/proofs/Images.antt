@@ -1,9 +1,12 @@
 -- Bytes that no refusal applies to are an image, and an image's bytes give its parts.
-use Rattle.std.proofs.Common.{◌≡◌, ◌≢◌, ℕ, ◌+◌, ◌*◌, ◌/◌, ◌%◌, ◌^◌, ◌<◌, ◌≤◌, ◌⊎◌, List, [], ◌∷◌, ◌++◌, length, take, drop, get_or, sym, refl, ap, append_assoc, subst, ◌∙◌, arith, inl, inr, ⊎_elim, add-zero}
+use Rattle.std.proofs.Common.{◌≡◌, ◌≢◌, ℕ, ◌+◌, ◌*◌, ◌/◌, ◌%◌, ◌^◌, ◌<◌, ◌≤◌, ◌⊎◌, List, [], ◌∷◌, ◌++◌, length, take, drop, get_or, sym, refl, ap, append_assoc}
+use Rattle.std.proofs.Common.{subst, ◌∙◌, arith, inl, inr, ⊎_elim, add-zero}
 use Rattle.std.proofs.lemmas.Bool.{cases_lt}
 use Rattle.std.proofs.lemmas.List.{take-append-drop, get_or-drop, drop-drop, length-append, length-drop, length-take}
 use Rattle.std.proofs.Math.Seq.{take-append_seam, drop-append_seam}
-use Rattle.cyc_image.specs.Format.{Contents, Fits, IsOfVersion, IsImage, IsShort, IsPastLimit, HasBadEntry, First, Second, magic, u32_bytes, field, laid_out, parts_of, header_of, stack_of, limit_of, entry_field, code_field, data_field, pages_field, stack_field, version_field, code_limit, data_limit, page_limit, stack_page_limit, first_stack_pages, first_block_limit, second_block_limit}
+use Rattle.cyc_image.specs.Format.{Contents, Fits, IsOfVersion, IsImage, IsShort, IsPastLimit, HasBadEntry, First, Second, magic, u32_bytes, field, laid_out}
+use Rattle.cyc_image.specs.Format.{parts_of, header_of, stack_of, limit_of, entry_field, code_field, data_field, pages_field, stack_field, version_field}
+use Rattle.cyc_image.specs.Format.{code_limit, data_limit, page_limit, stack_page_limit, first_stack_pages, first_block_limit, second_block_limit}
 use Rattle.cyc_image.specs.Refusal.{IsAccepted, RefusedAs}
 use Rattle.cyc_image.specs.declared.fault.ImageFault.{ImageFault}
 use Rattle.cyc_image.specs.declared.fault.ImageFault.TheVariants.{Short, Magic, Version, Limit, Entry, Trailing, Memory}
@@ -38,7 +41,13 @@ word_at xs at next e h small =
     let room : 4 ≤ length (drop at xs) = omega (arith, length-drop at xs) in
     let below : (i : ℕ) → get_or (drop at xs) i 0 < 256 = λ i. rw (get_or-drop at xs i 0) (small (at + i)) in
     let word = first_word (drop at xs) room below in
-    let same : field (drop at xs) 0 ≡ field xs at = rw (get_or-drop at xs 0 0, get_or-drop at xs 1 0, get_or-drop at xs 2 0, get_or-drop at xs 3 0, add-zero) refl in
+    let same : field (drop at xs) 0 ≡ field xs at = rw (
+      get_or-drop at xs 0 0,
+      get_or-drop at xs 1 0,
+      get_or-drop at xs 2 0,
+      get_or-drop at xs 3 0,
+      add-zero,
+    ) refl in
     let rest : drop 4 (drop at xs) ≡ drop next xs = drop-drop 4 at xs ∙ ap (λ n. drop n xs) (sym e) in
     word ∙ ap (λ n. u32_bytes n ++ drop 4 (drop at xs)) same ∙ ap (λ r. u32_bytes (field xs at) ++ r) rest
 

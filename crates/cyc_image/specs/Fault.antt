@@ -1,4 +1,4 @@
--- The names of the faults of images.
+-- View of code: the names of the faults of images.
 use Rattle.std.specs.Prelude.{ℕ, List, codes}
 use Rattle.cyc_image.specs.declared.fault.ImageFault.{ImageFault}
 use Rattle.cyc_image.specs.declared.fault.ImageFault.TheVariants.{Short, Magic, Version, Limit, Entry, Trailing, Memory}

@@ -1,8 +1,6 @@
--- The image format: a header, the code, the data, and then nothing. Numbers are u32, the lowest byte first.
---     0 `CYI1`   4 version   8 entry   12 code length C   16 data length D   20 arena pages
--- In version 1 the header ends there, at 24; in version 2 a field follows:
---     24 stack pages
--- Then C bytes of code, and D bytes of data.
+-- Believed: the image format: a header, the code, the data, and then nothing. Numbers are u32, the lowest byte first. 0 `CYI1`   4 version   8 entry   12 code
+-- length C   16 data length D   20 arena pages In version 1 the header ends there, at 24; in version 2 a field follows: 24 stack pages Then C bytes of code,
+-- and D bytes of data.
 use Rattle.std.specs.Prelude.{◌≡◌, ◌≢◌, ℕ, ◌+◌, ◌*◌, ◌/◌, ◌%◌, ◌^◌, ◌<◌, ◌≤◌, ◌⊎◌, List, [], ◌∷◌, ◌++◌, length, take, drop, slice_index, nat_eq, if◌then◌else◌}
 
 -- What an image is made of: the entry's offset in the code, the code, the data, the pages of the arena and of the stack, and how many bytes a region's block

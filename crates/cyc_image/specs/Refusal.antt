@@ -1,8 +1,9 @@
--- Which refusal applies to bytes.
+-- Believed: which refusal applies to bytes.
 use Rattle.std.specs.Prelude.{◌≡◌, ℕ, List, take, Option, Some, None}
 use Rattle.cyc_image.specs.declared.fault.ImageFault.{ImageFault}
 use Rattle.cyc_image.specs.declared.fault.ImageFault.TheVariants.{Short, Magic, Version, Limit, Entry, Trailing, Memory}
-use Rattle.cyc_image.specs.Format.{IsShort, magic, HasOtherVersion, IsPastLimit, HasBadEntry, HasTrailing, RefusedAsMagic, RefusedAsVersion, RefusedAsLimit, RefusedAsEntry, RefusedAsTrailing}
+use Rattle.cyc_image.specs.Format.{IsShort, magic, HasOtherVersion, IsPastLimit, HasBadEntry, HasTrailing, RefusedAsMagic, RefusedAsVersion, RefusedAsLimit}
+use Rattle.cyc_image.specs.Format.{RefusedAsEntry, RefusedAsTrailing}
 
 -- no refusal applies
 pub record IsAccepted (bytes : List ℕ) : Type 0 where

@@ -1,7 +1,8 @@
 // From bytes to an image.
 
 ghost use Rattle.std.specs.Prelude.{◌≡◌, ◌⊎◌, ◌↔◌, IfOk};
-ghost use Rattle.cyc_image.specs.Format.{Contents, IsImage, IsShort, RefusedAsEntry, RefusedAsLimit, RefusedAsMagic, RefusedAsTrailing, RefusedAsVersion, parts_of};
+ghost use Rattle.cyc_image.specs.Format.{Contents, IsImage, IsShort, RefusedAsEntry, RefusedAsLimit, RefusedAsMagic, RefusedAsTrailing, RefusedAsVersion};
+ghost use Rattle.cyc_image.specs.Format.{parts_of};
 ghost use Rattle.cyc_image.specs.Refusal.{IsAccepted};
 
 use crate::checks::refusal;

@@ -64,7 +64,8 @@ pub no_comment_at : (b : ℕ) (bs : List ℕ) → (b ≡ 47 → ⊥) → BeginsC
 no_comment_at b bs h (back, inl e) = h (ap (λ s. get_or s 0 0) e)
 no_comment_at b bs h (back, inr e) = h (ap (λ s. get_or s 0 0) e)
 
-pub token_from : (k : TokenKind) (t s rest : List ℕ) → t ≡ s ++ rest → Spells k s → IsBounded (length s) t → (BeginsComment t → ⊥) → MayFollow k rest → IsToken k s rest
+pub token_from : (k : TokenKind) (t s rest : List ℕ) → t ≡ s ++ rest → Spells k s → IsBounded (length s) t → (BeginsComment t → ⊥) → MayFollow k rest
+    → IsToken k s rest
 token_from k t s rest is spelled bounded none apart = record {
   spelled = spelled;
   longest = λ l other more e h. bounded l other more (is ∙ e) h;

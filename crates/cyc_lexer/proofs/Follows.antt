@@ -44,7 +44,8 @@ empty_begins_nothing = nothing_begins [] refl refl
 -- ---- a text ends in one way
 
 pub same_end : {at : ℕ} {t : List ℕ} {ts : List Token} {end : ℕ} {rest : List ℕ} {at2 : ℕ} {t2 : List ℕ} {ts2 : List Token} {end2 : ℕ} {rest2 : List ℕ} →
-    Lexing at t ts end rest → Lexing at2 t2 ts2 end2 rest2 → at ≡ at2 → t ≡ t2 → BeginsNothing rest → BeginsNothing rest2 → (ts ≡ ts2) × (end ≡ end2) × (rest ≡ rest2)
+    Lexing at t ts end rest → Lexing at2 t2 ts2 end2 rest2 → at ≡ at2 → t ≡ t2 → BeginsNothing rest → BeginsNothing rest2
+    → (ts ≡ ts2) × (end ≡ end2) × (rest ≡ rest2)
 same_end (Lexing.stays at t) (Lexing.stays at2 t2) ea et over over2 = (refl, ea, et)
 same_end (Lexing.stays at t) (Lexing.gap at2 s2 t2 ts2 end2 rest2 g2 more2) ea et over over2 = absurd (over.0 s2 t2 et g2)
 same_end (Lexing.stays at t) (Lexing.token at2 k2 s2 t2 ts2 end2 rest2 g2 more2) ea et over over2 = absurd (over.1 k2 s2 t2 et g2)
@@ -53,9 +54,11 @@ same_end (Lexing.gap at s t ts end rest g more) (Lexing.gap at2 s2 t2 ts2 end2 r
     let both = same_gap s t s2 t2 g g2 et in
     let size = ap length both.0 in
     same_end more more2 (omega arith) both.1 over over2
-same_end (Lexing.gap at s t ts end rest g more) (Lexing.token at2 k2 s2 t2 ts2 end2 rest2 g2 more2) ea et over over2 = absurd (gap_or_token k2 s t s2 t2 g g2 et)
+same_end (Lexing.gap at s t ts end rest g more) (Lexing.token at2 k2 s2 t2 ts2 end2 rest2 g2 more2) ea et over over2 =
+    absurd (gap_or_token k2 s t s2 t2 g g2 et)
 same_end (Lexing.token at k s t ts end rest g more) (Lexing.stays at2 t2) ea et over over2 = absurd (over2.1 k s t (sym et) g)
-same_end (Lexing.token at k s t ts end rest g more) (Lexing.gap at2 s2 t2 ts2 end2 rest2 g2 more2) ea et over over2 = absurd (gap_or_token k s2 t2 s t g2 g (sym et))
+same_end (Lexing.token at k s t ts end rest g more) (Lexing.gap at2 s2 t2 ts2 end2 rest2 g2 more2) ea et over over2 =
+    absurd (gap_or_token k s2 t2 s t g2 g (sym et))
 same_end (Lexing.token at k s t ts end rest g more) (Lexing.token at2 k2 s2 t2 ts2 end2 rest2 g2 more2) ea et over over2 =
     let all = same_token k k2 s t s2 t2 g g2 et in
     let kinds = all.0 in
@@ -67,16 +70,19 @@ same_end (Lexing.token at k s t ts end rest g more) (Lexing.token at2 k2 s2 t2 t
 
 -- ---- a text that goes on
 
-pub with_gap : {at : ℕ} {t : List ℕ} {ts : List Token} {end : ℕ} {rest : List ℕ} → Lexing at t ts end rest → (s r : List ℕ) → rest ≡ s ++ r → IsGap s r → Lexing at t ts (end + length s) r
+pub with_gap : {at : ℕ} {t : List ℕ} {ts : List Token} {end : ℕ} {rest : List ℕ} → Lexing at t ts end rest → (s r : List ℕ) → rest ≡ s ++ r → IsGap s r
+    → Lexing at t ts (end + length s) r
 with_gap (Lexing.stays at t) s r e g =
     subst (λ (u : List ℕ). Lexing at u [] (at + length s) r) (sym e) (Lexing.gap at s r [] (at + length s) r g (Lexing.stays (at + length s) r))
 with_gap (Lexing.gap at s2 t ts end rest g2 more) s r e g = Lexing.gap at s2 t ts (end + length s) r g2 (with_gap more s r e g)
 with_gap (Lexing.token at k2 s2 t ts end rest g2 more) s r e g = Lexing.token at k2 s2 t ts (end + length s) r g2 (with_gap more s r e g)
 
-pub with_token : {at : ℕ} {t : List ℕ} {ts : List Token} {end : ℕ} {rest : List ℕ} → Lexing at t ts end rest → (k : TokenKind) (s r : List ℕ) → rest ≡ s ++ r → IsToken k s r →
+pub with_token : {at : ℕ} {t : List ℕ} {ts : List Token} {end : ℕ} {rest : List ℕ} → Lexing at t ts end rest → (k : TokenKind) (s r : List ℕ) → rest ≡ s ++ r
+    → IsToken k s r →
     Lexing at t (ts ++ record { kind = k; at = end; text = s } ∷ []) (end + length s) r
 with_token (Lexing.stays at t) k s r e g =
-    subst (λ (u : List ℕ). Lexing at u (record { kind = k; at = at; text = s } ∷ []) (at + length s) r) (sym e) (Lexing.token at k s r [] (at + length s) r g (Lexing.stays (at + length s) r))
+    subst (λ (u : List ℕ). Lexing at u (record { kind = k; at = at; text = s } ∷ []) (at + length s) r) (sym e)
+    (Lexing.token at k s r [] (at + length s) r g (Lexing.stays (at + length s) r))
 with_token (Lexing.gap at s2 t ts end rest g2 more) k s r e g =
     Lexing.gap at s2 t (ts ++ record { kind = k; at = end; text = s } ∷ []) (end + length s) r g2 (with_token more k s r e g)
 with_token (Lexing.token at k2 s2 t ts end rest g2 more) k s r e g =

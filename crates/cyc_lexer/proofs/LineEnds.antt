@@ -27,8 +27,10 @@ since_line_end-push n (x ∷ xs) b =
     since_step (eqb x 10) (λ m. since_line_end m (xs ++ b ∷ [])) (λ m. cond (eqb b 10) 0 (since_line_end m xs + 1)) 0 (n + 1) (λ m. since_line_end-push m xs b)
     ∙ since_choice (eqb x 10) (eqb b 10) (since_line_end 0 xs) (since_line_end (n + 1) xs)
 
-pub line_ends-more : (xs : List ℕ) (i : ℕ) → i < length xs → line_ends (take (i + 1) xs) ≡ cond (eqb (get_or xs i 0) 10) (line_ends (take i xs) + 1) (line_ends (take i xs))
+pub line_ends-more : (xs : List ℕ) (i : ℕ) → i < length xs
+    → line_ends (take (i + 1) xs) ≡ cond (eqb (get_or xs i 0) 10) (line_ends (take i xs) + 1) (line_ends (take i xs))
 line_ends-more xs i h = ap line_ends (take_more xs i 0 h) ∙ line_ends-push (take i xs) (get_or xs i 0)
 
-pub since_line_end-more : (xs : List ℕ) (i : ℕ) → i < length xs → since_line_end 0 (take (i + 1) xs) ≡ cond (eqb (get_or xs i 0) 10) 0 (since_line_end 0 (take i xs) + 1)
+pub since_line_end-more : (xs : List ℕ) (i : ℕ) → i < length xs
+    → since_line_end 0 (take (i + 1) xs) ≡ cond (eqb (get_or xs i 0) 10) 0 (since_line_end 0 (take i xs) + 1)
 since_line_end-more xs i h = ap (since_line_end 0) (take_more xs i 0 h) ∙ since_line_end-push 0 (take i xs) (get_or xs i 0)

@@ -1,10 +1,12 @@
 -- Tokens that are characters, strings or signs.
-use Rattle.std.proofs.Common.{◌≡◌, ℕ, ◌+◌, ◌<◌, ◌≤◌, Bool, true, false, cond, eqb, List, [], ◌∷◌, ◌++◌, length, get_or, Option, Some, None, refl, ap, sym, ◌∙◌, subst, arith, length-append, append_assoc}
+use Rattle.std.proofs.Common.{◌≡◌, ℕ, ◌+◌, ◌<◌, ◌≤◌, Bool, true, false, cond, eqb, List, [], ◌∷◌, ◌++◌, length, get_or, Option, Some, None, refl, ap, sym, ◌∙◌}
+use Rattle.std.proofs.Common.{subst, arith, length-append, append_assoc}
 use Rattle.std.proofs.lemmas.Bool.{cond_both, cond-true, cond-false, eqb-true, eq-eqb, false_from_ne_true, true≢false}
 use Rattle.cyc_lexer.specs.Bytes.{is_space, is_letter, is_digit}
 use Rattle.cyc_lexer.specs.Spelling.{sign_text, IsCharacter, IsText, Spells, character_at}
 use Rattle.cyc_lexer.specs.Lexing.{BeginsComment, IsLongest, IsToken}
-use Rattle.cyc_lexer.specs.Reading.{signs, text_from, find_sign, region_at, closed_by, quoted_at, text_token, begins_comment, begins_with, sign_at, word_at, number_at, token_at}
+use Rattle.cyc_lexer.specs.Reading.{signs, text_from, find_sign, region_at, closed_by, quoted_at, text_token, begins_comment, begins_with, sign_at, word_at}
+use Rattle.cyc_lexer.specs.Reading.{number_at, token_at}
 use Rattle.cyc_lexer.specs.declared.token.TokenKind.{TokenKind}
 use Rattle.cyc_lexer.specs.declared.token.TokenKind.TheVariants as kind
 use Rattle.cyc_lexer.specs.declared.token.Sign.{Sign}
@@ -89,13 +91,15 @@ quoted_token bs (Some x) h =
 pub quoted_read : (bs : List ℕ) → Reads IsToken (39 ∷ bs) (quoted_at bs)
 quoted_read bs = quoted_token bs (character_at 39 bs) refl
 
-pub quoted_again : (byte : ℕ) (inner s rest : List ℕ) → s ≡ 39 ∷ inner ++ 39 ∷ [] → IsCharacter 39 inner byte → token_at (s ++ rest) ≡ Some (kind.Character byte, length s)
+pub quoted_again : (byte : ℕ) (inner s rest : List ℕ) → s ≡ 39 ∷ inner ++ 39 ∷ [] → IsCharacter 39 inner byte
+    → token_at (s ++ rest) ≡ Some (kind.Character byte, length s)
 quoted_again byte inner s rest is h =
     let t = inner ++ 39 ∷ rest in
     ap (λ u. token_at (u ++ rest)) is
     ∙ ap quoted_at (append_assoc inner (39 ∷ []) rest)
     ∙ ap (λ o. closed_by o t) (character_again 39 byte inner (39 ∷ rest) h)
-    ∙ cond-true (eqb (get_or t (length inner) 0) 39) (Some (kind.Character byte, length inner + 2)) None (eq-eqb (get_or t (length inner) 0) 39 (at_seam inner rest 39))
+    ∙ cond-true (eqb (get_or t (length inner) 0) 39) (Some (kind.Character byte, length inner + 2)) None
+    (eq-eqb (get_or t (length inner) 0) 39 (at_seam inner rest 39))
     ∙ ap (λ n. Some (kind.Character byte, n)) (sym (quoted_size 39 inner s is))
 
 -- ---- strings
@@ -163,7 +167,8 @@ signs_bounded b bs high x found k other more e spelled =
     let l = sign_of_class k other (omega (arith, high, class_here k b bs other more e spelled)) spelled in
     omega (arith, found.longest l.0 (sign_found l.0) (stands_here (b ∷ bs) other more l.0 e l.2), ap length l.2)
 
-sign_token : (b : ℕ) (bs : List ℕ) → 5 ≤ class b → (BeginsComment (b ∷ bs) → ⊥) → (o : Option (TokenKind × ℕ)) → SignMeans sign_list (b ∷ bs) o → Reads IsToken (b ∷ bs) o
+sign_token : (b : ℕ) (bs : List ℕ) → 5 ≤ class b → (BeginsComment (b ∷ bs) → ⊥) → (o : Option (TokenKind × ℕ)) → SignMeans sign_list (b ∷ bs) o
+    → Reads IsToken (b ∷ bs) o
 sign_token b bs high none None m = tt
 sign_token b bs high none (Some x) m =
     let t = b ∷ bs in
@@ -185,7 +190,8 @@ sign_at_read b bs high =
     cond_both (begins_comment t) None (find_sign signs t) (Reads IsToken t) (λ _. tt)
     (λ g. sign_token b bs high (λ c. absurd (true≢false (sym (comment_test t c) ∙ g))) (find_sign signs t) (sign_read t))
 
-sign_chosen : (k : Sign) (rest : List ℕ) → IsLongest (sign_text k) rest → (o : Option (TokenKind × ℕ)) → SignMeans sign_list (sign_text k ++ rest) o → o ≡ Some (kind.Sign k, length (sign_text k))
+sign_chosen : (k : Sign) (rest : List ℕ) → IsLongest (sign_text k) rest → (o : Option (TokenKind × ℕ)) → SignMeans sign_list (sign_text k ++ rest) o
+    → o ≡ Some (kind.Sign k, length (sign_text k))
 sign_chosen k rest longest None m = absurd (m k (sign_found k) (begins_with-front (sign_text k) rest))
 sign_chosen k rest longest (Some x) m =
     let t = sign_text k ++ rest in
@@ -198,7 +204,8 @@ sign_chosen k rest longest (Some x) m =
     let kinds : x.0 ≡ kind.Sign k = m.kind_is ∙ ap (λ l. kind.Sign l) (sym which) in
     ap (λ l. Some (l, x.1)) kinds ∙ ap (λ n. Some (kind.Sign k, n)) (m.size ∙ sym size)
 
-five : (letter digit back quote double space : Bool) → ◌≡◌ {A = ℕ} (cond letter 0 (cond digit 1 (cond back 2 (cond quote 3 (cond double 4 (cond space 6 5)))))) 5 →
+five : (letter digit back quote double space : Bool)
+    → ◌≡◌ {A = ℕ} (cond letter 0 (cond digit 1 (cond back 2 (cond quote 3 (cond double 4 (cond space 6 5)))))) 5 →
     (A : Type 0) (a0 a1 a2 a3 a4 a5 : A) → cond letter a0 (cond digit a1 (cond back a2 (cond quote a3 (cond double a4 a5)))) ≡ a5
 five true digit back quote double space h A a0 a1 a2 a3 a4 a5 = absurd (omega arith)
 five false true back quote double space h A a0 a1 a2 a3 a4 a5 = absurd (omega arith)
@@ -216,7 +223,8 @@ sign_front : (k : Sign) (s rest : List ℕ) → s ≡ sign_text k → token_at (
 sign_front k [] rest is = absurd (omega (arith, (sign_class k).1, ap length is))
 sign_front k (b ∷ bs) rest is = other_token b (bs ++ rest) (ap (λ u. class (get_or u 0 0)) is ∙ (sign_class k).0)
 
-pub sign_again : (k : Sign) (s rest : List ℕ) → s ≡ sign_text k → IsLongest s rest → (BeginsComment (s ++ rest) → ⊥) → token_at (s ++ rest) ≡ Some (kind.Sign k, length s)
+pub sign_again : (k : Sign) (s rest : List ℕ) → s ≡ sign_text k → IsLongest s rest → (BeginsComment (s ++ rest) → ⊥)
+    → token_at (s ++ rest) ≡ Some (kind.Sign k, length s)
 sign_again k s rest is longest none =
     let t = s ++ rest in
     let e = ap (λ u. u ++ rest) is in

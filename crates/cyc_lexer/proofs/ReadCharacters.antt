@@ -33,7 +33,8 @@ hexadecimal_read : (quote b c : ℕ) (cs : List ℕ) → b ≡ 92 → c ≡ 120 
 hexadecimal_read quote b c [] e f = tt
 hexadecimal_read quote b c (h ∷ []) e f = tt
 hexadecimal_read quote b c (h ∷ l ∷ cs) e f =
-    cond_both (is_hexadecimal_digit h && is_hexadecimal_digit l) (Some (digit_value h * 16 + digit_value l, 4)) None (Reads (CharacterOf quote) (b ∷ c ∷ h ∷ l ∷ cs))
+    cond_both (is_hexadecimal_digit h && is_hexadecimal_digit l) (Some (digit_value h * 16 + digit_value l, 4)) None
+    (Reads (CharacterOf quote) (b ∷ c ∷ h ∷ l ∷ cs))
     (λ k. let both = and_parts (is_hexadecimal_digit h) (is_hexadecimal_digit l) k in
     record {
       front = b ∷ c ∷ h ∷ l ∷ [];
@@ -67,7 +68,8 @@ character_read quote [] = tt
 character_read quote (b ∷ bs) =
     cond_both (eqb b 92) (escape_at bs) (cond (is_between 32 126 b && not (eqb b quote)) (Some (b, 1)) None) (Reads (CharacterOf quote) (b ∷ bs))
     (λ h. escape_read quote b bs (eqb-true b 92 h))
-    (λ h. cond_both (is_between 32 126 b && not (eqb b quote)) (Some (b, 1)) None (Reads (CharacterOf quote) (b ∷ bs)) (plain_read quote b bs (eqb-false b 92 h)) (λ k. tt))
+    (λ h. cond_both (is_between 32 126 b && not (eqb b quote)) (Some (b, 1)) None (Reads (CharacterOf quote) (b ∷ bs))
+    (plain_read quote b bs (eqb-false b 92 h)) (λ k. tt))
 
 -- ---- a character is read
 

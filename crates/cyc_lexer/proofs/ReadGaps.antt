@@ -1,6 +1,8 @@
 -- Spaces and comments are read as they are defined.
-use Rattle.std.proofs.Common.{◌≡◌, ℕ, zero, suc, ◌+◌, ◌<◌, true, false, cond, eqb, ◌&&◌, List, [], ◌∷◌, ◌++◌, length, get_or, Contains, Some, None, refl, ap, sym, ◌∙◌, subst, arith, inl, inr, length-append, append_assoc}
-use Rattle.std.proofs.lemmas.Bool.{cond_both, cond-true, cond-false, and_parts, and_from, and_right, eqb-true, eqb-false, eq-eqb, ne_eqb, not-true, not-false, not_from_true, not_from_false, false_from_ne_true}
+use Rattle.std.proofs.Common.{◌≡◌, ℕ, zero, suc, ◌+◌, ◌<◌, true, false, cond, eqb, ◌&&◌, List, [], ◌∷◌, ◌++◌, length, get_or, Contains, Some, None, refl, ap}
+use Rattle.std.proofs.Common.{sym, ◌∙◌, subst, arith, inl, inr, length-append, append_assoc}
+use Rattle.std.proofs.lemmas.Bool.{cond_both, cond-true, cond-false, and_parts, and_from, and_right, eqb-true, eqb-false, eq-eqb, ne_eqb, not-true, not-false}
+use Rattle.std.proofs.lemmas.Bool.{not_from_true, not_from_false, false_from_ne_true}
 use Rattle.cyc_lexer.specs.Bytes.{is_space, all_bytes}
 use Rattle.cyc_lexer.specs.Lexing.{IsSpace, EndsLine, IsLineComment, HasEnd, IsBlockComment, IsGap}
 use Rattle.cyc_lexer.specs.Reading.{longer, run, is_no_line_end, comment_end, comment_at, gap_at}
@@ -57,7 +59,8 @@ no_end_in_one : HasEnd (42 ∷ []) → ⊥
 no_end_in_one (front, back, e) = absurd (omega (arith, ap length e, length-append front (42 ∷ 47 ∷ back)))
 
 -- one byte before a comment's end, which is none of it
-no_end_before : (b c : ℕ) (bs inner rest : List ℕ) → (eqb b 42 && eqb c 47) ≡ false → c ∷ bs ≡ (inner ++ 42 ∷ 47 ∷ []) ++ rest → (HasEnd (inner ++ 42 ∷ []) → ⊥) → HasEnd (b ∷ inner ++ 42 ∷ []) → ⊥
+no_end_before : (b c : ℕ) (bs inner rest : List ℕ) → (eqb b 42 && eqb c 47) ≡ false → c ∷ bs ≡ (inner ++ 42 ∷ 47 ∷ []) ++ rest → (HasEnd (inner ++ 42 ∷ []) → ⊥)
+    → HasEnd (b ∷ inner ++ 42 ∷ []) → ⊥
 no_end_before b c bs inner rest h is more (x ∷ xs, back, e) =
     let tails : inner ++ 42 ∷ [] ≡ xs ++ 42 ∷ 47 ∷ back = cc in
     more (xs, back, tails)

@@ -1,7 +1,8 @@
 -- Numbers are read as they are spelled.
 use Rattle.std.proofs.Common.{◌≡◌, ℕ, ◌+◌, ◌*◌, ◌≤◌, true, cond, eqb, leb, ◌||◌, List, [], ◌∷◌, Option, Some, None, refl, ap, sym, ◌∙◌, arith, inl, inr, ◌⊎◌}
 use Rattle.std.proofs.Math.Nat.{mul-le-mul_left}
-use Rattle.std.proofs.lemmas.Bool.{cond_both, cond-true, cond-false, and_parts, and_from, or_cases, or_left, or_right, or_from, leb-true, le-leb, eqb-true, eqb-false, eq-eqb, ne_eqb}
+use Rattle.std.proofs.lemmas.Bool.{cond_both, cond-true, cond-false, and_parts, and_from, or_cases, or_left, or_right, or_from, leb-true, le-leb, eqb-true}
+use Rattle.std.proofs.lemmas.Bool.{eqb-false, eq-eqb, ne_eqb}
 use Rattle.cyc_lexer.specs.Bytes.{is_digit, is_octal_digit, digit_value, all_bytes, value_after, value_of}
 use Rattle.cyc_lexer.specs.Spelling.{IsDecimal, IsOctal, IsHexadecimal, IsNumber}
 use Rattle.cyc_lexer.specs.Reading.{is_digit_to, digits_value, after_x, after_zero, digits_of}
@@ -18,7 +19,8 @@ abbrev DigitsMean : ℕ → ℕ → List ℕ → Option ℕ → Type 0
 DigitsMean base before ds None = Unit {0}
 DigitsMean base before ds (Some n) = (all_bytes (is_digit_to base) ds ≡ true) × (n ≡ value_after base before ds) × (n ≤ 4294967295)
 
-digits_more : (base before d : ℕ) (ds : List ℕ) → is_digit_to base d ≡ true → (o : Option ℕ) → DigitsMean base (before * base + digit_value d) ds o → DigitsMean base before (d ∷ ds) o
+digits_more : (base before d : ℕ) (ds : List ℕ) → is_digit_to base d ≡ true → (o : Option ℕ) → DigitsMean base (before * base + digit_value d) ds o
+    → DigitsMean base before (d ∷ ds) o
 digits_more base before d ds h None m = tt
 digits_more base before d ds h (Some n) m = (and_from (is_digit_to base d) (all_bytes (is_digit_to base) ds) h m.0, m.1, m.2)
 
@@ -82,7 +84,8 @@ pub digits_of_read : (s : List ℕ) → NumberMeans s (digits_of s)
 digits_of_read [] = tt
 digits_of_read (d ∷ ds) =
     cond_both (eqb d 48) (after_zero ds) (digits_value 10 0 (d ∷ ds)) (NumberMeans (d ∷ ds))
-    (λ h. after_zero_read d ds (eqb-true d 48 h)) (λ h. decimal_means d ds (eqb-false d 48 h) (digits_value 10 0 (d ∷ ds)) (digits_read 10 0 (d ∷ ds) (omega arith)))
+    (λ h. after_zero_read d ds (eqb-true d 48 h))
+    (λ h. decimal_means d ds (eqb-false d 48 h) (digits_value 10 0 (d ∷ ds)) (digits_read 10 0 (d ∷ ds) (omega arith)))
 
 decimal_again : (s : List ℕ) (n : ℕ) → IsDecimal s n → n ≤ 4294967295 → digits_of s ≡ Some n
 decimal_again [] n h le = absurd h

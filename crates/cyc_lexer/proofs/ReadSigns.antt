@@ -1,5 +1,6 @@
 -- The longest sign is read.
-use Rattle.std.proofs.Common.{cond, subst, ◌≡◌, ℕ, ◌≤◌, true, false, eqb, leb, ◌||◌, inl, inr, List, [], ◌∷◌, ◌++◌, length, map, Option, Some, None, refl, ap, sym, ◌∙◌, arith}
+use Rattle.std.proofs.Common.{cond, subst, ◌≡◌, ℕ, ◌≤◌, true, false, eqb, leb, ◌||◌, inl, inr, List, [], ◌∷◌, ◌++◌, length, map, Option, Some, None, refl, ap}
+use Rattle.std.proofs.Common.{sym, ◌∙◌, arith}
 use Rattle.std.proofs.lemmas.Bool.{cond_both, and_parts, and_from, or_cases, eqb-true, eq-eqb, leb-true, false≢true, true≢false}
 use Rattle.cyc_lexer.specs.Spelling.{sign_text}
 use Rattle.cyc_lexer.specs.Lexing.{BeginsComment}
@@ -64,20 +65,23 @@ exact_within (x ∷ xs) bound s k h e =
     (λ g _. omega (arith, low, ap length (same-true s (sign_text x) g)))
     (λ g f. omega (arith, low, exact_within xs (length (sign_text x)) s k both.1 f)) e
 
-first_longest : (x : Sign) (xs : List Sign) (k : Sign) → descends (length (sign_text x)) xs ≡ true → IsListed (x ∷ xs) k → length (sign_text k) ≤ length (sign_text x)
+first_longest : (x : Sign) (xs : List Sign) (k : Sign) → descends (length (sign_text x)) xs ≡ true → IsListed (x ∷ xs) k
+    → length (sign_text k) ≤ length (sign_text x)
 first_longest x xs k h =
     cond_both (same (sign_text k) (sign_text x)) (Some x) (find_exact xs (sign_text k)) (λ o. o ≡ Some k → length (sign_text k) ≤ length (sign_text x))
     (λ g _. omega (arith, ap length (same-true (sign_text k) (sign_text x) g)))
     (λ g f. exact_within xs (length (sign_text x)) (sign_text k) k h f)
 
 -- one that stands here, where the first of the table does not, is listed after it
-listed_later : (x : Sign) (xs : List Sign) (t : List ℕ) (k : Sign) → begins_with (sign_text x) t ≡ false → begins_with (sign_text k) t ≡ true → IsListed (x ∷ xs) k → IsListed xs k
+listed_later : (x : Sign) (xs : List Sign) (t : List ℕ) (k : Sign) → begins_with (sign_text x) t ≡ false → begins_with (sign_text k) t ≡ true
+    → IsListed (x ∷ xs) k → IsListed xs k
 listed_later x xs t k h stands =
     cond_both (same (sign_text k) (sign_text x)) (Some x) (find_exact xs (sign_text k)) (λ o. o ≡ Some k → IsListed xs k)
     (λ g _. absurd (true≢false (sym stands ∙ ap (λ s. begins_with s t) (same-true (sign_text k) (sign_text x) g) ∙ h)))
     (λ g f. f)
 
-past_first : (x : Sign) (xs : List Sign) (t : List ℕ) → begins_with (sign_text x) t ≡ false → (o : Option (TokenKind × ℕ)) → SignMeans xs t o → SignMeans (x ∷ xs) t o
+past_first : (x : Sign) (xs : List Sign) (t : List ℕ) → begins_with (sign_text x) t ≡ false → (o : Option (TokenKind × ℕ)) → SignMeans xs t o
+    → SignMeans (x ∷ xs) t o
 past_first x xs t h None m = λ k listed stands. m k (listed_later x xs t k h stands listed) stands
 past_first x xs t h (Some y) m = record {
   sign = m.sign;

@@ -1,5 +1,6 @@
 -- Strings are read as they are spelled.
-use Rattle.std.proofs.Common.{◌≡◌, ℕ, zero, suc, ◌+◌, ◌<◌, ◌≤◌, Bool, true, false, eqb, List, [], ◌∷◌, ◌++◌, length, drop, Option, Some, None, refl, ap, sym, ◌∙◌, subst, arith, append_assoc, length-append, zero-add}
+use Rattle.std.proofs.Common.{◌≡◌, ℕ, zero, suc, ◌+◌, ◌<◌, ◌≤◌, Bool, true, false, eqb, List, [], ◌∷◌, ◌++◌, length, drop, Option, Some, None, refl, ap, sym}
+use Rattle.std.proofs.Common.{◌∙◌, subst, arith, append_assoc, length-append, zero-add}
 use Rattle.std.proofs.lemmas.Bool.{cond-false, cond-true, eqb-true}
 use Rattle.std.proofs.lemmas.List.{drop_at}
 use Rattle.cyc_lexer.specs.Spelling.{IsCharacter, AreCharacters, character_at}
@@ -18,7 +19,8 @@ longer-longer a b (Some n) = ap Some (omega arith)
 text_from-skip : (n : ℕ) (bytes : List ℕ) → text_from n bytes ≡ longer n (text_from 0 (drop n bytes))
 text_from-skip zero bytes = sym (longer-zero (text_from 0 bytes))
 text_from-skip (suc n) [] = refl
-text_from-skip (suc n) (b ∷ bs) = ap (longer 1) (text_from-skip n bs) ∙ longer-longer 1 n (text_from 0 (drop n bs)) ∙ ap (λ k. longer k (text_from 0 (drop n bs))) (omega arith)
+text_from-skip (suc n) (b ∷ bs) = ap (longer 1) (text_from-skip n bs) ∙ longer-longer 1 n (text_from 0 (drop n bs))
+    ∙ ap (λ k. longer k (text_from 0 (drop n bs))) (omega arith)
 
 -- the character that is read at a place
 pub character_cut : (quote : ℕ) (t : List ℕ) (byte n : ℕ) → character_at quote t ≡ Some (byte, n) → Cut (CharacterOf quote byte) n t
@@ -35,7 +37,8 @@ character_within quote t byte n h =
 
 not_quote : (b : ℕ) (bs : List ℕ) (byte n : ℕ) → character_at 34 (b ∷ bs) ≡ Some (byte, n) → (v : Bool) → eqb b 34 ≡ v → v ≡ false
 not_quote b bs byte n h false e = refl
-not_quote b bs byte n h true e = let k = ap (λ i. character_at 34 (i ∷ bs)) (eqb-true b 34 e) in let never : ◌≡◌ {A = Option (ℕ × ℕ)} None (Some (byte, n)) = sym k ∙ h in cc
+not_quote b bs byte n h true e = let k = ap (λ i. character_at 34 (i ∷ bs)) (eqb-true b 34 e) in let never : ◌≡◌ {A = Option (ℕ × ℕ)} None (Some (byte, n)) =
+    sym k ∙ h in cc
 
 -- over one character of a string
 pub text_from-character : (t : List ℕ) (byte n : ℕ) → character_at 34 t ≡ Some (byte, n) → text_from 0 t ≡ longer n (text_from 0 (drop n t))

@@ -1,5 +1,6 @@
 -- Numbers with or without a suffix are read as they are spelled.
-use Rattle.std.proofs.Common.{◌≡◌, ℕ, zero, suc, ◌+◌, ◌-◌, Bool, true, false, eqb, ◌&&◌, List, [], ◌∷◌, ◌++◌, length, take, get_or, Option, Some, None, refl, ap, sym, ◌∙◌, arith, inl, inr, ◌⊎◌, length-append}
+use Rattle.std.proofs.Common.{◌≡◌, ℕ, zero, suc, ◌+◌, ◌-◌, Bool, true, false, eqb, ◌&&◌, List, [], ◌∷◌, ◌++◌, length, take, get_or, Option, Some, None, refl}
+use Rattle.std.proofs.Common.{ap, sym, ◌∙◌, arith, inl, inr, ◌⊎◌, length-append}
 use Rattle.std.proofs.lemmas.Bool.{cond_both, cond-true, cond-false, and_parts, and_from, or_cases, or_left, or_right, eqb-true, eq-eqb, false≢true}
 use Rattle.std.proofs.lemmas.List.{take_more, take_all, take_at, get_or_push, length_push}
 use Rattle.cyc_lexer.specs.Bytes.{is_digit, is_octal_digit, is_hexadecimal_digit, is_word_byte, all_bytes}
@@ -7,7 +8,8 @@ use Rattle.cyc_lexer.specs.Spelling.{IsDecimal, IsOctal, IsHexadecimal, IsNumber
 use Rattle.cyc_lexer.specs.Reading.{digits_of, is_suffix, with_suffix, number_of}
 use Rattle.cyc_lexer.specs.declared.token.TokenKind.{TokenKind}
 use Rattle.cyc_lexer.specs.declared.token.TokenKind.TheVariants as kind
-use Rattle.cyc_lexer.proofs.ByteTests.{between, is_between-in, octal_digit, octal_hexadecimal, digit_hexadecimal, hexadecimal_no_suffix, hexadecimal_word, letter_word, digit_word, lower_letter, upper_letter}
+use Rattle.cyc_lexer.proofs.ByteTests.{between, is_between-in, octal_digit, octal_hexadecimal, digit_hexadecimal, hexadecimal_no_suffix, hexadecimal_word}
+use Rattle.cyc_lexer.proofs.ByteTests.{letter_word, digit_word, lower_letter, upper_letter}
 use Rattle.cyc_lexer.proofs.ReadRuns.{all_bytes_wider, all_bytes-append}
 use Rattle.cyc_lexer.proofs.ReadNumbers.{NumberMeans, digits_of_read, digits_of_again}
 
@@ -39,12 +41,14 @@ x_word x (inr e) = letter_word x (upper_letter x (omega arith) (omega arith))
 
 decimal_words : (s : List ℕ) (n : ℕ) → IsDecimal s n → all_bytes is_word_byte s ≡ true
 decimal_words [] n h = absurd h
-decimal_words (d ∷ ds) n h = and_from (is_word_byte d) (all_bytes is_word_byte ds) (digit_word d (decimal_first d ds n h)) (all_bytes_wider is_digit is_word_byte ds digit_word h.1)
+decimal_words (d ∷ ds) n h = and_from (is_word_byte d) (all_bytes is_word_byte ds) (digit_word d (decimal_first d ds n h))
+    (all_bytes_wider is_digit is_word_byte ds digit_word h.1)
 
 octal_words : (s : List ℕ) (n : ℕ) → IsOctal s n → all_bytes is_word_byte s ≡ true
 octal_words [] n h = absurd h
 octal_words (d ∷ ds) n h =
-    and_from (is_word_byte d) (all_bytes is_word_byte ds) (digit_word d (zero_digit d h.0)) (all_bytes_wider is_octal_digit is_word_byte ds (λ b k. digit_word b (octal_digit b k)) h.1)
+    and_from (is_word_byte d) (all_bytes is_word_byte ds) (digit_word d (zero_digit d h.0))
+    (all_bytes_wider is_octal_digit is_word_byte ds (λ b k. digit_word b (octal_digit b k)) h.1)
 
 hexadecimal_words : (s : List ℕ) (n : ℕ) → IsHexadecimal s n → all_bytes is_word_byte s ≡ true
 hexadecimal_words [] n h = absurd h
@@ -69,13 +73,15 @@ decimal_last : (s : List ℕ) (n : ℕ) → IsDecimal s n → is_suffix (get_or 
 decimal_last [] n h = refl
 decimal_last (d ∷ ds) n h =
     last_digit (d ∷ ds) (length (d ∷ ds) - 1)
-    (and_from (is_hexadecimal_digit d) (all_bytes is_hexadecimal_digit ds) (digit_hexadecimal d (decimal_first d ds n h)) (all_bytes_wider is_digit is_hexadecimal_digit ds digit_hexadecimal h.1))
+    (and_from (is_hexadecimal_digit d) (all_bytes is_hexadecimal_digit ds) (digit_hexadecimal d (decimal_first d ds n h))
+    (all_bytes_wider is_digit is_hexadecimal_digit ds digit_hexadecimal h.1))
 
 octal_last : (s : List ℕ) (n : ℕ) → IsOctal s n → is_suffix (get_or s (length s - 1) 0) ≡ false
 octal_last [] n h = refl
 octal_last (d ∷ ds) n h =
     last_digit (d ∷ ds) (length (d ∷ ds) - 1)
-    (and_from (is_hexadecimal_digit d) (all_bytes is_hexadecimal_digit ds) (digit_hexadecimal d (zero_digit d h.0)) (all_bytes_wider is_octal_digit is_hexadecimal_digit ds octal_hexadecimal h.1))
+    (and_from (is_hexadecimal_digit d) (all_bytes is_hexadecimal_digit ds) (digit_hexadecimal d (zero_digit d h.0))
+    (all_bytes_wider is_octal_digit is_hexadecimal_digit ds octal_hexadecimal h.1))
 
 hexadecimal_last : (s : List ℕ) (n : ℕ) → IsHexadecimal s n → is_suffix (get_or s (length s - 1) 0) ≡ false
 hexadecimal_last [] n h = refl
@@ -120,13 +126,16 @@ spelled_some n true (digits, u, is, which, h) = let e = ap length is in absurd (
 
 pub number_again : (n : ℕ) (u : Bool) (s : List ℕ) → Spells (kind.Number n u) s → number_of s ≡ Some (kind.Number n u)
 number_again n false s h =
-    cond-false (is_suffix (get_or s (length s - 1) 0)) (with_suffix true (digits_of (take (length s - 1) s))) (with_suffix false (digits_of s)) (number_last s n h)
+    cond-false (is_suffix (get_or s (length s - 1) 0)) (with_suffix true (digits_of (take (length s - 1) s))) (with_suffix false (digits_of s))
+    (number_last s n h)
     ∙ ap (with_suffix false) (digits_of_again s n h)
 number_again n true s (digits, u, is, which, h) =
     let size : length s - 1 ≡ length digits = omega (arith, ap length is, length_push digits u) in
-    let last : get_or s (length s - 1) 0 ≡ u = ap (λ k. get_or s k 0) size ∙ ap (λ t. get_or t (length digits) 0) is ∙ get_or_push digits u 0 (length digits) refl in
+    let last : get_or s (length s - 1) 0 ≡ u = ap (λ k. get_or s k 0) size ∙ ap (λ t. get_or t (length digits) 0) is
+    ∙ get_or_push digits u 0 (length digits) refl in
     let front : take (length s - 1) s ≡ digits = ap (λ k. take k s) size ∙ ap (take (length digits)) is ∙ take_at digits (u ∷ []) (length digits) refl in
-    cond-true (is_suffix (get_or s (length s - 1) 0)) (with_suffix true (digits_of (take (length s - 1) s))) (with_suffix false (digits_of s)) (ap is_suffix last ∙ suffix_test u which)
+    cond-true (is_suffix (get_or s (length s - 1) 0)) (with_suffix true (digits_of (take (length s - 1) s))) (with_suffix false (digits_of s))
+    (ap is_suffix last ∙ suffix_test u which)
     ∙ ap (λ t. with_suffix true (digits_of t)) front
     ∙ ap (with_suffix true) (digits_of_again digits n h)
 
@@ -146,7 +155,8 @@ plain_means : (s : List ℕ) (o : Option ℕ) → NumberMeans s o → NumberToke
 plain_means s None h = tt
 plain_means s (Some n) h = record { value = n; suffix = false; is = refl; spelled = h }
 
-suffixed_means : (s digits : List ℕ) (u : ℕ) → s ≡ digits ++ u ∷ [] → ((u ≡ 117) ⊎ (u ≡ 85)) → (o : Option ℕ) → NumberMeans digits o → NumberTokenMeans s (with_suffix true o)
+suffixed_means : (s digits : List ℕ) (u : ℕ) → s ≡ digits ++ u ∷ [] → ((u ≡ 117) ⊎ (u ≡ 85)) → (o : Option ℕ) → NumberMeans digits o
+    → NumberTokenMeans s (with_suffix true o)
 suffixed_means s digits u is which None h = tt
 suffixed_means s digits u is which (Some n) h = record { value = n; suffix = true; is = refl; spelled = (digits, u, is, which, h) }
 

@@ -1,5 +1,6 @@
 -- The token at the front of a text is read as it is defined.
-use Rattle.std.proofs.Common.{◌||◌, ◌≡◌, ℕ, ◌≤◌, Bool, true, false, cond, eqb, List, [], ◌∷◌, ◌++◌, length, Option, Some, refl, ap, sym, ◌∙◌, subst, arith, inl, inr, ◌⊎◌}
+use Rattle.std.proofs.Common.{◌||◌, ◌≡◌, ℕ, ◌≤◌, Bool, true, false, cond, eqb, List, [], ◌∷◌, ◌++◌, length, Option, Some, refl, ap, sym, ◌∙◌, subst, arith, inl}
+use Rattle.std.proofs.Common.{inr, ◌⊎◌}
 use Rattle.std.proofs.lemmas.Bool.{or_cases, or_from, cond_both, eqb-true, ne_eqb}
 use Rattle.cyc_lexer.specs.Bytes.{is_between, is_space, is_letter, is_digit}
 use Rattle.cyc_lexer.specs.Spelling.{IsWord}
@@ -32,13 +33,16 @@ token_read (b ∷ bs) =
     let from2 = cond (eqb b 96) (region_at bs) from3 in
     cond_both (is_letter b) (word_at t) (cond (is_digit b) (number_at t) from2) P (λ h. word_read b bs h)
     (λ letter. cond_both (is_digit b) (number_at t) from2 P (λ h. number_at_read b bs h)
-    (λ digit. cond_both (eqb b 96) (region_at bs) from3 P (λ h. subst (λ (x : ℕ). Reads IsToken (x ∷ bs) (region_at bs)) (sym (eqb-true b 96 h)) (region_read bs))
-    (λ back. cond_both (eqb b 39) (quoted_at bs) from4 P (λ h. subst (λ (x : ℕ). Reads IsToken (x ∷ bs) (quoted_at bs)) (sym (eqb-true b 39 h)) (quoted_read bs))
+    (λ digit. cond_both (eqb b 96) (region_at bs) from3 P (λ h. subst (λ (x : ℕ). Reads IsToken (x ∷ bs) (region_at bs)) (sym (eqb-true b 96 h))
+    (region_read bs))
+    (λ back. cond_both (eqb b 39) (quoted_at bs) from4 P (λ h. subst (λ (x : ℕ). Reads IsToken (x ∷ bs) (quoted_at bs)) (sym (eqb-true b 39 h))
+    (quoted_read bs))
     (λ quote. cond_both (eqb b 34) (text_token (text_from 0 bs)) last P
     (λ h. subst (λ (x : ℕ). Reads IsToken (x ∷ bs) (text_token (text_from 0 bs))) (sym (eqb-true b 34 h)) (string_read bs))
     (λ double. sign_at_read b bs (high_class (is_letter b) (is_digit b) (eqb b 96) (eqb b 39) (eqb b 34) (is_space b) letter digit back quote double))))))
 
-word_again : (k : TokenKind) (s rest : List ℕ) → IsWord s → IsLongest s rest → word_kind (find_keyword keywords s) ≡ k → token_at (s ++ rest) ≡ Some (k, length s)
+word_again : (k : TokenKind) (s rest : List ℕ) → IsWord s → IsLongest s rest → word_kind (find_keyword keywords s) ≡ k
+    → token_at (s ++ rest) ≡ Some (k, length s)
 word_again k [] rest word longest e = absurd word
 word_again k (b ∷ bs) rest word longest e = word_at_again k b bs rest word longest e
 
@@ -66,8 +70,10 @@ space_class b h =
     let low = low_byte b h in
     low_class (is_letter b) (is_digit b) (eqb b 96) (eqb b 39) (eqb b 34) (is_space b)
     (or_from (eqb b 95 || is_between 65 90 b) (is_between 97 122 b)
-    (or_from (eqb b 95) (is_between 65 90 b) (ne_eqb b 95 (λ e. absurd (omega arith))) (is_between-below 65 90 b (omega arith))) (is_between-below 97 122 b (omega arith)))
-    (is_between-below 48 57 b (omega arith)) (ne_eqb b 96 (λ e. absurd (omega arith))) (ne_eqb b 39 (λ e. absurd (omega arith))) (ne_eqb b 34 (λ e. absurd (omega arith))) h
+    (or_from (eqb b 95) (is_between 65 90 b) (ne_eqb b 95 (λ e. absurd (omega arith))) (is_between-below 65 90 b (omega arith)))
+    (is_between-below 97 122 b (omega arith)))
+    (is_between-below 48 57 b (omega arith)) (ne_eqb b 96 (λ e. absurd (omega arith))) (ne_eqb b 39 (λ e. absurd (omega arith)))
+    (ne_eqb b 34 (λ e. absurd (omega arith))) h
 
 kind_class-within : (k : TokenKind) → kind_class k ≤ 5
 kind_class-within (kind.Keyword k) = omega arith

@@ -1,5 +1,6 @@
 -- Steps of the loops over bytes.
-use Rattle.std.proofs.Common.{◌≡◌, ℕ, ◌+◌, ◌-◌, ◌<◌, ◌≤◌, false, cond, eqb, ◌&&◌, List, [], ◌∷◌, length, take, drop, get_or, Some, None, refl, ap, sym, ◌∙◌, arith}
+use Rattle.std.proofs.Common.{◌≡◌, ℕ, ◌+◌, ◌-◌, ◌<◌, ◌≤◌, false, cond, eqb, ◌&&◌, List, [], ◌∷◌, length, take, drop, get_or, Some, None, refl, ap, sym, ◌∙◌}
+use Rattle.std.proofs.Common.{arith}
 use Rattle.std.specs.Cmp.Lexicographic.{pointwise}
 use Rattle.std.proofs.lemmas.List.{at_drop_more, length-drop}
 use Rattle.cyc_lexer.specs.Reading.{longer, comment_end, begins_with}
@@ -41,6 +42,7 @@ comment_end-turn bytes i pos lt h unlike =
     ∙ longer-longer (i - 1) 1 (comment_end (drop (i - 1 + 1) bytes))
     ∙ ap (λ k. longer k (comment_end (drop k bytes))) (omega arith)
 
-pub comment_end-past : (bytes : List ℕ) (i : ℕ) → 1 ≤ i → length bytes ≤ i → comment_end bytes ≡ longer (i - 1) (comment_end (drop (i - 1) bytes)) → None ≡ comment_end bytes
+pub comment_end-past : (bytes : List ℕ) (i : ℕ) → 1 ≤ i → length bytes ≤ i → comment_end bytes ≡ longer (i - 1) (comment_end (drop (i - 1) bytes))
+    → None ≡ comment_end bytes
 comment_end-past bytes i pos le h =
     sym (h ∙ ap (longer (i - 1)) (comment_end-short (drop (i - 1) bytes) (omega (arith, length-drop (i - 1) bytes))))

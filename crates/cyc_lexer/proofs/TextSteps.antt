@@ -25,7 +25,8 @@ positive : (k : TokenKind) (s r : List ℕ) → IsToken k s r → 0 < length s
 positive k [] r h = absurd (spells_some k h.spelled)
 positive k (b ∷ bs) r h = omega arith
 
-pub over_gap : (text : List ℕ) (tokens : List Token) (at n : ℕ) → at ≤ length text → Lexing 0 text tokens at (drop at text) → gap_at (rest_of text at) ≡ Some n → Goes text tokens at n
+pub over_gap : (text : List ℕ) (tokens : List Token) (at n : ℕ) → at ≤ length text → Lexing 0 text tokens at (drop at text) → gap_at (rest_of text at) ≡ Some n
+    → Goes text tokens at n
 over_gap text tokens at n le so_far h =
     let t = drop at text in
     let w = gap_read t n (ap gap_at (sym (take_rest text at)) ∙ h) in
@@ -66,7 +67,8 @@ fault_here text tokens at lt so_far g h = (
 
 -- ---- one outcome
 
-pub all_read : (text : List ℕ) (tokens : List Token) (at : ℕ) → at ≤ length text → length text ≤ at → Lexing 0 text tokens at (drop at text) → AreTokens text tokens
+pub all_read : (text : List ℕ) (tokens : List Token) (at : ℕ) → at ≤ length text → length text ≤ at → Lexing 0 text tokens at (drop at text)
+    → AreTokens text tokens
 all_read text tokens at le ge h =
     let end : at ≡ length text = omega arith in
     subst (λ (n : ℕ). Lexing 0 text tokens n []) end (subst (λ (r : List ℕ). Lexing 0 text tokens at r) (drop_all at text ge) h)

@@ -1,11 +1,13 @@
 -- Tokens that are words or regions.
-use Rattle.std.proofs.Common.{◌≡◌, ℕ, ◌+◌, ◌≤◌, Bool, true, cond, eqb, List, [], ◌∷◌, ◌++◌, length, take, get_or, Option, Some, None, refl, ap, sym, ◌∙◌, subst, arith}
+use Rattle.std.proofs.Common.{◌≡◌, ℕ, ◌+◌, ◌≤◌, Bool, true, cond, eqb, List, [], ◌∷◌, ◌++◌, length, take, get_or, Option, Some, None, refl, ap, sym, ◌∙◌, subst}
+use Rattle.std.proofs.Common.{arith}
 use Rattle.std.proofs.lemmas.Bool.{cond_both, and_parts, cond-true, cond-false, false_from_ne_true, true≢false}
 use Rattle.std.proofs.lemmas.List.{take_at}
 use Rattle.cyc_lexer.specs.Bytes.{is_letter, is_digit, is_word_byte, all_bytes}
 use Rattle.cyc_lexer.specs.Spelling.{IsWord, IsRegionName, Spells}
 use Rattle.cyc_lexer.specs.Lexing.{IsLongest, BeginsWithWordByte, MayFollow, IsToken}
-use Rattle.cyc_lexer.specs.Reading.{keywords, run, find_keyword, number_of, text_from, word_kind, with_length, region_at, quoted_at, text_token, sign_at, word_at, number_at, token_at}
+use Rattle.cyc_lexer.specs.Reading.{keywords, run, find_keyword, number_of, text_from, word_kind, with_length, region_at, quoted_at, text_token, sign_at}
+use Rattle.cyc_lexer.specs.Reading.{word_at, number_at, token_at}
 use Rattle.cyc_lexer.specs.declared.token.TokenKind.{TokenKind}
 use Rattle.cyc_lexer.specs.declared.token.TokenKind.TheVariants as kind
 use Rattle.cyc_lexer.specs.declared.token.Keyword.{Keyword}
@@ -57,7 +59,8 @@ word_read b bs letter =
 letter_token : (b : ℕ) (bs : List ℕ) → is_letter b ≡ true → token_at (b ∷ bs) ≡ word_at (b ∷ bs)
 letter_token b bs h =
     cond-true (is_letter b) (word_at (b ∷ bs))
-    (cond (is_digit b) (number_at (b ∷ bs)) (cond (eqb b 96) (region_at bs) (cond (eqb b 39) (quoted_at bs) (cond (eqb b 34) (text_token (text_from 0 bs)) (sign_at (b ∷ bs)))))) h
+    (cond (is_digit b) (number_at (b ∷ bs))
+    (cond (eqb b 96) (region_at bs) (cond (eqb b 39) (quoted_at bs) (cond (eqb b 34) (text_token (text_from 0 bs)) (sign_at (b ∷ bs)))))) h
 
 -- the whole run is a word, and the token is no shorter
 word_run_again : (b : ℕ) (bs rest : List ℕ) → IsWord (b ∷ bs) → IsLongest (b ∷ bs) rest → run is_word_byte (b ∷ bs ++ rest) ≡ length (b ∷ bs)
@@ -65,7 +68,12 @@ word_run_again b bs rest word longest =
     let t = b ∷ bs ++ rest in
     let w = run_cut is_word_byte t in
     let spelled = word_spells w.front (is_word_front b (bs ++ rest) w.front w.rest word.0 w.is w.holds) in
-    omega (arith, longest (word_kind (find_keyword keywords w.front)) w.front w.rest w.is spelled, w.size, run_covers is_word_byte (b ∷ bs) rest (word_bytes (b ∷ bs) word))
+    omega (
+      arith,
+      longest (word_kind (find_keyword keywords w.front)) w.front w.rest w.is spelled,
+      w.size,
+      run_covers is_word_byte (b ∷ bs) rest (word_bytes (b ∷ bs) word),
+    )
 
 pub word_at_again : (k : TokenKind) (b : ℕ) (bs rest : List ℕ) → IsWord (b ∷ bs) → IsLongest (b ∷ bs) rest → word_kind (find_keyword keywords (b ∷ bs)) ≡ k →
     token_at (b ∷ bs ++ rest) ≡ Some (k, length (b ∷ bs))
@@ -185,7 +193,8 @@ digit_token b bs h =
     cond-false (is_letter b) (word_at (b ∷ bs)) (cond (is_digit b) (number_at (b ∷ bs)) others) (digit_no_letter b h)
     ∙ cond-true (is_digit b) (number_at (b ∷ bs)) others h
 
-pub number_at_again : (n : ℕ) (u : Bool) (s rest : List ℕ) → Spells (kind.Number n u) s → (BeginsWithWordByte rest → ⊥) → token_at (s ++ rest) ≡ Some (kind.Number n u, length s)
+pub number_at_again : (n : ℕ) (u : Bool) (s rest : List ℕ) → Spells (kind.Number n u) s → (BeginsWithWordByte rest → ⊥)
+    → token_at (s ++ rest) ≡ Some (kind.Number n u, length s)
 number_at_again n u [] rest h apart = absurd (spelled_some n u h)
 number_at_again n u (b ∷ bs) rest h apart =
     let s = b ∷ bs in

@@ -1,4 +1,4 @@
--- Bytes of a text by their kinds, and the numbers that digits stand for.
+-- Believed: bytes of a text by their kinds, and the numbers that digits stand for.
 use Rattle.std.specs.Prelude.{ℕ, ◌+◌, ◌-◌, ◌*◌, List, [], ◌∷◌, Bool, true, ◌&&◌, ◌||◌, nat_eq, nat_le, if◌then◌else◌}
 
 -- low to high, both included

@@ -1,4 +1,4 @@
--- The tokens of a text: spaces, comments and tokens in turn, each token the longest that begins at its place.
+-- Believed: the tokens of a text: spaces, comments and tokens in turn, each token the longest that begins at its place.
 use Rattle.std.specs.Prelude.{◌≡◌, ◌≢◌, ℕ, ◌+◌, ◌≤◌, List, [], ◌∷◌, ◌++◌, length, IsTrue, ◌⊎◌, Contains}
 use Rattle.cyc_lexer.specs.Bytes.{is_space, is_word_byte}
 use Rattle.cyc_lexer.specs.Spelling.{Spells}

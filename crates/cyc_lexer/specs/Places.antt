@@ -1,4 +1,4 @@
--- Lines and columns.
+-- Believed: lines and columns.
 use Rattle.std.specs.Prelude.{ℕ, ◌+◌, List, [], ◌∷◌, take, min, nat_eq, if◌then◌else◌}
 
 -- the bytes 10 of a text

@@ -1,6 +1,7 @@
--- How the front of a text is read, step by step: what the functions of the crate compute.
--- Lengths are in bytes. That this reading is the one of Lexing.antt is proved in proofs/.
-use Rattle.std.specs.Prelude.{ℕ, suc, ◌+◌, ◌-◌, ◌*◌, zero, List, [], ◌∷◌, length, map, take, slice_index, Bool, true, false, not, ◌&&◌, ◌||◌, nat_eq, nat_le, if◌then◌else◌, Option, Some, None}
+-- Believed: how the front of a text is read, step by step: what the functions of the crate compute. Lengths are in bytes. That this reading is the one of
+-- Lexing.antt is proved in proofs/.
+use Rattle.std.specs.Prelude.{ℕ, suc, ◌+◌, ◌-◌, ◌*◌, zero, List, [], ◌∷◌, length, map, take, slice_index, Bool, true, false, not, ◌&&◌, ◌||◌, nat_eq, nat_le}
+use Rattle.std.specs.Prelude.{if◌then◌else◌, Option, Some, None}
 use Rattle.cyc_lexer.specs.declared.words.TheConstants.{KEYWORDS}
 use Rattle.cyc_lexer.specs.declared.signs.TheConstants.{SIGNS}
 use Rattle.cyc_lexer.specs.Bytes.{is_space, is_letter, is_digit, is_octal_digit, is_hexadecimal_digit, is_word_byte, digit_value}
@@ -45,7 +46,8 @@ is_digit_to base byte = if nat_eq base 8 then is_octal_digit byte else (if nat_e
 abbrev pub digits_value : ℕ → ℕ → List ℕ → Option ℕ
 digits_value base before [] = Some before
 digits_value base before (d ∷ ds) =
-    if is_digit_to base d then (if nat_le (before * base + digit_value d) 4294967295 then digits_value base (before * base + digit_value d) ds else None) else None
+    if is_digit_to base d then (if nat_le (before * base + digit_value d) 4294967295 then digits_value base (before * base + digit_value d)
+    ds else None) else None
 
 abbrev pub after_x : List ℕ → Option ℕ
 after_x [] = None

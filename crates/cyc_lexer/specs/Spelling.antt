@@ -1,5 +1,6 @@
--- What spells a token: for each kind, the byte lists that are a token of it.
-use Rattle.std.specs.Prelude.{◌≡◌, ◌≢◌, ℕ, suc, zero, ◌+◌, ◌-◌, ◌*◌, ◌≤◌, List, [], ◌∷◌, ◌++◌, length, take, drop, true, false, not, ◌&&◌, nat_eq, if◌then◌else◌, Option, Some, None, IsTrue, codes, ◌⊎◌}
+-- Believed: what spells a token: for each kind, the byte lists that are a token of it.
+use Rattle.std.specs.Prelude.{◌≡◌, ◌≢◌, ℕ, suc, zero, ◌+◌, ◌-◌, ◌*◌, ◌≤◌, List, [], ◌∷◌, ◌++◌, length, take, drop, true, false, not, ◌&&◌, nat_eq}
+use Rattle.std.specs.Prelude.{if◌then◌else◌, Option, Some, None, IsTrue, codes, ◌⊎◌}
 use Rattle.cyc_lexer.specs.Bytes.{is_between, is_letter, is_digit, is_octal_digit, is_hexadecimal_digit, is_word_byte, digit_value, all_bytes, value_of}
 use Rattle.cyc_lexer.specs.declared.token.TokenKind.{TokenKind}
 use Rattle.cyc_lexer.specs.declared.token.TokenKind.TheVariants as kind

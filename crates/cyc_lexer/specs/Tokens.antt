@@ -1,4 +1,4 @@
--- What `tokens` answers, of the values of the code.
+-- Believed: what `tokens` answers, of the values of the code.
 use Rattle.std.specs.Prelude.{◌≡◌, ℕ, ◌<◌, ◌≤◌, List, length, ◌⊎◌}
 use Rattle.cyc_lexer.specs.Lexing.{Token, IsFaultAt, text_limit}
 use Rattle.cyc_lexer.specs.declared.token.Token.{Token as CodeToken}

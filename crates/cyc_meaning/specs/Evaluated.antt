@@ -1,4 +1,4 @@
--- What an evaluation between a reader and a writer does: the source's run on the bytes that the reader gave, whose output goes to the writer.
+-- Believed: what an evaluation between a reader and a writer does: the source's run on the bytes that the reader gave, whose output goes to the writer.
 use Rattle.std.specs.Prelude.{◌≡◌, ℕ, suc, ◌<◌, ◌≤◌, List, [], ◌∷◌, ◌++◌, Option, Some, None, Contains}
 use Rattle.std.specs.Io.KnownBytes.{Consumes, IsAtEnd}
 use Rattle.cyc_tree.specs.Tree.{Program}

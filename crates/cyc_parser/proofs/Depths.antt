@@ -13,7 +13,8 @@ use Rattle.cyc_parser.specs.ReadExpressions.{expression_at}
 use Rattle.cyc_parser.specs.ReadStatements.{compound_by, statement_at}
 
 refuses_as : {A : Type 0} (b : Bool) (ts : Tokens) (outcome : Outcome A)
-    → outcome ≡ Err (if b then TooDeep (next_place ts) else Parse (next_place ts)) → Fails (if b then TooDeep (next_place ts) else Parse (next_place ts)) outcome
+    → outcome ≡ Err (if b then TooDeep (next_place ts) else Parse (next_place ts))
+    → Fails (if b then TooDeep (next_place ts) else Parse (next_place ts)) outcome
 refuses_as true ts outcome same = same
 refuses_as false ts outcome same = same
 

@@ -1,5 +1,6 @@
 -- What a reader answers of a phrase: its tree, or the place of its first token that is too deep. Steps of readers keep to it.
-use Rattle.std.proofs.Common.{◌≡◌, ℕ, suc, ◌+◌, arith, ◌≤◌, ◌<◌, ◌||◌, Bool, true, false, cond, List, [], ◌∷◌, ◌++◌, Option, Some, None, Ok, Err, refl, sym, subst, ◌∙◌}
+use Rattle.std.proofs.Common.{◌≡◌, ℕ, suc, ◌+◌, arith, ◌≤◌, ◌<◌, ◌||◌, Bool, true, false, cond, List, [], ◌∷◌, ◌++◌, Option, Some, None, Ok, Err, refl, sym}
+use Rattle.std.proofs.Common.{subst, ◌∙◌}
 use Rattle.std.proofs.lemmas.Bool.{le-leb, lt-leb}
 use Rattle.std.specs.Prelude.{nat_le}
 use Rattle.cyc_lexer.specs.declared.token.TokenKind.{TokenKind}

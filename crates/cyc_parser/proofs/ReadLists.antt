@@ -16,7 +16,8 @@ pub comma_pushed : {X A : Type 0} (view : X → A) (p : Tokens → Outcome A) (x
     → all ≡ xs ++ x ∷ [] → next_is (is_sign sign_of.Comma) ts ≡ true → sign sign_of.Comma ts ≡ Ok (at, mid) → p mid ≡ Ok (view x, to) → length to < length ts
     → with_front (map view xs) (behind_commas p ts) ≡ whole → with_front (map view all) (behind_commas p to) ≡ whole
 comma_pushed view p xs all x at ts mid to whole push next comma one shorter before =
-    pushed view (is_sign sign_of.Comma) (behind sign_of.Comma p) xs all x ts to whole push next (ap (λ outcome. outcome >>= λ y. p y.1) comma ∙ one) shorter before
+    pushed view (is_sign sign_of.Comma) (behind sign_of.Comma p) xs all x ts to whole push next (ap (λ outcome. outcome >>= λ y. p y.1) comma ∙ one)
+    shorter before
 
 -- the phrase behind a comma is refused
 pub comma_fails : {A : Type 0} (p : Tokens → Outcome A) (xs : List A) (at : ℕ) (ts mid : Tokens) (fault : ParseFault) (whole : Outcome (List A))

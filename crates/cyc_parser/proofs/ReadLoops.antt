@@ -41,7 +41,8 @@ module _ {A : Type 0} (test : TokenKind → Bool) (p : Tokens → Outcome A) whe
       sym so_far ∙ ap (with_front xs) (many_end test p ts h) ∙ ap (λ (zs : List A). Ok (zs, ts)) (append-nil xs)
 
 -- the same of what a vector holds after a push
-pub pushed : {X A : Type 0} (view : X → A) (test : TokenKind → Bool) (p : Tokens → Outcome A) (xs all : List X) (x : X) (ts mid : Tokens) (whole : Outcome (List A))
+pub pushed : {X A : Type 0} (view : X → A) (test : TokenKind → Bool) (p : Tokens → Outcome A) (xs all : List X) (x : X) (ts mid : Tokens)
+    (whole : Outcome (List A))
     → all ≡ xs ++ x ∷ [] → next_is test ts ≡ true → p ts ≡ Ok (view x, mid) → length mid < length ts → with_front (map view xs) (many test p ts) ≡ whole
     → with_front (map view all) (many test p mid) ≡ whole
 pushed view test p xs all x ts mid whole push next one shorter before =

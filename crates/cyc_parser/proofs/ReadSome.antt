@@ -15,7 +15,8 @@ abbrev pub led : {A : Type 0} → (Tokens → Outcome A) → (TokenKind → Bool
 led p test q = read p (λ x. read (many test q) (λ xs. done (x ∷ xs)))
 
 -- what a loop has read before it reads a phrase: nothing, or some phrases, and what shows that another one follows
-pub data Before {A : Type 0} (p : Tokens → Outcome A) (test : TokenKind → Bool) (q : Tokens → Outcome A) (from : Tokens) (xs : List A) (now : Tokens) : Type 0 where
+pub data Before {A : Type 0} (p : Tokens → Outcome A) (test : TokenKind → Bool) (q : Tokens → Outcome A) (from : Tokens) (xs : List A)
+    (now : Tokens) : Type 0 where
   First : xs ≡ [] → now ≡ from → Before p test q from xs now
   Later : (stood : Tokens) → next_is test stood ≡ true → q stood ≡ p now → length now ≤ length stood
       → with_front xs (many test q stood) ≡ led p test q from → Before p test q from xs now
@@ -24,7 +25,8 @@ fresh : {A : Type 0} (x : A) (r : Outcome (List A)) → with_front (x ∷ []) r 
 fresh x (Ok y) = refl
 fresh x (Err fault) = refl
 
-one_more : {A : Type 0} (p : Tokens → Outcome A) (test : TokenKind → Bool) (q : Tokens → Outcome A) (from : Tokens) (xs : List A) (now : Tokens) (x : A) (mid : Tokens)
+one_more : {A : Type 0} (p : Tokens → Outcome A) (test : TokenKind → Bool) (q : Tokens → Outcome A) (from : Tokens) (xs : List A) (now : Tokens) (x : A)
+    (mid : Tokens)
     → Before p test q from xs now → p now ≡ Ok (x, mid) → length mid < length now → with_front (xs ++ x ∷ []) (many test q mid) ≡ led p test q from
 one_more p test q from xs now x mid (First none same) one shorter =
     ap (λ ys. with_front (ys ++ x ∷ []) (many test q mid)) none ∙ fresh x (many test q mid)
@@ -33,7 +35,8 @@ one_more p test q from xs now x mid (Later stood next same longer before) one sh
     goes_on test q xs stood x mid (led p test q from) next (same ∙ one) (omega (arith, shorter, longer)) before
 
 -- the phrase is refused
-pub refused : {A : Type 0} (p : Tokens → Outcome A) (test : TokenKind → Bool) (q : Tokens → Outcome A) (from : Tokens) (xs : List A) (now : Tokens) (fault : ParseFault)
+pub refused : {A : Type 0} (p : Tokens → Outcome A) (test : TokenKind → Bool) (q : Tokens → Outcome A) (from : Tokens) (xs : List A) (now : Tokens)
+    (fault : ParseFault)
     → Before p test q from xs now → Fails fault (p now) → Fails fault (led p test q from)
 refused p test q from xs now fault (First none same) fails =
     first_fails fault (p from) (λ y. many test q y.1 >>= λ z. Ok (y.0 ∷ z.0, z.1)) (subst (λ ts. Fails fault (p ts)) same fails)
@@ -41,7 +44,8 @@ refused p test q from xs now fault (Later stood next same longer before) fails =
     fails_so test q xs stood fault (led p test q from) next (subst (Fails fault) (sym same) fails) before
 
 -- the phrase is read, and stands at the end of a vector
-pub one_pushed : {X A : Type 0} (view : X → A) (p : Tokens → Outcome A) (test : TokenKind → Bool) (q : Tokens → Outcome A) (from : Tokens) (xs all : List X) (x : X) (now mid : Tokens)
+pub one_pushed : {X A : Type 0} (view : X → A) (p : Tokens → Outcome A) (test : TokenKind → Bool) (q : Tokens → Outcome A) (from : Tokens) (xs all : List X)
+    (x : X) (now mid : Tokens)
     → Before p test q from (map view xs) now → all ≡ xs ++ x ∷ [] → p now ≡ Ok (view x, mid) → length mid < length now
     → with_front (map view all) (many test q mid) ≡ led p test q from
 one_pushed view p test q from xs all x now mid before push one shorter =
@@ -49,7 +53,8 @@ one_pushed view p test q from xs all x now mid before push one shorter =
     (one_more p test q from (map view xs) now (view x) mid before one shorter)
 
 -- it is the last one
-pub last_pushed : {X A : Type 0} (view : X → A) (p : Tokens → Outcome A) (test : TokenKind → Bool) (q : Tokens → Outcome A) (from : Tokens) (xs all : List X) (x : X) (now mid : Tokens)
+pub last_pushed : {X A : Type 0} (view : X → A) (p : Tokens → Outcome A) (test : TokenKind → Bool) (q : Tokens → Outcome A) (from : Tokens) (xs all : List X)
+    (x : X) (now mid : Tokens)
     → Before p test q from (map view xs) now → all ≡ xs ++ x ∷ [] → p now ≡ Ok (view x, mid) → length mid < length now
     → next_is test mid ≡ false → led p test q from ≡ Ok (map view all, mid)
 last_pushed view p test q from xs all x now mid before push one shorter next =

@@ -6,7 +6,8 @@ use Rattle.cyc_lexer.specs.declared.token.Sign.{Sign}
 use Rattle.cyc_lexer.specs.declared.token.Sign.TheVariants as sign_of
 use Rattle.cyc_lexer.specs.declared.token.TokenKind.{TokenKind}
 use Rattle.cyc_lexer.specs.declared.token.TokenKind.TheVariants as kind
-use Rattle.cyc_tree.specs.Tree.{Name, Expression, Number, Statement, Empty, Block, Run, Exchange, If, IfElse, While, Switch, Break, Continue, Return, FreeUnique, FreeKey, NoItems, Default, NoClauses, MoreClauses}
+use Rattle.cyc_tree.specs.Tree.{Name, Expression, Number, Statement, Empty, Block, Run, Exchange, If, IfElse, While, Switch, Break, Continue, Return}
+use Rattle.cyc_tree.specs.Tree.{FreeUnique, FreeKey, NoItems, Default, NoClauses, MoreClauses}
 use Rattle.cyc_tree.proofs.PartNesting.{statement_nesting}
 use Rattle.source_grammar.specs.Phrases.{Tokens, IsSign, InParentheses}
 use Rattle.source_grammar.specs.ExpressionGrammar.{IsExpression}

@@ -8,7 +8,8 @@ use Rattle.cyc_lexer.specs.declared.token.Sign.{Sign}
 use Rattle.cyc_lexer.specs.declared.token.Sign.TheVariants as sign_of
 use Rattle.cyc_lexer.specs.declared.token.TokenKind.{TokenKind}
 use Rattle.cyc_lexer.specs.declared.token.TokenKind.TheVariants as kind
-use Rattle.cyc_tree.specs.Tree.{Declaration, Statement, Empty, Block, Run, Exchange, If, IfElse, While, Switch, Break, Continue, Return, FreeUnique, FreeKey, NoClauses, MoreClauses}
+use Rattle.cyc_tree.specs.Tree.{Declaration, Statement, Empty, Block, Run, Exchange, If, IfElse, While, Switch, Break, Continue, Return, FreeUnique, FreeKey}
+use Rattle.cyc_tree.specs.Tree.{NoClauses, MoreClauses}
 use Rattle.source_grammar.specs.Phrases.{Tokens}
 use Rattle.source_grammar.specs.StatementGrammar.{IsDeclaration, IsStatement}
 use Rattle.cyc_parser.specs.Tests.{is_sign, is_keyword, begins_declaration, begins_unary, begins_control, begins_statement, begins_item, begins_clause}

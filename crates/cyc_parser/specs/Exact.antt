@@ -1,6 +1,6 @@
--- What it is for a reader to be exact: it reads just the phrases of a relation, the longest one from the front, and refuses at the first token
--- with which the tokens so far begin no phrase. A phrase has a relation for each of two nestings: within the one that the reader allows (true),
--- and any (false).
+-- View of code: what it is for a reader to be exact: it reads just the phrases of a relation, the longest one from the front, and refuses at the first token
+-- with which the tokens so far begin no phrase. A phrase has a relation for each of two nestings: within the one that the reader allows (true), and any
+-- (false).
 use Rattle.std.specs.Prelude.{◌≡◌, ◌⊎◌, ◌≤◌, ℕ, ◌^◌, List, [], ◌∷◌, ◌++◌, Bool, true, false, Ok, Err}
 use Rattle.cyc_lexer.specs.Lexing.{Token}
 use Rattle.cyc_lexer.specs.declared.token.TokenKind.{TokenKind}
@@ -74,7 +74,8 @@ abbrev pub Passes : {A : Type 0} → Outcome A → A → Tokens → Type 0
 Passes outcome a to = (outcome ≡ Ok (a, to)) ⊎ ((at : ℕ) × (outcome ≡ Err (TooDeep at)))
 
 -- A reader is exact on tokens that meet a guard. A tree says with which next tokens its phrase would go on.
-pub record Exact {A : Type 0} (Guard : Tokens → Type 0) (Is : Bool → A → Tokens → Tokens → Type 0) (goes_on : A → TokenKind → Bool) (reader : Tokens → Outcome A) : Type 0 where
+pub record Exact {A : Type 0} (Guard : Tokens → Type 0) (Is : Bool → A → Tokens → Tokens → Type 0) (goes_on : A → TokenKind → Bool) (reader : Tokens
+    → Outcome A) : Type 0 where
   -- what is read is a phrase within the nesting
   pub sound : (ts : Tokens) (a : A) (rest : Tokens) → Guard ts → reader ts ≡ Ok (a, rest) → Found (Is true) reader ts a rest
   -- a phrase within the nesting is one of any nesting

@@ -1,4 +1,4 @@
--- Parts of functions, as the functions that read them hand them on.
+-- View of code: parts of functions, as the functions that read them hand them on.
 use Rattle.std.specs.Prelude.{map}
 use Rattle.cyc_tree.specs.Tree.{Name, TypeName, Function}
 use Rattle.cyc_tree.specs.View.{member_tree, effect_tree, bound_tree, item_tree, items_of}

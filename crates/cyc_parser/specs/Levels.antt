@@ -1,4 +1,4 @@
--- Levels of binary operators.
+-- View of code: levels of binary operators.
 use Rattle.std.specs.Prelude.{◌≡◌, ◌+◌, ◌<◌, ◌⊎◌, ℕ, true, false, [], ◌∷◌, Option, Some, None}
 use Rattle.cyc_lexer.specs.declared.token.Sign.{Sign}
 use Rattle.cyc_tree.specs.declared.expression.Operator.{Operator}

@@ -1,4 +1,4 @@
--- Parts of phrases, as the functions that read them hand them on.
+-- View of code: parts of phrases, as the functions that read them hand them on.
 use Rattle.cyc_tree.specs.Tree.{Expression, Chain, Links, NoLinks, MoreLinks}
 
 -- an operand with the operators and operands after it, where there are such

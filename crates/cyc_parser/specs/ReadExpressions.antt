@@ -1,4 +1,4 @@
--- Readers of expressions. What reads unary expressions and what reads whole ones are arguments, since they go one phrase deeper.
+-- View of code: readers of expressions. What reads unary expressions and what reads whole ones are arguments, since they go one phrase deeper.
 use Rattle.std.specs.Prelude.{ℕ, zero, suc, ◌-◌, List, [], ◌∷◌, Option, Some, None, nat_le, if◌then◌else◌}
 use Rattle.cyc_lexer.specs.Lexing.{Token}
 use Rattle.cyc_lexer.specs.Spelling.{text_bytes}
@@ -11,7 +11,8 @@ use Rattle.cyc_tree.specs.declared.expression.Operator.{Operator}
 use Rattle.cyc_tree.specs.declared.expression.Operator.TheVariants as operator
 use Rattle.cyc_tree.specs.declared.expression.Prefix.{Prefix}
 use Rattle.cyc_tree.specs.declared.expression.Prefix.TheVariants as prefix
-use Rattle.cyc_tree.specs.Tree.{Name, Expression, Number, Character, Text, Null, HeapRegion, UniqueRegion, Variable, Call, MakeUnion, NumElts, Grouped, Suffixed, Prefixed, New, NewIn, AllOf, AnyOf, Assign, Suffixes, NoSuffixes, Made, One, Array}
+use Rattle.cyc_tree.specs.Tree.{Name, Expression, Number, Character, Text, Null, HeapRegion, UniqueRegion, Variable, Call, MakeUnion, NumElts, Grouped}
+use Rattle.cyc_tree.specs.Tree.{Suffixed, Prefixed, New, NewIn, AllOf, AnyOf, Assign, Suffixes, NoSuffixes, Made, One, Array}
 use Rattle.cyc_tree.specs.View.{OneSuffix, expressions_of, links_of, suffixes_of}
 use Rattle.source_grammar.specs.Phrases.{Tokens}
 use Rattle.source_grammar.specs.ExpressionGrammar.{binds, unary_level}
@@ -154,7 +155,8 @@ unfoldable pub made_by : (unary expr : Reads Expression) → Reads Made
 made_by unary expr = choose (is_sign sign_of.LeftBrace) (array_by expr) (read unary (λ e. done (One e)))
 
 unfoldable pub made_in_by : (unary expr : Reads Expression) → Reads Expression
-made_in_by unary expr = read (keyword word.Rnew) (λ at. read (parenthesized_by expr) (λ handle. read (made_by unary expr) (λ made. done (NewIn at handle made))))
+made_in_by unary expr = read (keyword word.Rnew)
+    (λ at. read (parenthesized_by expr) (λ handle. read (made_by unary expr) (λ made. done (NewIn at handle made))))
 
 abbrev pub made_in_behind : (unary expr : Reads Expression) → ℕ → Reads Expression
 made_in_behind unary expr at = read (parenthesized_by expr) (λ handle. read (made_by unary expr) (λ made. done (NewIn at handle made)))
@@ -203,7 +205,8 @@ any_of_by unary =
 -- what is assigned to a unary expression, where one was read
 unfoldable pub assigned_by : Reads Expression → Expression → Reads Expression
 assigned_by expr first =
-    if nat_le unary_level (binds first) then choose (is_sign sign_of.Assign) (read (sign sign_of.Assign) (λ _. read expr (λ value. done (Assign first value)))) (done first)
+    if nat_le unary_level (binds first) then choose (is_sign sign_of.Assign) (read (sign sign_of.Assign) (λ _. read expr (λ value. done (Assign first value))))
+    (done first)
     else done first
 
 unfoldable pub assignment_by : (unary expr : Reads Expression) → Reads Expression

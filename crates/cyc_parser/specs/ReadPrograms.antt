@@ -1,8 +1,9 @@
--- Readers of functions, items and programs. Where phrases may nest, `most` is how many may.
+-- View of code: readers of functions, items and programs. Where phrases may nest, `most` is how many may.
 use Rattle.std.specs.Prelude.{ℕ, List, [], ◌∷◌, Option, Some, None}
 use Rattle.cyc_lexer.specs.declared.token.Keyword.TheVariants as word
 use Rattle.cyc_lexer.specs.declared.token.Sign.TheVariants as sign_of
-use Rattle.cyc_tree.specs.Tree.{Name, RegionName, Void, Struct, TypeName, Member, Structure, Initial, Given, Bound, Function, Item, StructItem, UnionItem, GlobalItem, FunctionItem}
+use Rattle.cyc_tree.specs.Tree.{Name, RegionName, Void, Struct, TypeName, Member, Structure, Initial, Given, Bound, Function, Item, StructItem, UnionItem}
+use Rattle.cyc_tree.specs.Tree.{GlobalItem, FunctionItem}
 use Rattle.cyc_tree.specs.View.{items_of}
 use Rattle.cyc_parser.specs.Tests.{is_any, is_sign, is_keyword, is_region, begins_type, begins_declarator}
 use Rattle.cyc_parser.specs.Reader.{done, read, choose, many, sign, keyword, behind, listed}

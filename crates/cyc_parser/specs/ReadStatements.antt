@@ -1,10 +1,11 @@
--- Readers of declarations and statements. What reads a statement in another one is an argument, since it goes one phrase deeper.
+-- View of code: readers of declarations and statements. What reads a statement in another one is an argument, since it goes one phrase deeper.
 use Rattle.std.specs.Prelude.{ℕ, zero, suc, List, ◌∷◌, Some, None}
 use Rattle.cyc_lexer.specs.declared.token.Keyword.{Keyword}
 use Rattle.cyc_lexer.specs.declared.token.Keyword.TheVariants as word
 use Rattle.cyc_lexer.specs.declared.token.Sign.TheVariants as sign_of
 use Rattle.cyc_tree.specs.Tree as tree
-use Rattle.cyc_tree.specs.Tree.{Name, Declaration, Local, Open, Alias, NewKey, Pattern, Case, Default, Statement, Empty, Block, Run, Exchange, If, IfElse, While, Switch, Break, Continue, Return, FreeUnique, FreeKey}
+use Rattle.cyc_tree.specs.Tree.{Name, Declaration, Local, Open, Alias, NewKey, Pattern, Case, Default, Statement, Empty, Block, Run, Exchange, If, IfElse}
+use Rattle.cyc_tree.specs.Tree.{While, Switch, Break, Continue, Return, FreeUnique, FreeKey}
 use Rattle.cyc_tree.specs.View.{OneItem, OneClause, items_of, clauses_of}
 use Rattle.cyc_parser.specs.Tests.{is_sign, is_keyword, begins_declaration, begins_item, begins_statement, begins_clause}
 use Rattle.cyc_parser.specs.Reader.{done, read, choose, refuse, placed, many, sign, keyword}
@@ -147,7 +148,8 @@ pattern =
 
 unfoldable pub clause_by : Reads tree.Expression → Reads Statement → Reads OneClause
 clause_by expr stmt =
-    read (placed pattern) (λ p. read (sign sign_of.Colon) (λ _. read (items_by expr stmt) (λ is. done (record { at = p.0; pattern = p.1; body = items_of is }))))
+    read (placed pattern) (λ p. read (sign sign_of.Colon)
+    (λ _. read (items_by expr stmt) (λ is. done (record { at = p.0; pattern = p.1; body = items_of is }))))
 
 unfoldable pub clauses_by : Reads tree.Expression → Reads Statement → Reads (List OneClause)
 clauses_by expr stmt = read (clause_by expr stmt) (λ c. read (many begins_clause (clause_by expr stmt)) (λ cs. done (c ∷ cs)))

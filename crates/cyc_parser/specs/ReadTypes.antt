@@ -1,4 +1,4 @@
--- Readers of names, types and constants.
+-- View of code: readers of names, types and constants.
 use Rattle.std.specs.Prelude.{ℕ, Bool, false, List, [], Some, None, codes, if◌then◌else◌}
 use Rattle.cyc_lexer.specs.Lexing.{Token}
 use Rattle.cyc_lexer.specs.Reading.{same}
@@ -25,7 +25,8 @@ name = read (token is_identifier) (λ t. done (name_of t))
 
 abbrev pub region_of : Token → RegionName
 region_of t =
-    if same t.text (codes "`H") then Heap t.at else (if same t.text (codes "`U") then Unique t.at else Named (record { at = t.at; text = after_backquote t.text }))
+    if same t.text (codes "`H") then Heap t.at else (if same t.text (codes "`U") then Unique t.at else Named
+    (record { at = t.at; text = after_backquote t.text }))
 
 unfoldable pub region : Tokens → Outcome RegionName
 region = read (token is_region) (λ t. done (region_of t))

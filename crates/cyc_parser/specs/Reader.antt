@@ -1,6 +1,6 @@
--- Readers: what is read from the front of tokens, from left to right and by the next token alone. A reader answers its tree and the tokens
--- that are left, or the fault. The private functions of the crate compute what the readers of Read*.antt do; that those read just what the
--- grammar says is proved in proofs/.
+-- View of code: readers: what is read from the front of tokens, from left to right and by the next token alone. A reader answers its tree and the tokens that
+-- are left, or the fault. The private functions of the crate compute what the readers of Read*.antt do; that those read just what the grammar says is proved in
+-- proofs/.
 use Rattle.std.specs.Prelude.{◌≡◌, ℕ, zero, suc, List, [], ◌∷◌, length, Bool, false, nat_le, if◌then◌else◌, Option, Some, None, Result, Ok, Err}
 use Rattle.cyc_lexer.specs.Lexing.{Token}
 use Rattle.cyc_lexer.specs.declared.token.Sign.{Sign}

@@ -1,4 +1,4 @@
--- What is read of the tokens that are left.
+-- Believed: what is read of the tokens that are left.
 use Rattle.std.specs.Prelude.{ℕ, ◌-◌, ◌^◌, [], ◌∷◌, Option, Some, None}
 use Rattle.cyc_lexer.specs.declared.token.TokenKind.{TokenKind}
 use Rattle.source_grammar.specs.Phrases.{Tokens}

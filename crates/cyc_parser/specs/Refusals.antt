@@ -1,4 +1,4 @@
--- Why tokens are no program, and where.
+-- Believed: why tokens are no program, and where.
 use Rattle.std.specs.Prelude.{◌≡◌, ◌⊎◌, ℕ, ◌<◌, ◌≤◌, [], ◌∷◌, ◌++◌, length, drop, Some}
 use Rattle.cyc_lexer.specs.Lexing.{Token, text_limit}
 use Rattle.cyc_tree.specs.Tree.{Program}

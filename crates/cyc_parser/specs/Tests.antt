@@ -1,4 +1,4 @@
--- Tests of tokens by their kind: which ones begin a phrase, and which ones join phrases.
+-- View of code: tests of tokens by their kind: which ones begin a phrase, and which ones join phrases.
 use Rattle.std.specs.Prelude.{ℕ, Bool, true, false, ◌||◌, ◌+◌, nat_eq, nat_le}
 use Rattle.cyc_lexer.specs.declared.token.Keyword.{Keyword}
 use Rattle.cyc_lexer.specs.declared.token.Keyword.TheVariants as word
@@ -230,7 +230,8 @@ ends_parameters k = is_sign sign.Semicolon k || (is_sign sign.Colon k || is_sign
 
 -- ---- what joins expressions
 
--- how a sign joins what stands before it: one more than the production that it belongs to (`=` 0, `||` 1, `&&` 2, `|` 3, .. `*` 10), and 14 for a suffix or a call;
+-- how a sign joins what stands before it: one more than the production that it belongs to (`=` 0, `||` 1, `&&` 2, `|` 3, .. `*` 10), and 14 for a suffix or a
+-- call;
 -- 0 where it joins nothing
 abbrev pub sign_strength : Sign → ℕ
 sign_strength sign.Assign = 1

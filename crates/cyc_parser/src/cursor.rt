@@ -5,7 +5,8 @@ ghost use Rattle.cyc_lexer.specs.Tokens.{token_tree};
 ghost use Rattle.cyc_tree.specs.View.{name_tree, region_tree};
 ghost use Rattle.cyc_parser.specs.declared.fault.ParseFault.TheVariants.{Parse, TooDeep};
 ghost use Rattle.cyc_parser.specs.Reading.{next_kind, next_place};
-ghost use Rattle.cyc_parser.specs.Tests.{is_any as any_token, is_sign as sign_test, is_keyword as keyword_test, is_region as region_test, is_identifier as name_test};
+ghost use Rattle.cyc_parser.specs.Tests.{is_any as any_token, is_sign as sign_test, is_keyword as keyword_test, is_region as region_test};
+ghost use Rattle.cyc_parser.specs.Tests.{is_identifier as name_test};
 ghost use Rattle.cyc_parser.specs.Reader.{next_is, token, sign as sign_at, keyword as keyword_at, Gives};
 ghost use Rattle.cyc_parser.specs.ReadTypes.{name as name_at, region as region_at, number as number_at};
 

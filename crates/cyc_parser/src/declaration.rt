@@ -4,7 +4,8 @@ ghost use Rattle.std.specs.Prelude.{◌<◌, ◌≤◌, OnOk, length};
 ghost use Rattle.cyc_tree.specs.View.{name_tree, initializer_tree, declaration_tree};
 ghost use Rattle.cyc_parser.specs.Reader.{Gives};
 ghost use Rattle.cyc_parser.specs.ReadExpressions.{expression_at};
-ghost use Rattle.cyc_parser.specs.ReadStatements.{declaration_by, local_by, initializer_by, region_behind, binding_behind, alias_behind, new_key_at, parenthesized_name as parenthesized_name_at};
+ghost use Rattle.cyc_parser.specs.ReadStatements.{declaration_by, local_by, initializer_by, region_behind, binding_behind, alias_behind, new_key_at};
+ghost use Rattle.cyc_parser.specs.ReadStatements.{parenthesized_name as parenthesized_name_at};
 
 use crate::cursor::Cursor;
 use crate::expression::expression;

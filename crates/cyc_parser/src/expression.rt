@@ -4,7 +4,8 @@ ghost use Rattle.std.specs.Prelude.{◌≡◌, ◌-◌, ◌<◌, ◌≤◌, OnOk
 ghost use Rattle.cyc_tree.specs.View.{name_tree, expression_tree, made_tree, suffix_tree, link_tree};
 ghost use Rattle.cyc_parser.specs.Levels.{levels_from, levels_left};
 ghost use Rattle.cyc_parser.specs.Reader.{Gives, done, read, listed as listed_by, sign as sign_at};
-ghost use Rattle.cyc_parser.specs.ReadExpressions.{parenthesized_by, primary_by, arguments_behind, named_by, suffix_by, suffixes_by, postfix_by, array_behind, made_by, made_in_behind, prefixed_by, operation_by};
+ghost use Rattle.cyc_parser.specs.ReadExpressions.{parenthesized_by, primary_by, arguments_behind, named_by, suffix_by, suffixes_by, postfix_by, array_behind};
+ghost use Rattle.cyc_parser.specs.ReadExpressions.{made_by, made_in_behind, prefixed_by, operation_by};
 ghost use Rattle.cyc_parser.specs.ReadExpressions.{links_by, chain_by, all_of_by, any_of_by, assignment_by, expression_at, unary_at};
 
 use crate::cursor::Cursor;

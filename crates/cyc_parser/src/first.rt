@@ -2,8 +2,11 @@
 
 ghost use Rattle.std.specs.Prelude.{◌≡◌, Some};
 ghost use Rattle.cyc_parser.specs.Reader.{passes};
-ghost use Rattle.cyc_parser.specs.Tests.{begins_type as type_test, begins_declaration as declaration_test, begins_statement as statement_test, begins_unary as unary_test};
-ghost use Rattle.cyc_parser.specs.Tests.{is_control_word, begins_primary as primary_test, begins_suffix as suffix_test, begins_pointer as pointer_test, begins_clause as clause_test, begins_declarator as declarator_test, is_prefix as prefix_test, begins_item as item_test};
+ghost use Rattle.cyc_parser.specs.Tests.{begins_type as type_test, begins_declaration as declaration_test, begins_statement as statement_test};
+ghost use Rattle.cyc_parser.specs.Tests.{begins_unary as unary_test};
+ghost use Rattle.cyc_parser.specs.Tests.{is_control_word, begins_primary as primary_test, begins_suffix as suffix_test, begins_pointer as pointer_test};
+ghost use Rattle.cyc_parser.specs.Tests.{begins_clause as clause_test, begins_declarator as declarator_test, is_prefix as prefix_test};
+ghost use Rattle.cyc_parser.specs.Tests.{begins_item as item_test};
 
 use crate::operator::prefix_of;
 use cyc_lexer::{Keyword, Sign, TokenKind};

@@ -6,7 +6,8 @@ ghost use Rattle.cyc_tree.specs.View.{region_tree, member_tree, bound_tree};
 ghost use Rattle.cyc_tree.specs.Depths.{nesting_limit};
 ghost use Rattle.cyc_parser.specs.FunctionParts.{function_with};
 ghost use Rattle.cyc_parser.specs.Reader.{Gives, listed};
-ghost use Rattle.cyc_parser.specs.ReadPrograms.{void_behind, first_parameter as first_parameter_at, parameters as parameters_at, effect as effect_at, bound as bound_at, bounds as bounds_at, function_behind};
+ghost use Rattle.cyc_parser.specs.ReadPrograms.{void_behind, first_parameter as first_parameter_at, parameters as parameters_at, effect as effect_at};
+ghost use Rattle.cyc_parser.specs.ReadPrograms.{bound as bound_at, bounds as bounds_at, function_behind};
 
 use crate::cursor::Cursor;
 use crate::fault::Parsed;

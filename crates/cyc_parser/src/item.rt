@@ -10,7 +10,8 @@ ghost use Rattle.cyc_parser.specs.Refusals.{token_limit, IsBehindLimit, IsUnexpe
 ghost use Rattle.cyc_tree.specs.View.{type_tree, member_tree, structure_tree, initial_tree, program_item_tree};
 ghost use Rattle.cyc_parser.specs.Reader.{Gives, some};
 ghost use Rattle.cyc_parser.specs.Tests.{begins_type as type_test};
-ghost use Rattle.cyc_parser.specs.ReadPrograms.{member as member_at, members as members_at, union_behind, initial as initial_at, typed as typed_at, struct_behind, item as item_at, program as program_at};
+ghost use Rattle.cyc_parser.specs.ReadPrograms.{member as member_at, members as members_at, union_behind, initial as initial_at, typed as typed_at};
+ghost use Rattle.cyc_parser.specs.ReadPrograms.{struct_behind, item as item_at, program as program_at};
 
 use crate::cursor::Cursor;
 use crate::fault::{ParseFault, Parsed};

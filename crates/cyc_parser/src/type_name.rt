@@ -3,7 +3,8 @@
 ghost use Rattle.std.specs.Prelude.{◌≡◌, ◌<◌, ◌≤◌, Ok, OnOk, length, map};
 ghost use Rattle.cyc_tree.specs.View.{region_tree, base_tree, pointer_tree, type_tree, member_tree};
 ghost use Rattle.cyc_parser.specs.Reader.{Gives};
-ghost use Rattle.cyc_parser.specs.ReadTypes.{base as base_at, pointee_count as pointee_count_at, qualified as qualified_at, pointer_sign_read, pointer as pointer_at, pointers as pointers_at, type_name as type_name_at, typed_name as typed_name_at};
+ghost use Rattle.cyc_parser.specs.ReadTypes.{base as base_at, pointee_count as pointee_count_at, qualified as qualified_at, pointer_sign_read};
+ghost use Rattle.cyc_parser.specs.ReadTypes.{pointer as pointer_at, pointers as pointers_at, type_name as type_name_at, typed_name as typed_name_at};
 ghost use Rattle.cyc_parser.specs.ReadTypes.{one_region as one_region_at, regions as regions_at, region_list as region_list_at};
 
 use crate::cursor::Cursor;

@@ -1,12 +1,18 @@
 -- The greatest depth of a part's phrases where it stands in n phrases is n more than the recursion of PartNesting.antt. So it is n more than where the
 -- part stands in none.
 use Rattle.std.proofs.Common.{◌≡◌, ℕ, zero, suc, ◌+◌, ◌<◌, max, List, [], ◌∷◌, ◌++◌, Some, None, refl, arith}
-use Rattle.cyc_tree.specs.Tree.{Expression, Number, Character, Text, Null, HeapRegion, UniqueRegion, Variable, Call, MakeUnion, NumElts, Grouped, Suffixed, Prefixed, New, NewIn, Chain, AllOf, AnyOf, Assign, Expressions, NoExpressions, MoreExpressions, Links, NoLinks, MoreLinks, Suffixes, NoSuffixes, Index, Dot, Arrow, Made, One, Array}
+use Rattle.cyc_tree.specs.Tree.{Expression, Number, Character, Text, Null, HeapRegion, UniqueRegion, Variable, Call, MakeUnion, NumElts, Grouped, Suffixed}
+use Rattle.cyc_tree.specs.Tree.{Prefixed, New, NewIn, Chain, AllOf, AnyOf, Assign, Expressions, NoExpressions, MoreExpressions, Links, NoLinks, MoreLinks}
+use Rattle.cyc_tree.specs.Tree.{Suffixes, NoSuffixes, Index, Dot, Arrow, Made, One, Array}
 use Rattle.cyc_tree.specs.Tree as tree
-use Rattle.cyc_tree.specs.Tree.{Declaration, Local, Statement, Empty, Block, Run, Exchange, If, IfElse, While, Switch, Break, Continue, Return, FreeUnique, FreeKey, BlockItems, NoItems, Declare, Execute, Clauses, NoClauses, MoreClauses, Item, StructItem, UnionItem, GlobalItem, FunctionItem, Program}
+use Rattle.cyc_tree.specs.Tree.{Declaration, Local, Statement, Empty, Block, Run, Exchange, If, IfElse, While, Switch, Break, Continue, Return, FreeUnique}
+use Rattle.cyc_tree.specs.Tree.{FreeKey, BlockItems, NoItems, Declare, Execute, Clauses, NoClauses, MoreClauses, Item, StructItem, UnionItem, GlobalItem}
+use Rattle.cyc_tree.specs.Tree.{FunctionItem, Program}
 use Rattle.cyc_tree.specs.Places.{expression_place}
-use Rattle.cyc_tree.specs.Depths.{Start, start, inner_starts, argument_starts, operand_starts, link_starts, suffix_starts, made_starts, expression_starts, declaration_starts, statement_starts, items_starts, clauses_starts, item_starts, program_starts, greatest_depth, nesting}
-use Rattle.cyc_tree.proofs.PartNesting.{inner_nesting, argument_nesting, operand_nesting, link_nesting, suffix_nesting, made_nesting, expression_nesting, declaration_nesting, statement_nesting, items_nesting, clauses_nesting, item_nesting, program_nesting}
+use Rattle.cyc_tree.specs.Depths.{Start, start, inner_starts, argument_starts, operand_starts, link_starts, suffix_starts, made_starts, expression_starts}
+use Rattle.cyc_tree.specs.Depths.{declaration_starts, statement_starts, items_starts, clauses_starts, item_starts, program_starts, greatest_depth, nesting}
+use Rattle.cyc_tree.proofs.PartNesting.{inner_nesting, argument_nesting, operand_nesting, link_nesting, suffix_nesting, made_nesting, expression_nesting}
+use Rattle.cyc_tree.proofs.PartNesting.{declaration_nesting, statement_nesting, items_nesting, clauses_nesting, item_nesting, program_nesting}
 
 -- ---- lists of starts
 

@@ -1,9 +1,13 @@
 -- How deep the phrases of a part nest, by its parts: a recursion that proofs go by. It is the greatest depth of the part's phrases, by which nesting is
 -- defined (proofs/PartDepths.antt).
 use Rattle.std.specs.Prelude.{ℕ, ◌+◌, max, [], ◌∷◌, Some, None}
-use Rattle.cyc_tree.specs.Tree.{Expression, Number, Character, Text, Null, HeapRegion, UniqueRegion, Variable, Call, MakeUnion, NumElts, Grouped, Suffixed, Prefixed, New, NewIn, Chain, AllOf, AnyOf, Assign, Expressions, NoExpressions, MoreExpressions, Links, NoLinks, MoreLinks, Suffixes, NoSuffixes, Index, Dot, Arrow, Made, One, Array}
+use Rattle.cyc_tree.specs.Tree.{Expression, Number, Character, Text, Null, HeapRegion, UniqueRegion, Variable, Call, MakeUnion, NumElts, Grouped, Suffixed}
+use Rattle.cyc_tree.specs.Tree.{Prefixed, New, NewIn, Chain, AllOf, AnyOf, Assign, Expressions, NoExpressions, MoreExpressions, Links, NoLinks, MoreLinks}
+use Rattle.cyc_tree.specs.Tree.{Suffixes, NoSuffixes, Index, Dot, Arrow, Made, One, Array}
 use Rattle.cyc_tree.specs.Tree as tree
-use Rattle.cyc_tree.specs.Tree.{Initializer, Declaration, Local, Statement, Empty, Block, Run, Exchange, If, IfElse, While, Switch, Break, Continue, Return, FreeUnique, FreeKey, BlockItems, NoItems, Declare, Execute, Clauses, NoClauses, MoreClauses, Item, StructItem, UnionItem, GlobalItem, FunctionItem, Program}
+use Rattle.cyc_tree.specs.Tree.{Initializer, Declaration, Local, Statement, Empty, Block, Run, Exchange, If, IfElse, While, Switch, Break, Continue, Return}
+use Rattle.cyc_tree.specs.Tree.{FreeUnique, FreeKey, BlockItems, NoItems, Declare, Execute, Clauses, NoClauses, MoreClauses, Item, StructItem, UnionItem}
+use Rattle.cyc_tree.specs.Tree.{GlobalItem, FunctionItem, Program}
 
 abbrev mutual
   -- of an expression, itself not counted: its operands are unary expressions, as far as they go

@@ -1,10 +1,14 @@
--- Where the phrases begin that count for nesting: statements, expressions and unary expressions, from left to right. A token is in as many of
--- them as the deepest phrase that begins with it is, itself among them; one that begins none of them is in no more than some token before it,
--- with which a phrase begins that contains it. So the first token that is in more than so many begins the first phrase that is so deep.
+-- Believed: where the phrases begin that count for nesting: statements, expressions and unary expressions, from left to right. A token is in as many of them as
+-- the deepest phrase that begins with it is, itself among them; one that begins none of them is in no more than some token before it, with which a phrase
+-- begins that contains it. So the first token that is in more than so many begins the first phrase that is so deep.
 use Rattle.std.specs.Prelude.{ℕ, ◌+◌, max, List, [], ◌∷◌, ◌++◌, nat_le, if◌then◌else◌, Option, Some, None}
-use Rattle.cyc_tree.specs.Tree.{Expression, Number, Character, Text, Null, HeapRegion, UniqueRegion, Variable, Call, MakeUnion, NumElts, Grouped, Suffixed, Prefixed, New, NewIn, Chain, AllOf, AnyOf, Assign, Expressions, NoExpressions, MoreExpressions, Links, NoLinks, MoreLinks, Suffixes, NoSuffixes, Index, Dot, Arrow, Made, One, Array}
+use Rattle.cyc_tree.specs.Tree.{Expression, Number, Character, Text, Null, HeapRegion, UniqueRegion, Variable, Call, MakeUnion, NumElts, Grouped, Suffixed}
+use Rattle.cyc_tree.specs.Tree.{Prefixed, New, NewIn, Chain, AllOf, AnyOf, Assign, Expressions, NoExpressions, MoreExpressions, Links, NoLinks, MoreLinks}
+use Rattle.cyc_tree.specs.Tree.{Suffixes, NoSuffixes, Index, Dot, Arrow, Made, One, Array}
 use Rattle.cyc_tree.specs.Tree as tree
-use Rattle.cyc_tree.specs.Tree.{Initializer, Declaration, Local, Statement, Empty, Block, Run, Exchange, If, IfElse, While, Switch, Break, Continue, Return, FreeUnique, FreeKey, BlockItems, NoItems, Declare, Execute, Clauses, NoClauses, MoreClauses, Item, StructItem, UnionItem, GlobalItem, FunctionItem, Program}
+use Rattle.cyc_tree.specs.Tree.{Initializer, Declaration, Local, Statement, Empty, Block, Run, Exchange, If, IfElse, While, Switch, Break, Continue, Return}
+use Rattle.cyc_tree.specs.Tree.{FreeUnique, FreeKey, BlockItems, NoItems, Declare, Execute, Clauses, NoClauses, MoreClauses, Item, StructItem, UnionItem}
+use Rattle.cyc_tree.specs.Tree.{GlobalItem, FunctionItem, Program}
 use Rattle.cyc_tree.specs.Places.{expression_place}
 
 -- the first token of a phrase: its place, and how deep the phrase is, which is in how many phrases it stands, itself among them

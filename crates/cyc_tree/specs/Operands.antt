@@ -1,5 +1,5 @@
--- Facts of the grammar that the tree alone doesn't say: an operator that joins operands has at least two, a form with suffixes has one, and a struct or union
--- has a member.
+-- Believed: facts of the grammar that the tree alone doesn't say: an operator that joins operands has at least two, a form with suffixes has one, and a struct
+-- or union has a member.
 use Rattle.std.specs.Prelude.{List, Option, Some, None, [], ◌∷◌}
 use Rattle.cyc_tree.specs.Tree as tree
 use Rattle.cyc_tree.specs.Tree.{

@@ -1,4 +1,4 @@
--- Where the forms of a tree stand: the place of each one's first token.
+-- Believed: where the forms of a tree stand: the place of each one's first token.
 use Rattle.std.specs.Prelude.{ℕ}
 use Rattle.cyc_tree.specs.Tree as tree
 use Rattle.cyc_tree.specs.Tree.{Expression, Declaration, Statement, Item}

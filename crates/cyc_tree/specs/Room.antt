@@ -1,5 +1,5 @@
--- How far behind its first temporary a phrase goes at most: sixteen for each of its nodes. Numbers of temporaries are words, so a phrase is lowered where
--- so many are left behind its first one.
+-- View of code: how far behind its first temporary a phrase goes at most: sixteen for each of its nodes. Numbers of temporaries are words, so a phrase is
+-- lowered where so many are left behind its first one.
 use Rattle.std.specs.Prelude.{ℕ, ◌+◌, ◌*◌, List, [], ◌∷◌, length, Option, Some, None}
 use Rattle.cyc_tree.specs.Tree.{
   Expression,

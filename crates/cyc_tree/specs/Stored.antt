@@ -1,11 +1,12 @@
--- How a pure tree is told apart from others: a map of each of its types to numbers and pairs, one to one. The toolchain asks for it where a
--- value that contracts see is a tree; no contract speaks of it. Each form is its number, and then its parts.
+-- View of code: how a pure tree is told apart from others: a map of each of its types to numbers and pairs, one to one. The toolchain asks for it where a value
+-- that contracts see is a tree; no contract speaks of it. Each form is its number, and then its parts.
 use Rattle.std.specs.Prelude.{◌≡◌, ℕ, List, Option, refl}
 use Rattle.std.proofs.Common.{ap}
 use base.Stored.{Gv, gnil, gnum, gcons}
 use Rattle.std.specs.Coded.{Coded, code_by, coded×, coded_ℕ, coded_bool, coded_list, coded_option}
 use Rattle.cyc_tree.specs.StoredNames.{head, tail, apart, coded_operator, coded_prefix, coded_name, coded_region_name, coded_type_name}
-use Rattle.cyc_tree.specs.Tree.{Name, RegionName, TypeName, Expression, Expressions, Links, Suffixes, Made, Initializer, Declaration, Pattern, Statement, BlockItems, Clauses, Member, Structure, Constant, Initial, Global, Bound, Function, Item, Program}
+use Rattle.cyc_tree.specs.Tree.{Name, RegionName, TypeName, Expression, Expressions, Links, Suffixes, Made, Initializer, Declaration, Pattern, Statement}
+use Rattle.cyc_tree.specs.Tree.{BlockItems, Clauses, Member, Structure, Constant, Initial, Global, Bound, Function, Item, Program}
 
 abbrev mutual
   pub expression_code : Expression → Gv
@@ -49,47 +50,69 @@ abbrev mutual
 
 mutual
   pub expression_inj : (x y : Expression) → expression_code x ≡ expression_code y → x ≡ y
-  expression_inj (Expression.Number x1 x2 x3) (Expression.Number y1 y2 y3) p = λ i. Expression.Number (coded_ℕ.inj x1 y1 (ap (λ g. head (tail g)) p) i) (coded_ℕ.inj x2 y2 (ap (λ g. head (tail (tail g))) p) i) (coded_bool.inj x3 y3 (ap (λ g. tail (tail (tail g))) p) i)
-  expression_inj (Expression.Character x1 x2) (Expression.Character y1 y2) p = λ i. Expression.Character (coded_ℕ.inj x1 y1 (ap (λ g. head (tail g)) p) i) (coded_ℕ.inj x2 y2 (ap (λ g. tail (tail g)) p) i)
-  expression_inj (Expression.Text x1 x2) (Expression.Text y1 y2) p = λ i. Expression.Text (coded_ℕ.inj x1 y1 (ap (λ g. head (tail g)) p) i) ((coded_list coded_ℕ).inj x2 y2 (ap (λ g. tail (tail g)) p) i)
+  expression_inj (Expression.Number x1 x2 x3) (Expression.Number y1 y2 y3) p = λ i. Expression.Number (coded_ℕ.inj x1 y1 (ap (λ g. head (tail g)) p) i)
+      (coded_ℕ.inj x2 y2 (ap (λ g. head (tail (tail g))) p) i) (coded_bool.inj x3 y3 (ap (λ g. tail (tail (tail g))) p) i)
+  expression_inj (Expression.Character x1 x2) (Expression.Character y1 y2) p = λ i. Expression.Character (coded_ℕ.inj x1 y1 (ap (λ g. head (tail g)) p) i)
+      (coded_ℕ.inj x2 y2 (ap (λ g. tail (tail g)) p) i)
+  expression_inj (Expression.Text x1 x2) (Expression.Text y1 y2) p = λ i. Expression.Text (coded_ℕ.inj x1 y1 (ap (λ g. head (tail g)) p) i)
+      ((coded_list coded_ℕ).inj x2 y2 (ap (λ g. tail (tail g)) p) i)
   expression_inj (Expression.Null x1) (Expression.Null y1) p = λ i. Expression.Null (coded_ℕ.inj x1 y1 (ap (λ g. tail g) p) i)
   expression_inj (Expression.HeapRegion x1) (Expression.HeapRegion y1) p = λ i. Expression.HeapRegion (coded_ℕ.inj x1 y1 (ap (λ g. tail g) p) i)
   expression_inj (Expression.UniqueRegion x1) (Expression.UniqueRegion y1) p = λ i. Expression.UniqueRegion (coded_ℕ.inj x1 y1 (ap (λ g. tail g) p) i)
   expression_inj (Expression.Variable x1) (Expression.Variable y1) p = λ i. Expression.Variable (coded_name.inj x1 y1 (ap (λ g. tail g) p) i)
-  expression_inj (Expression.Call x1 x2) (Expression.Call y1 y2) p = λ i. Expression.Call (coded_name.inj x1 y1 (ap (λ g. head (tail g)) p) i) (expressions_inj x2 y2 (ap (λ g. tail (tail g)) p) i)
-  expression_inj (Expression.MakeUnion x1 x2 x3) (Expression.MakeUnion y1 y2 y3) p = λ i. Expression.MakeUnion (coded_name.inj x1 y1 (ap (λ g. head (tail g)) p) i) (coded_name.inj x2 y2 (ap (λ g. head (tail (tail g))) p) i) (expression_inj x3 y3 (ap (λ g. tail (tail (tail g))) p) i)
-  expression_inj (Expression.NumElts x1 x2) (Expression.NumElts y1 y2) p = λ i. Expression.NumElts (coded_ℕ.inj x1 y1 (ap (λ g. head (tail g)) p) i) (expression_inj x2 y2 (ap (λ g. tail (tail g)) p) i)
-  expression_inj (Expression.Grouped x1 x2) (Expression.Grouped y1 y2) p = λ i. Expression.Grouped (coded_ℕ.inj x1 y1 (ap (λ g. head (tail g)) p) i) (expression_inj x2 y2 (ap (λ g. tail (tail g)) p) i)
-  expression_inj (Expression.Suffixed x1 x2) (Expression.Suffixed y1 y2) p = λ i. Expression.Suffixed (expression_inj x1 y1 (ap (λ g. head (tail g)) p) i) (suffixes_inj x2 y2 (ap (λ g. tail (tail g)) p) i)
-  expression_inj (Expression.Prefixed x1 x2 x3) (Expression.Prefixed y1 y2 y3) p = λ i. Expression.Prefixed (coded_ℕ.inj x1 y1 (ap (λ g. head (tail g)) p) i) (coded_prefix.inj x2 y2 (ap (λ g. head (tail (tail g))) p) i) (expression_inj x3 y3 (ap (λ g. tail (tail (tail g))) p) i)
-  expression_inj (Expression.New x1 x2) (Expression.New y1 y2) p = λ i. Expression.New (coded_ℕ.inj x1 y1 (ap (λ g. head (tail g)) p) i) (made_inj x2 y2 (ap (λ g. tail (tail g)) p) i)
-  expression_inj (Expression.NewIn x1 x2 x3) (Expression.NewIn y1 y2 y3) p = λ i. Expression.NewIn (coded_ℕ.inj x1 y1 (ap (λ g. head (tail g)) p) i) (expression_inj x2 y2 (ap (λ g. head (tail (tail g))) p) i) (made_inj x3 y3 (ap (λ g. tail (tail (tail g))) p) i)
-  expression_inj (Expression.Chain x1 x2) (Expression.Chain y1 y2) p = λ i. Expression.Chain (expression_inj x1 y1 (ap (λ g. head (tail g)) p) i) (links_inj x2 y2 (ap (λ g. tail (tail g)) p) i)
-  expression_inj (Expression.AllOf x1 x2) (Expression.AllOf y1 y2) p = λ i. Expression.AllOf (expression_inj x1 y1 (ap (λ g. head (tail g)) p) i) (expressions_inj x2 y2 (ap (λ g. tail (tail g)) p) i)
-  expression_inj (Expression.AnyOf x1 x2) (Expression.AnyOf y1 y2) p = λ i. Expression.AnyOf (expression_inj x1 y1 (ap (λ g. head (tail g)) p) i) (expressions_inj x2 y2 (ap (λ g. tail (tail g)) p) i)
-  expression_inj (Expression.Assign x1 x2) (Expression.Assign y1 y2) p = λ i. Expression.Assign (expression_inj x1 y1 (ap (λ g. head (tail g)) p) i) (expression_inj x2 y2 (ap (λ g. tail (tail g)) p) i)
+  expression_inj (Expression.Call x1 x2) (Expression.Call y1 y2) p = λ i. Expression.Call (coded_name.inj x1 y1 (ap (λ g. head (tail g)) p) i)
+      (expressions_inj x2 y2 (ap (λ g. tail (tail g)) p) i)
+  expression_inj (Expression.MakeUnion x1 x2 x3) (Expression.MakeUnion y1 y2 y3) p = λ i.
+      Expression.MakeUnion (coded_name.inj x1 y1 (ap (λ g. head (tail g)) p) i) (coded_name.inj x2 y2 (ap (λ g. head (tail (tail g))) p) i)
+      (expression_inj x3 y3 (ap (λ g. tail (tail (tail g))) p) i)
+  expression_inj (Expression.NumElts x1 x2) (Expression.NumElts y1 y2) p = λ i. Expression.NumElts (coded_ℕ.inj x1 y1 (ap (λ g. head (tail g)) p) i)
+      (expression_inj x2 y2 (ap (λ g. tail (tail g)) p) i)
+  expression_inj (Expression.Grouped x1 x2) (Expression.Grouped y1 y2) p = λ i. Expression.Grouped (coded_ℕ.inj x1 y1 (ap (λ g. head (tail g)) p) i)
+      (expression_inj x2 y2 (ap (λ g. tail (tail g)) p) i)
+  expression_inj (Expression.Suffixed x1 x2) (Expression.Suffixed y1 y2) p = λ i. Expression.Suffixed (expression_inj x1 y1 (ap (λ g. head (tail g)) p) i)
+      (suffixes_inj x2 y2 (ap (λ g. tail (tail g)) p) i)
+  expression_inj (Expression.Prefixed x1 x2 x3) (Expression.Prefixed y1 y2 y3) p = λ i. Expression.Prefixed (coded_ℕ.inj x1 y1 (ap (λ g. head (tail g)) p) i)
+      (coded_prefix.inj x2 y2 (ap (λ g. head (tail (tail g))) p) i) (expression_inj x3 y3 (ap (λ g. tail (tail (tail g))) p) i)
+  expression_inj (Expression.New x1 x2) (Expression.New y1 y2) p = λ i. Expression.New (coded_ℕ.inj x1 y1 (ap (λ g. head (tail g)) p) i)
+      (made_inj x2 y2 (ap (λ g. tail (tail g)) p) i)
+  expression_inj (Expression.NewIn x1 x2 x3) (Expression.NewIn y1 y2 y3) p = λ i. Expression.NewIn (coded_ℕ.inj x1 y1 (ap (λ g. head (tail g)) p) i)
+      (expression_inj x2 y2 (ap (λ g. head (tail (tail g))) p) i) (made_inj x3 y3 (ap (λ g. tail (tail (tail g))) p) i)
+  expression_inj (Expression.Chain x1 x2) (Expression.Chain y1 y2) p = λ i. Expression.Chain (expression_inj x1 y1 (ap (λ g. head (tail g)) p) i)
+      (links_inj x2 y2 (ap (λ g. tail (tail g)) p) i)
+  expression_inj (Expression.AllOf x1 x2) (Expression.AllOf y1 y2) p = λ i. Expression.AllOf (expression_inj x1 y1 (ap (λ g. head (tail g)) p) i)
+      (expressions_inj x2 y2 (ap (λ g. tail (tail g)) p) i)
+  expression_inj (Expression.AnyOf x1 x2) (Expression.AnyOf y1 y2) p = λ i. Expression.AnyOf (expression_inj x1 y1 (ap (λ g. head (tail g)) p) i)
+      (expressions_inj x2 y2 (ap (λ g. tail (tail g)) p) i)
+  expression_inj (Expression.Assign x1 x2) (Expression.Assign y1 y2) p = λ i. Expression.Assign (expression_inj x1 y1 (ap (λ g. head (tail g)) p) i)
+      (expression_inj x2 y2 (ap (λ g. tail (tail g)) p) i)
   expression_inj x y p = apart (expression_code x) (expression_code y) p refl
 
   pub expressions_inj : (x y : Expressions) → expressions_code x ≡ expressions_code y → x ≡ y
   expressions_inj Expressions.NoExpressions Expressions.NoExpressions p = refl
-  expressions_inj (Expressions.MoreExpressions x1 x2) (Expressions.MoreExpressions y1 y2) p = λ i. Expressions.MoreExpressions (expression_inj x1 y1 (ap (λ g. head (tail g)) p) i) (expressions_inj x2 y2 (ap (λ g. tail (tail g)) p) i)
+  expressions_inj (Expressions.MoreExpressions x1 x2) (Expressions.MoreExpressions y1 y2) p = λ i.
+      Expressions.MoreExpressions (expression_inj x1 y1 (ap (λ g. head (tail g)) p) i) (expressions_inj x2 y2 (ap (λ g. tail (tail g)) p) i)
   expressions_inj x y p = apart (expressions_code x) (expressions_code y) p refl
 
   pub links_inj : (x y : Links) → links_code x ≡ links_code y → x ≡ y
   links_inj Links.NoLinks Links.NoLinks p = refl
-  links_inj (Links.MoreLinks x1 x2 x3) (Links.MoreLinks y1 y2 y3) p = λ i. Links.MoreLinks (coded_operator.inj x1 y1 (ap (λ g. head (tail g)) p) i) (expression_inj x2 y2 (ap (λ g. head (tail (tail g))) p) i) (links_inj x3 y3 (ap (λ g. tail (tail (tail g))) p) i)
+  links_inj (Links.MoreLinks x1 x2 x3) (Links.MoreLinks y1 y2 y3) p = λ i. Links.MoreLinks (coded_operator.inj x1 y1 (ap (λ g. head (tail g)) p) i)
+      (expression_inj x2 y2 (ap (λ g. head (tail (tail g))) p) i) (links_inj x3 y3 (ap (λ g. tail (tail (tail g))) p) i)
   links_inj x y p = apart (links_code x) (links_code y) p refl
 
   pub suffixes_inj : (x y : Suffixes) → suffixes_code x ≡ suffixes_code y → x ≡ y
   suffixes_inj Suffixes.NoSuffixes Suffixes.NoSuffixes p = refl
-  suffixes_inj (Suffixes.Index x1 x2) (Suffixes.Index y1 y2) p = λ i. Suffixes.Index (expression_inj x1 y1 (ap (λ g. head (tail g)) p) i) (suffixes_inj x2 y2 (ap (λ g. tail (tail g)) p) i)
-  suffixes_inj (Suffixes.Dot x1 x2) (Suffixes.Dot y1 y2) p = λ i. Suffixes.Dot (coded_name.inj x1 y1 (ap (λ g. head (tail g)) p) i) (suffixes_inj x2 y2 (ap (λ g. tail (tail g)) p) i)
-  suffixes_inj (Suffixes.Arrow x1 x2) (Suffixes.Arrow y1 y2) p = λ i. Suffixes.Arrow (coded_name.inj x1 y1 (ap (λ g. head (tail g)) p) i) (suffixes_inj x2 y2 (ap (λ g. tail (tail g)) p) i)
+  suffixes_inj (Suffixes.Index x1 x2) (Suffixes.Index y1 y2) p = λ i. Suffixes.Index (expression_inj x1 y1 (ap (λ g. head (tail g)) p) i)
+      (suffixes_inj x2 y2 (ap (λ g. tail (tail g)) p) i)
+  suffixes_inj (Suffixes.Dot x1 x2) (Suffixes.Dot y1 y2) p = λ i. Suffixes.Dot (coded_name.inj x1 y1 (ap (λ g. head (tail g)) p) i)
+      (suffixes_inj x2 y2 (ap (λ g. tail (tail g)) p) i)
+  suffixes_inj (Suffixes.Arrow x1 x2) (Suffixes.Arrow y1 y2) p = λ i. Suffixes.Arrow (coded_name.inj x1 y1 (ap (λ g. head (tail g)) p) i)
+      (suffixes_inj x2 y2 (ap (λ g. tail (tail g)) p) i)
   suffixes_inj x y p = apart (suffixes_code x) (suffixes_code y) p refl
 
   pub made_inj : (x y : Made) → made_code x ≡ made_code y → x ≡ y
   made_inj (Made.One x1) (Made.One y1) p = λ i. Made.One (expression_inj x1 y1 (ap (λ g. tail g) p) i)
-  made_inj (Made.Array x1 x2 x3) (Made.Array y1 y2 y3) p = λ i. Made.Array (coded_name.inj x1 y1 (ap (λ g. head (tail g)) p) i) (expression_inj x2 y2 (ap (λ g. head (tail (tail g))) p) i) (expression_inj x3 y3 (ap (λ g. tail (tail (tail g))) p) i)
+  made_inj (Made.Array x1 x2 x3) (Made.Array y1 y2 y3) p = λ i. Made.Array (coded_name.inj x1 y1 (ap (λ g. head (tail g)) p) i)
+      (expression_inj x2 y2 (ap (λ g. head (tail (tail g))) p) i) (expression_inj x3 y3 (ap (λ g. tail (tail (tail g))) p) i)
   made_inj x y p = apart (made_code x) (made_code y) p refl
 
 abbrev pub coded_expression : Coded Expression
@@ -124,16 +147,27 @@ coded_initializer = record { code = initializer_code; inj = initializer_inj }
 abbrev pub declaration_code : Declaration → Gv
 declaration_code (Declaration.Local x1 x2 x3) = gcons (gnum 0) (gcons (coded_type_name.code x1) (gcons (coded_name.code x2) (coded_initializer.code x3)))
 declaration_code (Declaration.Region x1 x2 x3) = gcons (gnum 1) (gcons (coded_ℕ.code x1) (gcons (coded_region_name.code x2) (coded_name.code x3)))
-declaration_code (Declaration.Open x1 x2 x3 x4) = gcons (gnum 2) (gcons (coded_ℕ.code x1) (gcons (coded_region_name.code x2) (gcons (coded_name.code x3) (coded_name.code x4))))
-declaration_code (Declaration.Alias x1 x2 x3 x4 x5) = gcons (gnum 3) (gcons (coded_ℕ.code x1) (gcons (coded_region_name.code x2) (gcons (coded_type_name.code x3) (gcons (coded_name.code x4) (coded_name.code x5)))))
+declaration_code (Declaration.Open x1 x2 x3 x4) =
+    gcons (gnum 2) (gcons (coded_ℕ.code x1) (gcons (coded_region_name.code x2) (gcons (coded_name.code x3) (coded_name.code x4))))
+declaration_code (Declaration.Alias x1 x2 x3 x4 x5) =
+    gcons (gnum 3) (gcons (coded_ℕ.code x1)
+    (gcons (coded_region_name.code x2) (gcons (coded_type_name.code x3) (gcons (coded_name.code x4) (coded_name.code x5)))))
 declaration_code (Declaration.NewKey x1 x2 x3) = gcons (gnum 4) (gcons (coded_ℕ.code x1) (gcons (coded_region_name.code x2) (coded_name.code x3)))
 
 pub declaration_inj : (x y : Declaration) → declaration_code x ≡ declaration_code y → x ≡ y
-declaration_inj (Declaration.Local x1 x2 x3) (Declaration.Local y1 y2 y3) p = λ i. Declaration.Local (coded_type_name.inj x1 y1 (ap (λ g. head (tail g)) p) i) (coded_name.inj x2 y2 (ap (λ g. head (tail (tail g))) p) i) (coded_initializer.inj x3 y3 (ap (λ g. tail (tail (tail g))) p) i)
-declaration_inj (Declaration.Region x1 x2 x3) (Declaration.Region y1 y2 y3) p = λ i. Declaration.Region (coded_ℕ.inj x1 y1 (ap (λ g. head (tail g)) p) i) (coded_region_name.inj x2 y2 (ap (λ g. head (tail (tail g))) p) i) (coded_name.inj x3 y3 (ap (λ g. tail (tail (tail g))) p) i)
-declaration_inj (Declaration.Open x1 x2 x3 x4) (Declaration.Open y1 y2 y3 y4) p = λ i. Declaration.Open (coded_ℕ.inj x1 y1 (ap (λ g. head (tail g)) p) i) (coded_region_name.inj x2 y2 (ap (λ g. head (tail (tail g))) p) i) (coded_name.inj x3 y3 (ap (λ g. head (tail (tail (tail g)))) p) i) (coded_name.inj x4 y4 (ap (λ g. tail (tail (tail (tail g)))) p) i)
-declaration_inj (Declaration.Alias x1 x2 x3 x4 x5) (Declaration.Alias y1 y2 y3 y4 y5) p = λ i. Declaration.Alias (coded_ℕ.inj x1 y1 (ap (λ g. head (tail g)) p) i) (coded_region_name.inj x2 y2 (ap (λ g. head (tail (tail g))) p) i) (coded_type_name.inj x3 y3 (ap (λ g. head (tail (tail (tail g)))) p) i) (coded_name.inj x4 y4 (ap (λ g. head (tail (tail (tail (tail g))))) p) i) (coded_name.inj x5 y5 (ap (λ g. tail (tail (tail (tail (tail g))))) p) i)
-declaration_inj (Declaration.NewKey x1 x2 x3) (Declaration.NewKey y1 y2 y3) p = λ i. Declaration.NewKey (coded_ℕ.inj x1 y1 (ap (λ g. head (tail g)) p) i) (coded_region_name.inj x2 y2 (ap (λ g. head (tail (tail g))) p) i) (coded_name.inj x3 y3 (ap (λ g. tail (tail (tail g))) p) i)
+declaration_inj (Declaration.Local x1 x2 x3) (Declaration.Local y1 y2 y3) p = λ i. Declaration.Local (coded_type_name.inj x1 y1 (ap (λ g. head (tail g)) p) i)
+    (coded_name.inj x2 y2 (ap (λ g. head (tail (tail g))) p) i) (coded_initializer.inj x3 y3 (ap (λ g. tail (tail (tail g))) p) i)
+declaration_inj (Declaration.Region x1 x2 x3) (Declaration.Region y1 y2 y3) p = λ i. Declaration.Region (coded_ℕ.inj x1 y1 (ap (λ g. head (tail g)) p) i)
+    (coded_region_name.inj x2 y2 (ap (λ g. head (tail (tail g))) p) i) (coded_name.inj x3 y3 (ap (λ g. tail (tail (tail g))) p) i)
+declaration_inj (Declaration.Open x1 x2 x3 x4) (Declaration.Open y1 y2 y3 y4) p = λ i. Declaration.Open (coded_ℕ.inj x1 y1 (ap (λ g. head (tail g)) p) i)
+    (coded_region_name.inj x2 y2 (ap (λ g. head (tail (tail g))) p) i) (coded_name.inj x3 y3 (ap (λ g. head (tail (tail (tail g)))) p) i)
+    (coded_name.inj x4 y4 (ap (λ g. tail (tail (tail (tail g)))) p) i)
+declaration_inj (Declaration.Alias x1 x2 x3 x4 x5) (Declaration.Alias y1 y2 y3 y4 y5) p = λ i.
+    Declaration.Alias (coded_ℕ.inj x1 y1 (ap (λ g. head (tail g)) p) i) (coded_region_name.inj x2 y2 (ap (λ g. head (tail (tail g))) p) i)
+    (coded_type_name.inj x3 y3 (ap (λ g. head (tail (tail (tail g)))) p) i) (coded_name.inj x4 y4 (ap (λ g. head (tail (tail (tail (tail g))))) p) i)
+    (coded_name.inj x5 y5 (ap (λ g. tail (tail (tail (tail (tail g))))) p) i)
+declaration_inj (Declaration.NewKey x1 x2 x3) (Declaration.NewKey y1 y2 y3) p = λ i. Declaration.NewKey (coded_ℕ.inj x1 y1 (ap (λ g. head (tail g)) p) i)
+    (coded_region_name.inj x2 y2 (ap (λ g. head (tail (tail g))) p) i) (coded_name.inj x3 y3 (ap (λ g. tail (tail (tail g))) p) i)
 declaration_inj x y p = apart (declaration_code x) (declaration_code y) p refl
 
 abbrev pub coded_declaration : Coded Declaration
@@ -144,7 +178,8 @@ pattern_code (Pattern.Case x1 x2) = gcons (gnum 0) (gcons (coded_name.code x1) (
 pattern_code Pattern.Default = gcons (gnum 1) gnil
 
 pub pattern_inj : (x y : Pattern) → pattern_code x ≡ pattern_code y → x ≡ y
-pattern_inj (Pattern.Case x1 x2) (Pattern.Case y1 y2) p = λ i. Pattern.Case (coded_name.inj x1 y1 (ap (λ g. head (tail g)) p) i) (coded_name.inj x2 y2 (ap (λ g. tail (tail g)) p) i)
+pattern_inj (Pattern.Case x1 x2) (Pattern.Case y1 y2) p = λ i. Pattern.Case (coded_name.inj x1 y1 (ap (λ g. head (tail g)) p) i)
+    (coded_name.inj x2 y2 (ap (λ g. tail (tail g)) p) i)
 pattern_inj Pattern.Default Pattern.Default p = refl
 pattern_inj x y p = apart (pattern_code x) (pattern_code y) p refl
 
@@ -158,7 +193,8 @@ abbrev mutual
   statement_code (Statement.Run x1) = gcons (gnum 2) (coded_expression.code x1)
   statement_code (Statement.Exchange x1 x2) = gcons (gnum 3) (gcons (coded_expression.code x1) (coded_expression.code x2))
   statement_code (Statement.If x1 x2 x3) = gcons (gnum 4) (gcons (coded_ℕ.code x1) (gcons (coded_expression.code x2) (statement_code x3)))
-  statement_code (Statement.IfElse x1 x2 x3 x4) = gcons (gnum 5) (gcons (coded_ℕ.code x1) (gcons (coded_expression.code x2) (gcons (statement_code x3) (statement_code x4))))
+  statement_code (Statement.IfElse x1 x2 x3 x4) =
+      gcons (gnum 5) (gcons (coded_ℕ.code x1) (gcons (coded_expression.code x2) (gcons (statement_code x3) (statement_code x4))))
   statement_code (Statement.While x1 x2 x3) = gcons (gnum 6) (gcons (coded_ℕ.code x1) (gcons (coded_expression.code x2) (statement_code x3)))
   statement_code (Statement.Switch x1 x2 x3) = gcons (gnum 7) (gcons (coded_ℕ.code x1) (gcons (coded_expression.code x2) (clauses_code x3)))
   statement_code (Statement.Break x1) = gcons (gnum 8) (coded_ℕ.code x1)
@@ -174,34 +210,49 @@ abbrev mutual
 
   pub clauses_code : Clauses → Gv
   clauses_code Clauses.NoClauses = gcons (gnum 0) gnil
-  clauses_code (Clauses.MoreClauses x1 x2 x3 x4) = gcons (gnum 1) (gcons (coded_ℕ.code x1) (gcons (coded_pattern.code x2) (gcons (block_items_code x3) (clauses_code x4))))
+  clauses_code (Clauses.MoreClauses x1 x2 x3 x4) =
+      gcons (gnum 1) (gcons (coded_ℕ.code x1) (gcons (coded_pattern.code x2) (gcons (block_items_code x3) (clauses_code x4))))
 
 mutual
   pub statement_inj : (x y : Statement) → statement_code x ≡ statement_code y → x ≡ y
   statement_inj (Statement.Empty x1) (Statement.Empty y1) p = λ i. Statement.Empty (coded_ℕ.inj x1 y1 (ap (λ g. tail g) p) i)
-  statement_inj (Statement.Block x1 x2) (Statement.Block y1 y2) p = λ i. Statement.Block (coded_ℕ.inj x1 y1 (ap (λ g. head (tail g)) p) i) (block_items_inj x2 y2 (ap (λ g. tail (tail g)) p) i)
+  statement_inj (Statement.Block x1 x2) (Statement.Block y1 y2) p = λ i. Statement.Block (coded_ℕ.inj x1 y1 (ap (λ g. head (tail g)) p) i)
+      (block_items_inj x2 y2 (ap (λ g. tail (tail g)) p) i)
   statement_inj (Statement.Run x1) (Statement.Run y1) p = λ i. Statement.Run (coded_expression.inj x1 y1 (ap (λ g. tail g) p) i)
-  statement_inj (Statement.Exchange x1 x2) (Statement.Exchange y1 y2) p = λ i. Statement.Exchange (coded_expression.inj x1 y1 (ap (λ g. head (tail g)) p) i) (coded_expression.inj x2 y2 (ap (λ g. tail (tail g)) p) i)
-  statement_inj (Statement.If x1 x2 x3) (Statement.If y1 y2 y3) p = λ i. Statement.If (coded_ℕ.inj x1 y1 (ap (λ g. head (tail g)) p) i) (coded_expression.inj x2 y2 (ap (λ g. head (tail (tail g))) p) i) (statement_inj x3 y3 (ap (λ g. tail (tail (tail g))) p) i)
-  statement_inj (Statement.IfElse x1 x2 x3 x4) (Statement.IfElse y1 y2 y3 y4) p = λ i. Statement.IfElse (coded_ℕ.inj x1 y1 (ap (λ g. head (tail g)) p) i) (coded_expression.inj x2 y2 (ap (λ g. head (tail (tail g))) p) i) (statement_inj x3 y3 (ap (λ g. head (tail (tail (tail g)))) p) i) (statement_inj x4 y4 (ap (λ g. tail (tail (tail (tail g)))) p) i)
-  statement_inj (Statement.While x1 x2 x3) (Statement.While y1 y2 y3) p = λ i. Statement.While (coded_ℕ.inj x1 y1 (ap (λ g. head (tail g)) p) i) (coded_expression.inj x2 y2 (ap (λ g. head (tail (tail g))) p) i) (statement_inj x3 y3 (ap (λ g. tail (tail (tail g))) p) i)
-  statement_inj (Statement.Switch x1 x2 x3) (Statement.Switch y1 y2 y3) p = λ i. Statement.Switch (coded_ℕ.inj x1 y1 (ap (λ g. head (tail g)) p) i) (coded_expression.inj x2 y2 (ap (λ g. head (tail (tail g))) p) i) (clauses_inj x3 y3 (ap (λ g. tail (tail (tail g))) p) i)
+  statement_inj (Statement.Exchange x1 x2) (Statement.Exchange y1 y2) p = λ i. Statement.Exchange (coded_expression.inj x1 y1 (ap (λ g. head (tail g)) p) i)
+      (coded_expression.inj x2 y2 (ap (λ g. tail (tail g)) p) i)
+  statement_inj (Statement.If x1 x2 x3) (Statement.If y1 y2 y3) p = λ i. Statement.If (coded_ℕ.inj x1 y1 (ap (λ g. head (tail g)) p) i)
+      (coded_expression.inj x2 y2 (ap (λ g. head (tail (tail g))) p) i) (statement_inj x3 y3 (ap (λ g. tail (tail (tail g))) p) i)
+  statement_inj (Statement.IfElse x1 x2 x3 x4) (Statement.IfElse y1 y2 y3 y4) p = λ i. Statement.IfElse (coded_ℕ.inj x1 y1 (ap (λ g. head (tail g)) p) i)
+      (coded_expression.inj x2 y2 (ap (λ g. head (tail (tail g))) p) i) (statement_inj x3 y3 (ap (λ g. head (tail (tail (tail g)))) p) i)
+      (statement_inj x4 y4 (ap (λ g. tail (tail (tail (tail g)))) p) i)
+  statement_inj (Statement.While x1 x2 x3) (Statement.While y1 y2 y3) p = λ i. Statement.While (coded_ℕ.inj x1 y1 (ap (λ g. head (tail g)) p) i)
+      (coded_expression.inj x2 y2 (ap (λ g. head (tail (tail g))) p) i) (statement_inj x3 y3 (ap (λ g. tail (tail (tail g))) p) i)
+  statement_inj (Statement.Switch x1 x2 x3) (Statement.Switch y1 y2 y3) p = λ i. Statement.Switch (coded_ℕ.inj x1 y1 (ap (λ g. head (tail g)) p) i)
+      (coded_expression.inj x2 y2 (ap (λ g. head (tail (tail g))) p) i) (clauses_inj x3 y3 (ap (λ g. tail (tail (tail g))) p) i)
   statement_inj (Statement.Break x1) (Statement.Break y1) p = λ i. Statement.Break (coded_ℕ.inj x1 y1 (ap (λ g. tail g) p) i)
   statement_inj (Statement.Continue x1) (Statement.Continue y1) p = λ i. Statement.Continue (coded_ℕ.inj x1 y1 (ap (λ g. tail g) p) i)
-  statement_inj (Statement.Return x1 x2) (Statement.Return y1 y2) p = λ i. Statement.Return (coded_ℕ.inj x1 y1 (ap (λ g. head (tail g)) p) i) ((coded_option coded_expression).inj x2 y2 (ap (λ g. tail (tail g)) p) i)
-  statement_inj (Statement.FreeUnique x1 x2) (Statement.FreeUnique y1 y2) p = λ i. Statement.FreeUnique (coded_ℕ.inj x1 y1 (ap (λ g. head (tail g)) p) i) (coded_name.inj x2 y2 (ap (λ g. tail (tail g)) p) i)
-  statement_inj (Statement.FreeKey x1 x2) (Statement.FreeKey y1 y2) p = λ i. Statement.FreeKey (coded_ℕ.inj x1 y1 (ap (λ g. head (tail g)) p) i) (coded_name.inj x2 y2 (ap (λ g. tail (tail g)) p) i)
+  statement_inj (Statement.Return x1 x2) (Statement.Return y1 y2) p = λ i. Statement.Return (coded_ℕ.inj x1 y1 (ap (λ g. head (tail g)) p) i)
+      ((coded_option coded_expression).inj x2 y2 (ap (λ g. tail (tail g)) p) i)
+  statement_inj (Statement.FreeUnique x1 x2) (Statement.FreeUnique y1 y2) p = λ i. Statement.FreeUnique (coded_ℕ.inj x1 y1 (ap (λ g. head (tail g)) p) i)
+      (coded_name.inj x2 y2 (ap (λ g. tail (tail g)) p) i)
+  statement_inj (Statement.FreeKey x1 x2) (Statement.FreeKey y1 y2) p = λ i. Statement.FreeKey (coded_ℕ.inj x1 y1 (ap (λ g. head (tail g)) p) i)
+      (coded_name.inj x2 y2 (ap (λ g. tail (tail g)) p) i)
   statement_inj x y p = apart (statement_code x) (statement_code y) p refl
 
   pub block_items_inj : (x y : BlockItems) → block_items_code x ≡ block_items_code y → x ≡ y
   block_items_inj BlockItems.NoItems BlockItems.NoItems p = refl
-  block_items_inj (BlockItems.Declare x1 x2) (BlockItems.Declare y1 y2) p = λ i. BlockItems.Declare (coded_declaration.inj x1 y1 (ap (λ g. head (tail g)) p) i) (block_items_inj x2 y2 (ap (λ g. tail (tail g)) p) i)
-  block_items_inj (BlockItems.Execute x1 x2) (BlockItems.Execute y1 y2) p = λ i. BlockItems.Execute (statement_inj x1 y1 (ap (λ g. head (tail g)) p) i) (block_items_inj x2 y2 (ap (λ g. tail (tail g)) p) i)
+  block_items_inj (BlockItems.Declare x1 x2) (BlockItems.Declare y1 y2) p = λ i. BlockItems.Declare (coded_declaration.inj x1 y1 (ap (λ g. head (tail g)) p) i)
+      (block_items_inj x2 y2 (ap (λ g. tail (tail g)) p) i)
+  block_items_inj (BlockItems.Execute x1 x2) (BlockItems.Execute y1 y2) p = λ i. BlockItems.Execute (statement_inj x1 y1 (ap (λ g. head (tail g)) p) i)
+      (block_items_inj x2 y2 (ap (λ g. tail (tail g)) p) i)
   block_items_inj x y p = apart (block_items_code x) (block_items_code y) p refl
 
   pub clauses_inj : (x y : Clauses) → clauses_code x ≡ clauses_code y → x ≡ y
   clauses_inj Clauses.NoClauses Clauses.NoClauses p = refl
-  clauses_inj (Clauses.MoreClauses x1 x2 x3 x4) (Clauses.MoreClauses y1 y2 y3 y4) p = λ i. Clauses.MoreClauses (coded_ℕ.inj x1 y1 (ap (λ g. head (tail g)) p) i) (coded_pattern.inj x2 y2 (ap (λ g. head (tail (tail g))) p) i) (block_items_inj x3 y3 (ap (λ g. head (tail (tail (tail g)))) p) i) (clauses_inj x4 y4 (ap (λ g. tail (tail (tail (tail g)))) p) i)
+  clauses_inj (Clauses.MoreClauses x1 x2 x3 x4) (Clauses.MoreClauses y1 y2 y3 y4) p = λ i. Clauses.MoreClauses (coded_ℕ.inj x1 y1 (ap (λ g. head (tail g)) p) i)
+      (coded_pattern.inj x2 y2 (ap (λ g. head (tail (tail g))) p) i) (block_items_inj x3 y3 (ap (λ g. head (tail (tail (tail g)))) p) i)
+      (clauses_inj x4 y4 (ap (λ g. tail (tail (tail (tail g)))) p) i)
   clauses_inj x y p = apart (clauses_code x) (clauses_code y) p refl
 
 abbrev pub coded_statement : Coded Statement
@@ -220,7 +271,8 @@ coded_member =
 
 abbrev pub coded_structure : Coded Structure
 coded_structure =
-    code_by (ℕ × (Name × ((List RegionName) × (List Member)))) (coded× coded_ℕ (coded× coded_name (coded× (coded_list coded_region_name) (coded_list coded_member)))) (λ r. (r.at, (r.tag, (r.regions, r.members))))
+    code_by (ℕ × (Name × ((List RegionName) × (List Member))))
+    (coded× coded_ℕ (coded× coded_name (coded× (coded_list coded_region_name) (coded_list coded_member)))) (λ r. (r.at, (r.tag, (r.regions, r.members))))
     (λ p. record { at = p.0; tag = p.1.0; regions = p.1.1.0; members = p.1.1.1 }) (λ _. refl)
 
 abbrev pub constant_code : Constant → Gv
@@ -231,10 +283,14 @@ constant_code (Constant.Text x1 x2) = gcons (gnum 3) (gcons (coded_ℕ.code x1) 
 constant_code (Constant.Null x1) = gcons (gnum 4) (coded_ℕ.code x1)
 
 pub constant_inj : (x y : Constant) → constant_code x ≡ constant_code y → x ≡ y
-constant_inj (Constant.Number x1 x2 x3) (Constant.Number y1 y2 y3) p = λ i. Constant.Number (coded_ℕ.inj x1 y1 (ap (λ g. head (tail g)) p) i) (coded_ℕ.inj x2 y2 (ap (λ g. head (tail (tail g))) p) i) (coded_bool.inj x3 y3 (ap (λ g. tail (tail (tail g))) p) i)
-constant_inj (Constant.Negative x1 x2 x3) (Constant.Negative y1 y2 y3) p = λ i. Constant.Negative (coded_ℕ.inj x1 y1 (ap (λ g. head (tail g)) p) i) (coded_ℕ.inj x2 y2 (ap (λ g. head (tail (tail g))) p) i) (coded_bool.inj x3 y3 (ap (λ g. tail (tail (tail g))) p) i)
-constant_inj (Constant.Character x1 x2) (Constant.Character y1 y2) p = λ i. Constant.Character (coded_ℕ.inj x1 y1 (ap (λ g. head (tail g)) p) i) (coded_ℕ.inj x2 y2 (ap (λ g. tail (tail g)) p) i)
-constant_inj (Constant.Text x1 x2) (Constant.Text y1 y2) p = λ i. Constant.Text (coded_ℕ.inj x1 y1 (ap (λ g. head (tail g)) p) i) ((coded_list coded_ℕ).inj x2 y2 (ap (λ g. tail (tail g)) p) i)
+constant_inj (Constant.Number x1 x2 x3) (Constant.Number y1 y2 y3) p = λ i. Constant.Number (coded_ℕ.inj x1 y1 (ap (λ g. head (tail g)) p) i)
+    (coded_ℕ.inj x2 y2 (ap (λ g. head (tail (tail g))) p) i) (coded_bool.inj x3 y3 (ap (λ g. tail (tail (tail g))) p) i)
+constant_inj (Constant.Negative x1 x2 x3) (Constant.Negative y1 y2 y3) p = λ i. Constant.Negative (coded_ℕ.inj x1 y1 (ap (λ g. head (tail g)) p) i)
+    (coded_ℕ.inj x2 y2 (ap (λ g. head (tail (tail g))) p) i) (coded_bool.inj x3 y3 (ap (λ g. tail (tail (tail g))) p) i)
+constant_inj (Constant.Character x1 x2) (Constant.Character y1 y2) p = λ i. Constant.Character (coded_ℕ.inj x1 y1 (ap (λ g. head (tail g)) p) i)
+    (coded_ℕ.inj x2 y2 (ap (λ g. tail (tail g)) p) i)
+constant_inj (Constant.Text x1 x2) (Constant.Text y1 y2) p = λ i. Constant.Text (coded_ℕ.inj x1 y1 (ap (λ g. head (tail g)) p) i)
+    ((coded_list coded_ℕ).inj x2 y2 (ap (λ g. tail (tail g)) p) i)
 constant_inj (Constant.Null x1) (Constant.Null y1) p = λ i. Constant.Null (coded_ℕ.inj x1 y1 (ap (λ g. tail g) p) i)
 constant_inj x y p = apart (constant_code x) (constant_code y) p refl
 
@@ -267,8 +323,20 @@ coded_bound =
 
 abbrev pub coded_function : Coded Function
 coded_function =
-    code_by (TypeName × (Name × ((List Member) × ((Option (List RegionName)) × ((List Bound) × (BlockItems × ℕ)))))) (coded× coded_type_name (coded× coded_name (coded× (coded_list coded_member) (coded× (coded_option (coded_list coded_region_name)) (coded× (coded_list coded_bound) (coded× coded_block_items coded_ℕ)))))) (λ r. (r.result, (r.name, (r.parameters, (r.effect, (r.bounds, (r.body, r.end)))))))
-    (λ p. record { result = p.0; name = p.1.0; parameters = p.1.1.0; effect = p.1.1.1.0; bounds = p.1.1.1.1.0; body = p.1.1.1.1.1.0; end = p.1.1.1.1.1.1 }) (λ _. refl)
+    code_by (TypeName × (Name × ((List Member) × ((Option (List RegionName)) × ((List Bound) × (BlockItems × ℕ))))))
+    (coded× coded_type_name (coded× coded_name
+    (coded× (coded_list coded_member)
+    (coded× (coded_option (coded_list coded_region_name)) (coded× (coded_list coded_bound) (coded× coded_block_items coded_ℕ))))))
+    (λ r. (r.result, (r.name, (r.parameters, (r.effect, (r.bounds, (r.body, r.end)))))))
+    (λ p. record {
+      result = p.0;
+      name = p.1.0;
+      parameters = p.1.1.0;
+      effect = p.1.1.1.0;
+      bounds = p.1.1.1.1.0;
+      body = p.1.1.1.1.1.0;
+      end = p.1.1.1.1.1.1;
+    }) (λ _. refl)
 
 abbrev pub item_code : Item → Gv
 item_code (Item.StructItem x1) = gcons (gnum 0) (coded_structure.code x1)

@@ -1,12 +1,13 @@
--- How a pure tree is told apart from others: a map of each of its types to numbers and pairs, one to one. The toolchain asks for it where a
--- value that contracts see is a tree; no contract speaks of it. Each form is its number, and then its parts.
+-- View of code: how a pure tree is told apart from others: a map of each of its types to numbers and pairs, one to one. The toolchain asks for it where a value
+-- that contracts see is a tree; no contract speaks of it. Each form is its number, and then its parts.
 use Rattle.std.specs.Prelude.{◌≡◌, ℕ, false, List, Option, nat_eq, refl}
 use Rattle.std.proofs.Common.{ap, subst, sym}
 use Rattle.std.proofs.Math.Dec.{eqb_refl, T}
 use base.Stored.{Gv, gnil, gnum, gcons, num}
 use Rattle.std.specs.Coded.{Coded, code_by, coded×, coded_ℕ, coded_list, coded_option}
 use Rattle.cyc_tree.specs.declared.expression.Operator.{Operator}
-use Rattle.cyc_tree.specs.declared.expression.Operator.TheVariants.{BitOr, BitXor, BitAnd, Equal, NotEqual, Less, LessEqual, Greater, GreaterEqual, ShiftLeft, ShiftRight, Add, Subtract, Multiply, Divide, Remainder}
+use Rattle.cyc_tree.specs.declared.expression.Operator.TheVariants.{BitOr, BitXor, BitAnd, Equal, NotEqual, Less, LessEqual, Greater, GreaterEqual, ShiftLeft}
+use Rattle.cyc_tree.specs.declared.expression.Operator.TheVariants.{ShiftRight, Add, Subtract, Multiply, Divide, Remainder}
 use Rattle.cyc_tree.specs.declared.expression.Prefix.{Prefix}
 use Rattle.cyc_tree.specs.declared.expression.Prefix.TheVariants.{Negate, Not, Complement, Dereference, AddressOf}
 use Rattle.cyc_tree.specs.declared.name.Sign.{Sign}
@@ -135,8 +136,10 @@ base_inj Base.Int Base.Int p = refl
 base_inj Base.Unsigned Base.Unsigned p = refl
 base_inj Base.Char Base.Char p = refl
 base_inj Base.Void Base.Void p = refl
-base_inj (Base.Struct x1 x2) (Base.Struct y1 y2) p = λ i. Base.Struct (coded_name.inj x1 y1 (ap (λ g. head (tail g)) p) i) ((coded_list coded_region_name).inj x2 y2 (ap (λ g. tail (tail g)) p) i)
-base_inj (Base.Union x1 x2) (Base.Union y1 y2) p = λ i. Base.Union (coded_name.inj x1 y1 (ap (λ g. head (tail g)) p) i) ((coded_list coded_region_name).inj x2 y2 (ap (λ g. tail (tail g)) p) i)
+base_inj (Base.Struct x1 x2) (Base.Struct y1 y2) p = λ i. Base.Struct (coded_name.inj x1 y1 (ap (λ g. head (tail g)) p) i)
+    ((coded_list coded_region_name).inj x2 y2 (ap (λ g. tail (tail g)) p) i)
+base_inj (Base.Union x1 x2) (Base.Union y1 y2) p = λ i. Base.Union (coded_name.inj x1 y1 (ap (λ g. head (tail g)) p) i)
+    ((coded_list coded_region_name).inj x2 y2 (ap (λ g. tail (tail g)) p) i)
 base_inj (Base.Handle x1) (Base.Handle y1) p = λ i. Base.Handle (coded_region_name.inj x1 y1 (ap (λ g. tail g) p) i)
 base_inj (Base.Key x1) (Base.Key y1) p = λ i. Base.Key (coded_region_name.inj x1 y1 (ap (λ g. tail g) p) i)
 base_inj x y p = apart (base_code x) (base_code y) p refl

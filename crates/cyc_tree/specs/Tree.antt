@@ -1,5 +1,5 @@
--- The syntax tree of a text: what all definitions of the language speak of.
--- A number `at` is a place: the offset in the text of the first byte of the form's first token.
+-- Believed: the syntax tree of a text: what all definitions of the language speak of. A number `at` is a place: the offset in the text of the first byte of the
+-- form's first token.
 use Rattle.std.specs.Prelude.{ℕ, Bool, List, Option}
 use Rattle.cyc_tree.specs.declared.expression.Operator.{Operator}
 use Rattle.cyc_tree.specs.declared.expression.Prefix.{Prefix}

@@ -1,4 +1,4 @@
--- The pure tree that a tree of the code stands for.
+-- View of code: the pure tree that a tree of the code stands for.
 use Rattle.std.specs.Prelude.{ℕ, List, [], ◌∷◌, map, Option, option_map}
 use Rattle.smallvec.specs.SmallVec.{SmallVec}
 use Rattle.cyc_tree.specs.declared.name.Name as code_name
@@ -38,7 +38,8 @@ use Rattle.cyc_tree.specs.declared.item.Function as code_function
 use Rattle.cyc_tree.specs.declared.item.Item as code_program_item
 use Rattle.cyc_tree.specs.declared.item.Item.TheVariants as program_item
 use Rattle.cyc_tree.specs.Tree as tree
-use Rattle.cyc_tree.specs.Tree.{Expression, Expressions, NoExpressions, MoreExpressions, Links, NoLinks, MoreLinks, Suffixes, NoSuffixes, Made, Statement, BlockItems, NoItems, Clauses, NoClauses, MoreClauses}
+use Rattle.cyc_tree.specs.Tree.{Expression, Expressions, NoExpressions, MoreExpressions, Links, NoLinks, MoreLinks, Suffixes, NoSuffixes, Made, Statement}
+use Rattle.cyc_tree.specs.Tree.{BlockItems, NoItems, Clauses, NoClauses, MoreClauses}
 
 -- ---- names and types
 

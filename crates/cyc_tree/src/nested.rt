@@ -1,8 +1,10 @@
 // How deep the phrases of a program nest.
 
 ghost use Rattle.std.specs.Prelude.{◌≡◌, ◌-◌, ◌^◌, min, map};
-ghost use Rattle.cyc_tree.specs.View.{expression_tree, expressions_of, link_tree, links_of, suffix_tree, suffixes_of, made_tree, initializer_tree, declaration_tree, statement_tree, item_tree, items_of, clause_tree, clauses_of, program_item_tree};
-ghost use Rattle.cyc_tree.specs.Depths.{inner_starts, expression_starts, argument_starts, operand_starts, link_starts, suffix_starts, made_starts, declaration_starts, statement_starts, items_starts, clauses_starts, item_starts, greatest_depth, nesting};
+ghost use Rattle.cyc_tree.specs.View.{expression_tree, expressions_of, link_tree, links_of, suffix_tree, suffixes_of, made_tree, initializer_tree};
+ghost use Rattle.cyc_tree.specs.View.{declaration_tree, statement_tree, item_tree, items_of, clause_tree, clauses_of, program_item_tree};
+ghost use Rattle.cyc_tree.specs.Depths.{inner_starts, expression_starts, argument_starts, operand_starts, link_starts, suffix_starts, made_starts};
+ghost use Rattle.cyc_tree.specs.Depths.{declaration_starts, statement_starts, items_starts, clauses_starts, item_starts, greatest_depth, nesting};
 
 use crate::expression::{Expression, Link, Made, Suffix};
 use crate::item::{Item, Program};

@@ -2,7 +2,8 @@
 use Rattle.std.proofs.Common.{◌≡◌, ℕ, ◌<◌, List, [], ◌∷◌, ◌++◌, Some, None, refl, ap, inl, inr}
 use Rattle.std.specs.List.{Contains}
 use Rattle.std.proofs.lemmas.List.Elements.{Contains-push_cases}
-use Rattle.cyc_words.specs.Events.{AreBytes, Event, ByteRead, ByteWritten, RegionNew, RegionAlloc, RegionFree, UniqueAlloc, UniqueFree, KeyNew, KeyOpen, KeyClose, KeyFree, output, bytes_read, SourceEvent, Visible, Called, Returned, visible}
+use Rattle.cyc_words.specs.Events.{AreBytes, Event, ByteRead, ByteWritten, RegionNew, RegionAlloc, RegionFree, UniqueAlloc, UniqueFree, KeyNew, KeyOpen}
+use Rattle.cyc_words.specs.Events.{KeyClose, KeyFree, output, bytes_read, SourceEvent, Visible, Called, Returned, visible}
 
 -- the visible ones of a source's events, and then more
 pub visible_append : (first more : List SourceEvent) → visible (first ++ more) ≡ visible first ++ visible more

@@ -1,4 +1,4 @@
--- What a clause reads of a `Counted`.
+-- View of code: what a clause reads of a `Counted`.
 use Rattle.std.specs.Prelude.{ℕ}
 use Rattle.cyc_words.specs.declared.devices.Counted.{Counted}
 

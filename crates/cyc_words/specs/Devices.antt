@@ -1,4 +1,4 @@
--- Readers and writers whose failed calls are counted.
+-- Believed: readers and writers whose failed calls are counted.
 use Rattle.std.specs.Prelude.{ℕ, ◌+◌, ◌-◌, ◌^◌, List, length, nat_lt, nat_eq, if◌then◌else◌, Result, Ok, Err, ◌&&◌}
 
 -- a count of failed calls after one more: it stays at the greatest u64

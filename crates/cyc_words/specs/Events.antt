@@ -1,4 +1,4 @@
--- What a run of a source, or of an image, shows to the world, and how it ends. Both meanings speak of these.
+-- Believed: what a run of a source, or of an image, shows to the world, and how it ends. Both meanings speak of these.
 use Rattle.std.specs.Prelude.{ℕ, ◌<◌, List, [], ◌∷◌, Option, Some, None}
 use Rattle.cyc_words.specs.declared.faults.Kind.{Kind}
 use Rattle.cyc_words.specs.declared.faults.MachineFault.{MachineFault}

@@ -1,4 +1,4 @@
--- The names of what stops a run early.
+-- View of code: the names of what stops a run early.
 use Rattle.std.specs.Prelude.{ℕ, List, codes}
 use Rattle.cyc_words.specs.declared.faults.Kind.{Kind}
 use Rattle.cyc_words.specs.declared.faults.Kind.TheVariants.{NullException, ArrayBounds}

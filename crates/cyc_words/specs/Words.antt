@@ -1,6 +1,5 @@
--- Words of 32 bits, as whole numbers modulo 2^32, and what the operations on them give.
--- The rules are those of the RISC-V Unprivileged ISA 20191213, "Integer Computational Instructions" and "Multiplication and Division Operations",
--- which the source language shares.
+-- Believed: words of 32 bits, as whole numbers modulo 2^32, and what the operations on them give. The rules are those of the RISC-V Unprivileged ISA 20191213,
+-- "Integer Computational Instructions" and "Multiplication and Division Operations", which the source language shares.
 use Rattle.std.specs.Prelude.{ℕ, ℤ, ◌+◌, ◌-◌, ◌*◌, ◌/◌, ◌%◌, ◌^◌, ◌*ℤ◌, pos, negsuc, nat_lt, nat_eq, if◌then◌else◌}
 use Rattle.std.specs.Int.RustNames.{int_div, int_rem}
 

@@ -1,7 +1,8 @@
 // Arithmetic on words.
 
 ghost use Rattle.std.specs.Prelude.{◌≡◌, IsTrue, ◌↔◌, ◌<ℤ◌, ◌<◌};
-ghost use Rattle.cyc_words.specs.Words.{signed, sum_of, difference_of, product_of, upper_signed, upper_mixed, upper_unsigned, quotient, unsigned_quotient, remainder, unsigned_remainder, shifted_left, shifted_right, shifted_right_signed};
+ghost use Rattle.cyc_words.specs.Words.{signed, sum_of, difference_of, product_of, upper_signed, upper_mixed, upper_unsigned, quotient, unsigned_quotient};
+ghost use Rattle.cyc_words.specs.Words.{remainder, unsigned_remainder, shifted_left, shifted_right, shifted_right_signed};
 
 /// The sum of two words, modulo 2^32 (ADD).
 pub fn add32(a: u32, b: u32) -> u32

@@ -64,7 +64,8 @@ not_refused status ending.ReadFault shown = λ eight. omega arith
 not_refused status ending.WriteFault shown = λ eight. omega arith
 not_refused status ending.HostMemory shown = λ eight. omega arith
 
-pub if_refused : {E : Type 0} (A : Type 0) (result : Result ℕ E) (why : Ending) → IfOk result (λ status. status ≡ status_of why) → IfOk result (λ status. status ≡ 8 → A)
+pub if_refused : {E : Type 0} (A : Type 0) (result : Result ℕ E) (why : Ending) → IfOk result (λ status. status ≡ status_of why)
+    → IfOk result (λ status. status ≡ 8 → A)
 if_refused A result why shown = IfOk-weaker result _ _ (λ status s eight. absurd (not_refused status why s eight)) shown
 
 module _ {E : Type 0} (result : Result ℕ E) (r_old r_new w_old w_new : ℕ) where

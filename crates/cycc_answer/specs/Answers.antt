@@ -1,4 +1,4 @@
--- What the status and the image of an answer say.
+-- Believed: what the status and the image of an answer say.
 use Rattle.std.specs.Prelude.{◌≡◌, ◌≢◌, ◌⊎◌, ℕ, List, Option, Some, None, codes}
 use Rattle.std.specs.Io.KnownBytes.{Appends}
 use Rattle.cyc_image.specs.declared.fault.ImageFault.{ImageFault}

@@ -1,4 +1,4 @@
--- What an exit status says of the calls of the two devices.
+-- Believed: what an exit status says of the calls of the two devices.
 use Rattle.std.specs.Prelude.{◌≡◌, ◌≢◌, ◌⊎◌, ℕ, Bool, true, false}
 use Rattle.cyc_words.specs.Devices.{one_more}
 use Rattle.command_line.specs.declared.command.Command.{Command}

@@ -1,4 +1,4 @@
--- The exit status of each ending and of each refusal.
+-- Believed: the exit status of each ending and of each refusal.
 use Rattle.std.specs.Prelude.{◌≡◌, ◌≢◌, ◌⊎◌, ℕ, ℤ, pos, negsuc, zero, suc, Option, Some, None}
 use Rattle.cycc_driver.specs.declared.fault.CompileFault.{CompileFault}
 use Rattle.cycc_driver.specs.declared.fault.Place.{Place}

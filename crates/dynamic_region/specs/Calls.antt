@@ -1,4 +1,4 @@
--- What the calls on keys say, in the words of the laws of every store.
+-- Believed: what the calls on keys say, in the words of the laws of every store.
 use Rattle.std.specs.Prelude.{ℕ, Result, Ok, Err}
 use Rattle.arena_laws.specs.declared.refusal.StoreRefusal.{StoreRefusal}
 use Rattle.arena_laws.specs.declared.refusal.StoreRefusal.TheVariants as store

@@ -1,4 +1,4 @@
--- What is held where some regions are keys'.
+-- Believed: what is held where some regions are keys'.
 use Rattle.std.specs.Prelude.{◌≡◌, Option, Some, None, ℕ, Bool, true, false, nat_eq, if◌then◌else◌}
 use Rattle.arena_laws.specs.declared.standing.Standing.{Standing}
 use Rattle.arena_laws.specs.declared.standing.Standing.TheVariants.{Lexical, Opened, Closed}

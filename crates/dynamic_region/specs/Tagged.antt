@@ -1,4 +1,4 @@
--- A pool's live regions are those with a tag.
+-- View of code: a pool's live regions are those with a tag.
 use Rattle.std.specs.Prelude.{◌≡◌, Some, None, ℕ, Bool, true, false, refl, if◌then◌else◌}
 use Rattle.arena_laws.specs.declared.standing.Standing.TheVariants.{Lexical}
 use Rattle.region_runtime.specs.Headers.{word_in, owner_of, tag_in, is_live_number}

@@ -1,4 +1,4 @@
--- What a frame says of the bytes in which it stands.
+-- View of code: what a frame says of the bytes in which it stands.
 use Rattle.std.specs.Prelude.{ℕ, ◌+◌, ◌^◌, ◌<◌, ◌≤◌, List, length}
 use Rattle.editor_protocol.specs.declared.frames.Frame.{Frame}
 use Rattle.editor_protocol.specs.declared.frames.Frame.TheVariants.{Partial, Whole, TooLong, Broken}

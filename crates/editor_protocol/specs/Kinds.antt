@@ -1,4 +1,4 @@
--- What a message is: a request with its id, a notification, or neither.
+-- Believed: what a message is: a request with its id, a notification, or neither.
 use Rattle.std.specs.Prelude.{◌≡◌, ◌⊎◌, ℕ, List, Option, Some, None, option_and_then, codes, Bool, true, false, if◌then◌else◌, IsUtf8, string_bytes}
 use Rattle.serde_json.specs.Data.{Data, null, boolean, number, string, array, object}
 use Rattle.serde_json.specs.Find.{get, as_str}

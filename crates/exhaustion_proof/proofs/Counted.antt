@@ -47,7 +47,8 @@ module _ (names : Names) (b : ByBirth) (s : Holdings) (are : AreCounted names b 
 
   counted_on : AreCounted (named q b r names) (said q b (is_refused_full r)) after
   counted_on = λ qs run goes.
-      let e : is_refused_full r ∷ refused_in run ≡ is_refused q b.counts ∷ refusals qs (said q b (is_refused q b.counts)) = are (q ∷ qs) (Call r after run) (is, goes) in
+      let e : is_refused_full r ∷ refused_in run ≡ is_refused q b.counts ∷ refusals qs (said q b (is_refused q b.counts)) =
+      are (q ∷ qs) (Call r after run) (is, goes) in
       subst (λ t. refused_in run ≡ refusals qs (said q b t)) (sym answer_same) (ap behind e)
 
 -- ---- the request that a call is
@@ -119,9 +120,13 @@ module _ (names : Names) (b : ByBirth) (s : Holdings) (l : Ledger) (stands : Sta
   region_goes : (a : Answer) (n : ℕ) → (makes Lexical a s).says ≡ Ok n → is_full s.counts ≡ false → GoesOn b l RegionNew n (makes Lexical a s).after
   region_goes a n says short =
       let w = was_made Lexical a s n says in
-      let are = born_named names s l stands.are_named Lexical n (entered RegionNew n l) w.new (plus_one l.births) (ap (λ k. put n k l.birth_of) (plus_one l.births)) refl in
+      let are = born_named names s l stands.are_named Lexical n (entered RegionNew n l) w.new (plus_one l.births)
+      (ap (λ k. put n k l.birth_of) (plus_one l.births)) refl in
       goes RegionNew n (makes Lexical a s).after
-      (record { answers = record { law = granted_exactly (λ x. makes Lexical x s) (is_full s.counts) s a n short w.same says; full = sym short }; in_order = refl })
+      (record {
+        answers = record { law = granted_exactly (λ x. makes Lexical x s) (is_full s.counts) s a n short w.same says; full = sym short };
+        in_order = refl;
+      })
       (ap suc stands.births ∙ sym (plus_one l.births))
       (by_births n (makes Lexical a s).after (entered RegionNew n l)
       (subst (λ h. AreNamed (record names { number = put (suc l.births) (Some n) names.number }) h (entered RegionNew n l)) (sym w.after) are))
@@ -129,9 +134,13 @@ module _ (names : Names) (b : ByBirth) (s : Holdings) (l : Ledger) (stands : Sta
   key_goes : (a : Answer) (n : ℕ) → (makes Closed a s).says ≡ Ok n → is_full s.counts ≡ false → GoesOn b l KeyNew n (makes Closed a s).after
   key_goes a n says short =
       let w = was_made Closed a s n says in
-      let are = born_named names s l stands.are_named Closed n (entered KeyNew n l) w.new (plus_one l.births) (ap (λ k. put n k l.birth_of) (plus_one l.births)) refl in
+      let are = born_named names s l stands.are_named Closed n (entered KeyNew n l) w.new (plus_one l.births)
+      (ap (λ k. put n k l.birth_of) (plus_one l.births)) refl in
       goes KeyNew n (makes Closed a s).after
-      (record { answers = record { law = granted_exactly (λ x. makes Closed x s) (is_full s.counts) s a n short w.same says; full = sym short }; in_order = refl })
+      (record {
+        answers = record { law = granted_exactly (λ x. makes Closed x s) (is_full s.counts) s a n short w.same says; full = sym short };
+        in_order = refl;
+      })
       (ap suc stands.births ∙ sym (plus_one l.births))
       (by_births n (makes Closed a s).after (entered KeyNew n l)
       (subst (λ h. AreNamed (record names { number = put (suc l.births) (Some n) names.number }) h (entered KeyNew n l)) (sym w.after) are))
@@ -174,11 +183,15 @@ module _ (names : Names) (b : ByBirth) (s : Holdings) (l : Ledger) (stands : Sta
       (ap (λ k. put n k l.alone_birth) (plus_one l.births)) in
       goes (UniqueAlloc bytes) n (lawful.unique_alloc bytes a s).after
       (record {
-        answers = record { law = granted_exactly (λ x. lawful.unique_alloc bytes x s) (is_full_for_slot bytes s.counts) s a n short w.same says; full = sym short };
+        answers = record {
+          law = granted_exactly (λ x. lawful.unique_alloc bytes x s) (is_full_for_slot bytes s.counts) s a n short w.same says;
+          full = sym short;
+        };
         in_order = refl;
       })
       (ap suc stands.births ∙ sym (plus_one l.births))
-      (subst (λ k. AreNamed (record names { address = put (suc k) (Some n) names.address }) (lawful.unique_alloc bytes a s).after (entered (UniqueAlloc bytes) n l))
+      (subst (λ k. AreNamed (record names { address = put (suc k) (Some n) names.address }) (lawful.unique_alloc bytes a s).after
+      (entered (UniqueAlloc bytes) n l))
       (sym stands.births)
       (subst (λ x. AreNamed (record names { address = put (suc l.births) (Some n) names.address }) x (entered (UniqueAlloc bytes) n l)) (sym w.after) are))
 
@@ -230,7 +243,8 @@ module _ (names : Names) (b : ByBirth) (s : Holdings) (l : Ledger) (stands : Sta
       (with_blocks (named (request (UniqueFree at) l) b (Ok n) names) (unique_free at s).after (entered (UniqueFree at) n l)
       (subst (λ x. AreNamed (record names { address = put (l.alone_birth at) None names.address }) x l) (sym w.after) are) refl refl refl)
 
-  pub goes_on : (asked : Asked) (a : Answer) (n : ℕ) → (lawfully asked a s).says ≡ Ok n → is_short asked s ≡ false → GoesOn b l asked n (lawfully asked a s).after
+  pub goes_on : (asked : Asked) (a : Answer) (n : ℕ) → (lawfully asked a s).says ≡ Ok n → is_short asked s ≡ false
+      → GoesOn b l asked n (lawfully asked a s).after
   goes_on RegionNew a n says short = region_goes a n says short
   goes_on (RegionAlloc h bytes) a n says short = block_goes h bytes a n says short
   goes_on (RegionFree h) a n says short = free_goes h n says
@@ -248,7 +262,10 @@ module _ (names : Names) (b : ByBirth) (s : Holdings) (l : Ledger) (stands : Sta
 
   pub is_refused_too : (asked : Asked) → is_short asked s ≡ true → is_refused (request asked l) b.counts ≡ true
   is_refused_too RegionNew short =
-      refused_as pages.NewRegion (record { answers = record { law = refused_exactly (makes Lexical Refuses s) (is_full s.counts) s short; full = sym short }; in_order = refl })
+      refused_as pages.NewRegion (record {
+        answers = record { law = refused_exactly (makes Lexical Refuses s) (is_full s.counts) s short; full = sym short };
+        in_order = refl;
+      })
   is_refused_too (RegionAlloc h bytes) short =
       let takes = and_left (takes_blocks h (s.standing h)) (is_full_for_block h bytes s.counts) short in
       refused_as (pages.BlockIn (l.birth_of h) bytes) (record {
@@ -265,7 +282,10 @@ module _ (names : Names) (b : ByBirth) (s : Holdings) (l : Ledger) (stands : Sta
         in_order = refl;
       })
   is_refused_too KeyNew short =
-      refused_as pages.NewKey (record { answers = record { law = refused_exactly (makes Closed Refuses s) (is_full s.counts) s short; full = sym short }; in_order = refl })
+      refused_as pages.NewKey (record {
+        answers = record { law = refused_exactly (makes Closed Refuses s) (is_full s.counts) s short; full = sym short };
+        in_order = refl;
+      })
   is_refused_too (RegionFree h) short = absurd cc
   is_refused_too (UniqueFree at) short = absurd cc
   is_refused_too (KeyOpen k) short = absurd cc

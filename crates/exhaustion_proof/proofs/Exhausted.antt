@@ -1,5 +1,6 @@
 -- Where a run is exhausted, by the events that are meant.
-use Rattle.std.proofs.Common.{◌≡◌, ℕ, ◌+◌, ◌-◌, ◌≤◌, ◌⊎◌, inl, inr, true, false, List, [], ◌∷◌, ◌++◌, Option, Some, None, refl, sym, ap, subst, ◌∙◌, arith, append_assoc}
+use Rattle.std.proofs.Common.{◌≡◌, ℕ, ◌+◌, ◌-◌, ◌≤◌, ◌⊎◌, inl, inr, true, false, List, [], ◌∷◌, ◌++◌, Option, Some, None, refl, sym, ap, subst, ◌∙◌, arith}
+use Rattle.std.proofs.Common.{append_assoc}
 use Rattle.cyc_words.specs.Events.{Event, SourceEvent, Visible, Called, Returned, visible, Request}
 use Rattle.arena_laws.specs.Counts.{block_limit}
 use Rattle.arena_laws.specs.Holdings.{fresh}

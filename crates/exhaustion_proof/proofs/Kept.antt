@@ -12,7 +12,8 @@ use Rattle.arena_laws.specs.Lawful.{is_lawful_room, frees_region, opens, closes,
 use Rattle.arena_laws.specs.Asked.{Asked, RegionNew, RegionAlloc, RegionFree, UniqueAlloc, UniqueFree, KeyNew, KeyOpen, KeyClose, KeyFree, lawfully}
 
 module _ (s : Holdings) (why : StoreRefusal) where
-  made_by : (b : Bool) (standing : Standing) (h : ℕ) → is_new_number s h ≡ b → (makes standing (Grants h) s).says ≡ Err why → (makes standing (Grants h) s).after ≡ s
+  made_by : (b : Bool) (standing : Standing) (h : ℕ) → is_new_number s h ≡ b → (makes standing (Grants h) s).says ≡ Err why
+      → (makes standing (Grants h) s).after ≡ s
   made_by true standing h e says = absurd (let z : Ok h ≡ Err why = rw e at says in cc)
   made_by false standing h e says = rw e refl
 
@@ -43,7 +44,8 @@ module _ (s : Holdings) (why : StoreRefusal) where
   alone_at true bytes at short e says = absurd (let z : Ok at ≡ Err why = rw (short, e) at says in cc)
   alone_at false bytes at short e says = rw (short, e) refl
 
-  alone_by : (long : Bool) (bytes : ℕ) (a : Answer) → is_too_long_alone bytes ≡ long → (unique_alloc bytes a s).says ≡ Err why → (unique_alloc bytes a s).after ≡ s
+  alone_by : (long : Bool) (bytes : ℕ) (a : Answer) → is_too_long_alone bytes ≡ long → (unique_alloc bytes a s).says ≡ Err why
+      → (unique_alloc bytes a s).after ≡ s
   alone_by true bytes a e says = rw e refl
   alone_by false bytes (Grants at) e says = alone_at (is_lawful_room s at (class_of bytes)) bytes at e refl says
   alone_by false bytes Refuses e says = rw e refl

@@ -101,7 +101,8 @@ module _ (names : Names) (s : Holdings) (l : Ledger) (are : AreNamed names s l) 
 
   -- ---- a region or a key ends
 
-  pub freed_named : (h : ℕ) (x : Standing) → s.standing h ≡ Some x → AreNamed (record names { number = put (l.birth_of h) None names.number }) (without_number h s) l
+  pub freed_named : (h : ℕ) (x : Standing) → s.standing h ≡ Some x
+      → AreNamed (record names { number = put (l.birth_of h) None names.number }) (without_number h s) l
   freed_named h x stood = record {
     heap = put_there (l.birth_of h) 0 None names.number not_zero ∙ are.heap;
     heap_birth = are.heap_birth;
@@ -178,7 +179,8 @@ module _ (names : Names) (s : Holdings) (l : Ledger) (are : AreNamed names s l) 
     low = λ h. let z = are.low h in let e = ap (λ (f : ℕ → ℕ). f h) birth_of in omega (arith, z, e, births);
     blocks = λ q of owned. subst (λ (f : ℕ → ℕ). put (suc l.births) (Some n) names.address (f q) ≡ Some q) (sym alone_birth)
         (block q of (nat_eq q n) (is_in_room n room q) refl refl owned);
-    low_blocks = λ q. subst (λ (k : ℕ). m.alone_birth q ≤ k) (sym births) (subst (λ (f : ℕ → ℕ). f q ≤ suc l.births) (sym alone_birth) (lower q (nat_eq q n) refl));
+    low_blocks = λ q. subst (λ (k : ℕ). m.alone_birth q ≤ k) (sym births)
+        (subst (λ (f : ℕ → ℕ). f q ≤ suc l.births) (sym alone_birth) (lower q (nat_eq q n) refl));
   }
     where
       block : (q of : ℕ) (b inside : Bool) → nat_eq q n ≡ b → is_in_room n room q ≡ inside → owns n room (Alone n room) s.owner q ≡ Some (Alone q of)

@@ -9,10 +9,12 @@ use Rattle.rv32_isa.specs.declared.instruction.Instr.{Instr}
 use Rattle.rv32_isa.specs.declared.instruction.Instr.TheVariants.{Jal, Jalr, Beq, Bne, Blt, Bge, Bltu, Bgeu, Lb, Lh, Lw, Lbu, Lhu, Sb, Sh, Sw, Ecall}
 use Rattle.arena_laws.specs.Lawful.{Answer}
 use Rattle.arena_laws.specs.Asked.{Asked}
-use Rattle.rv32_machine.specs.State.{State, Areas, Mode, Runs, Waits, Over, Ended, Raised, Exhausted, stack_base, is_within, is_readable, is_writable, code_base}
+use Rattle.rv32_machine.specs.State.{State, Areas, Mode, Runs, Waits, Over, Ended, Raised, Exhausted, stack_base, is_within, is_readable, is_writable}
+use Rattle.rv32_machine.specs.State.{code_base}
 use Rattle.rv32_machine.specs.State.{word_at, half_at, register_of, set_register, set_byte, set_half, set_word}
 use Rattle.rv32_machine.specs.Step.{Stepped, Writes, Asks, Silent, onward, following, gives, stop, fault, jumps, branches, loads, stores, extended, is_less}
-use Rattle.rv32_machine.specs.Step.{address, a0, a1, a7, sp, has_stack, refuses_frame, calls_by, calls_host, asked_by, asks, raises, effect, executes, step_in, step}
+use Rattle.rv32_machine.specs.Step.{address, a0, a1, a7, sp, has_stack, refuses_frame, calls_by, calls_host, asked_by, asks, raises, effect, executes, step_in}
+use Rattle.rv32_machine.specs.Step.{step}
 use Rattle.rv32_machine.specs.Shortage.{asked_of, asked_in_word, asked_in, asked_at}
 
 -- nothing was asked, and what the store holds is what it was

@@ -208,7 +208,8 @@ module _ (pages : ℕ) (n : Areas) (limit : n.block_limit ≡ block_limit) where
   step_kept r kept exact = by r.refused refl
     where
       by : (o : Option Request) → r.refused ≡ o → Kept pages (run_step n r)
-      by None none = by_asked pages r kept none n limit (asked_at n r.state) (step n (r.answers 0) r.state) (r.answers 0) (step_does n (r.answers 0) r.state) exact
+      by None none = by_asked pages r kept none n limit (asked_at n r.state) (step n (r.answers 0) r.state) (r.answers 0)
+          (step_does n (r.answers 0) r.state) exact
       by (Some q) some = subst (Kept pages) (sym (over_steps n 1 r Stop.Exhausted (kept.over q some))) kept
 
   -- after so many steps

@@ -1,4 +1,4 @@
--- Where a run is exhausted.
+-- Believed: where a run is exhausted.
 use Rattle.std.specs.Prelude.{◌≡◌, ◌≢◌, ℕ, ◌<◌, ◌≤◌, ◌⊎◌, true, List, ◌∷◌, ◌++◌}
 use Rattle.cyc_words.specs.Events.{Event, SourceEvent, Visible, visible}
 use Rattle.arena_laws.specs.Counts.{block_limit}
@@ -26,7 +26,8 @@ NeverExhausted bound n s input m =
     ((fuel : ℕ) → HasRoom bound n.pages n.stack (m.events fuel)) → (answers : ℕ → Answer) (count : ℕ) → AreExact n count (from s input answers)
     → (run_steps n count (from s input answers)).state.mode ≢ Over Stop.Exhausted
 
--- Where the meaning's first event that wants more than there is is a request that the counts refuse, each run by which the meaning's events up to it are reached
+-- Where the meaning's first event that wants more than there is is a request that the counts refuse, each run by which the meaning's events up to it are
+-- reached
 -- is exhausted, with just the events before that, unless the store lacked host memory.
 abbrev pub ExhaustedAt : (List ℕ → ℕ) → Areas → State → List ℕ → Meaning → Type 0
 ExhaustedAt bound n s input m =

@@ -1,4 +1,4 @@
--- What events need of an arena with a number of pages, all free at first: a count over the events alone, with no store in it.
+-- Believed: what events need of an arena with a number of pages, all free at first: a count over the events alone, with no store in it.
 use Rattle.std.specs.Prelude.{◌≡◌, ℕ, Bool, true, false, List, [], ◌∷◌, ◌++◌, Option, Some, None}
 use Rattle.cyc_words.specs.Events as events
 use Rattle.cyc_words.specs.Events.{Event, SourceEvent, Visible, Called, Returned, visible}

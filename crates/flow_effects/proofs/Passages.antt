@@ -1,5 +1,6 @@
 -- Passages by what is done to each local.
-use Rattle.std.proofs.Common.{Bool, None, Option, Some, [], ap, arith, false, length, nat_eq, nat_lt, refl, suc, sym, true, zero, ℕ, ◌+◌, ◌∙◌, ◌∷◌, ◌≡◌, if◌then◌else◌}
+use Rattle.std.proofs.Common.{Bool, None, Option, Some, [], ap, arith, false, length, nat_eq, nat_lt, refl, suc, sym, true, zero, ℕ, ◌+◌, ◌∙◌, ◌∷◌, ◌≡◌}
+use Rattle.std.proofs.Common.{if◌then◌else◌}
 use Rattle.source_typing.specs.States.{Plain, State}
 use Rattle.check_faults.specs.Faults.{sooner_found}
 use Rattle.check_faults.specs.declared.fault.Fault.{Fault}
@@ -89,7 +90,8 @@ repeated_is n t f = λ j. record {
 -- ---- locals that go out of scope, and loans
 
 -- no local began
-pub left_without : (n : ℕ) (t : ℕ → Touch) (f : Option Fault) → passage_in (below n idle_touch t) f ≡ left_after n (length (added_of None) + n) (added_of None) (passage_in t f)
+pub left_without : (n : ℕ) (t : ℕ → Touch) (f : Option Fault)
+    → passage_in (below n idle_touch t) f ≡ left_after n (length (added_of None) + n) (added_of None) (passage_in t f)
 left_without n t f = λ j. record {
   effects = λ i. below_effect n t i j;
   faults = record {

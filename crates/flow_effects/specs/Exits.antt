@@ -1,4 +1,4 @@
--- What a statement does on each way out of it in code, as its exits.
+-- View of code: what a statement does on each way out of it in code, as its exits.
 use Rattle.std.specs.Prelude.{Bool, false, true}
 use Rattle.flow_summaries.specs.Exits as rules
 use Rattle.flow_effects.specs.Passed.{passage_of}

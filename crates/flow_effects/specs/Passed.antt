@@ -1,4 +1,4 @@
--- What a phrase with one way out does in code, as its passage.
+-- View of code: what a phrase with one way out does in code, as its passage.
 use Rattle.std.specs.Prelude.{None, Option, Some, ℕ, [], ◌∷◌, ◌≡◌}
 use Rattle.source_typing.specs.States.{Held, Plain, State, States}
 use Rattle.flow_summaries.specs.Effects.{Effects, Holds, effects_below, met_ways, then_effects, to_head, with_number}

@@ -1,4 +1,4 @@
--- What follows one after another in a block: each step before the rest.
+-- View of code: what follows one after another in a block: each step before the rest.
 use Rattle.std.specs.Prelude.{List, None, Option, Some, length, ℕ, ◌+◌, [], ◌∷◌}
 use Rattle.cyc_tree.specs.Tree as tree
 use Rattle.flow_summaries.specs.Exits.{Exits, either_exits, entered, exits_in_sequence, lent_in, with_passage}

@@ -1,4 +1,4 @@
--- What a phrase in code does to locals, by their numbers: effects and faults.
+-- View of code: what a phrase in code does to locals, by their numbers: effects and faults.
 use Rattle.std.specs.Prelude.{Bool, None, Option, Some, false, option_map, true, ℕ}
 use Rattle.flow_summaries.specs.Effects.{Effects}
 use Rattle.flow_summaries.specs.Passages.{Faults, Passage}

@@ -1,4 +1,4 @@
--- What a phrase in code does to locals, as the rules of passages say it.
+-- View of code: what a phrase in code does to locals, as the rules of passages say it.
 use Rattle.std.specs.Prelude.{nat_eq, ℕ, ◌≡◌, ◌≤◌, ◌-◌, ◌/◌, ◌%◌, if◌then◌else◌}
 use Rattle.flow_summaries.specs.Effects.{Effect, Holds, Keeps, Loses, MayLose, met_effect, then_effect}
 use Rattle.flow_summaries.specs.Passages.{Caused, both_caused, caused_after, no_cause}

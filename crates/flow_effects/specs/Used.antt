@@ -1,4 +1,4 @@
--- What an expression does that is used in one way.
+-- View of code: what an expression does that is used in one way.
 use Rattle.std.specs.Prelude.{◌≡◌}
 use Rattle.flow_summaries.specs.Passages.{Passage}
 use Rattle.flow_summaries.specs.Uses.{Uses}

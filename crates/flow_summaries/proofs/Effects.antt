@@ -4,7 +4,8 @@ use Rattle.std.proofs.Common.{◌≡◌, ℕ, zero, suc, Bool, true, false, Opti
 use Rattle.std.proofs.lemmas.Bool.Decides.{nat_tests}
 use Rattle.source_typing.specs.States.{Lent, Plain, State, States, loop_head, meet, meet_all, meet_ways, or_entry}
 use Rattle.source_typing.proofs.Meeting.{meet_all_itself, same_turns}
-use Rattle.flow_summaries.specs.Effects.{Effect, Effects, Holds, Keeps, Loses, MayLose, becomes, below, effects_below, met_effect, met_effects, met_ways, no_effects, states_after}
+use Rattle.flow_summaries.specs.Effects.{Effect, Effects, Holds, Keeps, Loses, MayLose, becomes, below, effects_below, met_effect, met_effects, met_ways}
+use Rattle.flow_summaries.specs.Effects.{no_effects, states_after}
 use Rattle.flow_summaries.specs.Effects.{then_effect, then_effects, then_way, to_head, way_below, with_number}
 use Rattle.flow_summaries.specs.Laws.{way_after}
 

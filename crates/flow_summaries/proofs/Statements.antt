@@ -8,7 +8,8 @@ use Rattle.source_typing.specs.Expressions.{judge}
 use Rattle.source_typing.specs.Faults.{earliest}
 use Rattle.source_typing.specs.Flow.{use_of}
 use Rattle.source_typing.specs.Functions.{body_scope, head_of}
-use Rattle.source_typing.specs.Left.{Left, added_by, body_flow, declares, either, entering, flow_faults, flow_from, flow_of, freed, freed_by, initial_value, left}
+use Rattle.source_typing.specs.Left.{Left, added_by, body_flow, declares, either, entering, flow_faults, flow_from, flow_of, freed, freed_by, initial_value}
+use Rattle.source_typing.specs.Left.{left}
 use Rattle.source_typing.specs.Left.{left_by, left_by_clauses, left_by_items, result_value, states_at, switched_left}
 use Rattle.source_typing.specs.Programs.{tables_of}
 use Rattle.source_typing.specs.Scope.{Env, Local, block_entered, find_local}

@@ -17,7 +17,8 @@ use Rattle.flow_summaries.proofs.Passages.{does_copy, does_in_turn, does_in_turn
 use Rattle.flow_summaries.specs.Laws.{DoesAs, UsesAs}
 use Rattle.flow_summaries.specs.Passages.{Passage, copied_if, in_turn, unchanged}
 use Rattle.flow_summaries.specs.Uses.{Uses, address_uses, applied_uses, arrow_uses, assigned_uses, contents_uses, indexed_uses, member_uses, pointed_uses}
-use Rattle.flow_summaries.specs.Uses.{prefixed_uses, tested_uses, uses_as_place, uses_as_value, uses_if, uses_of_array, uses_of_local, uses_of_name, uses_of_own}
+use Rattle.flow_summaries.specs.Uses.{prefixed_uses, tested_uses, uses_as_place, uses_as_value, uses_if, uses_of_array, uses_of_local, uses_of_name}
+use Rattle.flow_summaries.specs.Uses.{uses_of_own}
 
 copies_if : (n : ℕ) (b c : Bool) (at : ℕ) → b ≡ c → DoesAs n (copy_if b at) (copied_if c at)
 copies_if n b c at h = subst (λ t. DoesAs n (copy_if b at) (copied_if t at)) h (does_copy n b at)

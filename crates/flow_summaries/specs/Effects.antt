@@ -1,4 +1,4 @@
--- What a phrase does to the states of locals, from any states before it.
+-- Believed, for this crate's laws: what a phrase does to the states of locals, from any states before it.
 use Rattle.std.specs.Prelude.{None, Option, Some, nat_eq, nat_lt, option_map, suc, ℕ, if◌then◌else◌, ◌∷◌}
 use Rattle.source_typing.specs.States.{Gone, Held, Lent, Plain, State, States, unless_lent}
 

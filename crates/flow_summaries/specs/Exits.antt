@@ -1,4 +1,4 @@
--- What a statement does to locals on each way out of it.
+-- Believed, for this crate's laws: what a statement does to locals on each way out of it.
 use Rattle.std.specs.Prelude.{None, Option, Some, option_map, true, ℕ}
 use Rattle.source_typing.specs.States.{States}
 use Rattle.check_faults.specs.Faults.{sooner_found}

@@ -1,4 +1,4 @@
--- What an expression does to locals that can't be copied: one line a form.
+-- Believed, for this crate's laws: what an expression does to locals that can't be copied: one line a form.
 use Rattle.std.specs.Prelude.{length}
 use Rattle.cyc_tree.specs.Tree.{Array, Arrow, Dot, Expression, Expressions, Index, Links, Made, MoreExpressions, MoreLinks, NoExpressions, NoLinks}
 use Rattle.cyc_tree.specs.Tree.{NoSuffixes, One, Suffixes}

@@ -1,4 +1,4 @@
--- What holds of the flow of all phrases and programs.
+-- Believed, for this crate's laws: what holds of the flow of all phrases and programs.
 use Rattle.std.specs.Prelude.{Option, length, option_map, ℕ, ◌≡◌}
 use Rattle.cyc_tree.specs.Tree.{Expression, Program, Statement}
 use Rattle.source_typing.specs.Faults.{earliest}

@@ -1,4 +1,4 @@
--- What a phrase does: its effects on locals, and its faults.
+-- Believed, for this crate's laws: what a phrase does: its effects on locals, and its faults.
 use Rattle.std.specs.Prelude.{Bool, None, Option, Some, false, suc, true, ℕ, [], ◌∷◌}
 use Rattle.source_typing.specs.States.{Gone, Held, Lent, Plain, State, States}
 use Rattle.check_faults.specs.Faults.{sooner_found}

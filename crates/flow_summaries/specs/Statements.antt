@@ -1,4 +1,4 @@
--- What a statement does to locals that can't be copied: one line a form; and what is found of a program.
+-- Believed, for this crate's laws: what a statement does to locals that can't be copied: one line a form; and what is found of a program.
 use Rattle.std.specs.Prelude.{List, None, Option, Some, false, length, suc, true, ℕ, [], ◌∷◌}
 use Rattle.cyc_tree.specs.Tree.{BlockItems, Clauses, Declare, Execute, Expression, Initializer, Item, MoreClauses, NoClauses, NoItems, Program, Statement}
 use Rattle.source_typing.specs.Declarations.{declare}

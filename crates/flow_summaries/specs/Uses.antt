@@ -1,4 +1,4 @@
--- How the forms of expressions use locals that can't be copied.
+-- Believed, for this crate's laws: how the forms of expressions use locals that can't be copied.
 use Rattle.std.specs.Prelude.{Bool, List, None, Option, Some, bytes_eq, false, length, not, true, ℕ, ◌&&◌, ◌||◌, [], ◌∷◌, if◌then◌else◌}
 use Rattle.cyc_tree.specs.declared.expression.Prefix.{Prefix}
 use Rattle.cyc_tree.specs.declared.expression.Prefix.TheVariants.{AddressOf, Complement, Dereference, Negate, Not}

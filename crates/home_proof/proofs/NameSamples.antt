@@ -6,7 +6,8 @@ use Rattle.cyc_tree.specs.declared.expression.Prefix.{Prefix}
 use Rattle.cyc_tree.specs.declared.expression.Prefix.TheVariants as prefix
 use Rattle.cyc_tree.specs.declared.name.Sign.TheVariants as sign
 use Rattle.cyc_tree.specs.Tree as tree
-use Rattle.cyc_tree.specs.Tree.{Base, BlockItems, Case, Declaration, Default, Expression, Initializer, MoreClauses, Name, NoClauses, NoItems, Pointer, Statement}
+use Rattle.cyc_tree.specs.Tree.{Base, BlockItems, Case, Declaration, Default, Expression, Initializer, MoreClauses, Name, NoClauses, NoItems, Pointer}
+use Rattle.cyc_tree.specs.Tree.{Statement}
 use Rattle.source_meaning.specs.Shapes.{IntShape, FatShape, ThinShape, Part}
 use Rattle.source_meaning.specs.Steps.{Routine, World}
 use Rattle.source_meaning.specs.Programs.{world_of}
@@ -112,7 +113,8 @@ of_count = refl
 
 -- int a; { int *b; } int ?c;
 blocks : item_names empty [] 0
-    (integer (named "a") ▹ Statement.Block 0 (integer (named "b") ▹ run (address_of (variable "b")) ▸ NoItems) ▸ local tree.Int fat (named "c") Initializer.Unset
+    (integer (named "a") ▹ Statement.Block 0 (integer (named "b") ▹ run (address_of (variable "b")) ▸ NoItems) ▸ local tree.Int fat
+    (named "c") Initializer.Unset
     ▹ NoItems) ≡ true ∷ false ∷ false ∷ []
 blocks = refl
 

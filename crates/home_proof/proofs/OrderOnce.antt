@@ -62,10 +62,12 @@ use Rattle.home_proof.proofs.Turns.{AreApart}
 use Rattle.home_proof.proofs.Places.{apart, occurrences, occurrences_both, within, within_both, within_once}
 
 -- numbers of two lists of consecutive ranges, in either order
-both : (m first a b : ℕ) (ns ms : List ℕ) → occurrences m ns ≡ within first a m → occurrences m ms ≡ within (first + a) b m → occurrences m (ns ++ ms) ≡ within first (a + b) m
+both : (m first a b : ℕ) (ns ms : List ℕ) → occurrences m ns ≡ within first a m → occurrences m ms ≡ within (first + a) b m
+    → occurrences m (ns ++ ms) ≡ within first (a + b) m
 both m first a b ns ms h k = let all = occurrences_both m ns ms in let parts = within_both first a b m in omega (arith, all, parts, h, k)
 
-turned : (m first a b : ℕ) (ns ms : List ℕ) → occurrences m ms ≡ within first a m → occurrences m ns ≡ within (first + a) b m → occurrences m (ns ++ ms) ≡ within first (a + b) m
+turned : (m first a b : ℕ) (ns ms : List ℕ) → occurrences m ms ≡ within first a m → occurrences m ns ≡ within (first + a) b m
+    → occurrences m (ns ++ ms) ≡ within first (a + b) m
 turned m first a b ns ms h k = let all = occurrences_both m ns ms in let parts = within_both first a b m in omega (arith, all, parts, h, k)
 
 module _ (m : ℕ) where

@@ -1,4 +1,5 @@
--- Phrases in which no call has more arguments than its function has parameters, as the rules want it. What makes a struct is no call here.
+-- Believed, for this crate's laws: phrases in which no call has more arguments than its function has parameters, as the rules want it. What makes a struct is
+-- no call here.
 use Rattle.std.specs.Prelude.{Bool, true, false, Some, List, [], ◌∷◌}
 use Rattle.cyc_tree.specs.Tree as tree
 use Rattle.cyc_tree.specs.Tree.{

@@ -1,4 +1,4 @@
--- Statements in which no `switch` has more than one `default`, as the rules want it.
+-- Believed, for this crate's laws: statements in which no `switch` has more than one `default`, as the rules want it.
 use Rattle.std.specs.Prelude.{◌≡◌, ◌≤◌}
 use Rattle.cyc_tree.specs.Tree.{Statement, BlockItems, NoItems, Declare, Execute, Clauses, NoClauses, MoreClauses}
 use Rattle.source_typing.specs.Statements.{defaults}

@@ -1,4 +1,4 @@
--- Where the names of a source's functions live.
+-- Believed, for this crate's laws: where the names of a source's functions live.
 use Rattle.std.specs.Prelude.{◌≡◌, ℕ, Some, List, map, slice_get}
 use Rattle.cyc_tree.specs.Tree.{Program}
 use Rattle.source_meaning.specs.Steps.{Routine, World}
@@ -13,7 +13,8 @@ use Rattle.home_proof.specs.Names.{function_names, in_turn}
 abbrev pub homes_of : World → Routine → List ℕ
 homes_of w f = map (home_in (function_code w f)) (function_code w f).order
 
--- Of each function of a program that is accepted, and whose unions have no more members than a word counts, the first twelve names that may live in a register do,
+-- Of each function of a program that is accepted, and whose unions have no more members than a word counts, the first twelve names that may live in a register
+-- do,
 -- in the order of the registers.
 abbrev pub HomesAreOfNames : Type 0
 HomesAreOfNames = (p : Program) → IsAccepted p → HaveFewMembers (unions_of p) → (number : ℕ) (f : Routine) → slice_get (world_of p).functions number ≡ Some f

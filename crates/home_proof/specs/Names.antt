@@ -1,5 +1,5 @@
--- Which names of a source's function may live in a register: those of an integer, a thin pointer, a handle or a key to which `&` is never applied. The names
--- are the parameters, the locals, those that a `case` gives to what it copies, and the indices of `for`.
+-- Believed, for this crate's laws: which names of a source's function may live in a register: those of an integer, a thin pointer, a handle or a key to which
+-- `&` is never applied. The names are the parameters, the locals, those that a `case` gives to what it copies, and the indices of `for`.
 use Rattle.std.specs.Prelude.{ℕ, suc, Bool, true, false, not, ◌||◌, ◌&&◌, if◌then◌else◌, Some, List, [], ◌∷◌, ◌++◌, bytes_eq, length}
 use Rattle.cyc_tree.specs.declared.expression.Prefix.{Prefix}
 use Rattle.cyc_tree.specs.declared.expression.Prefix.TheVariants as prefix

@@ -1,5 +1,6 @@
--- Whether the locals of a function's Core may live in registers, by their numbers, as specs/Names says it of the names that they are of: those of a block
--- come before those of blocks within it, those of the `default` of a `switch` behind those of its other clauses, and else they come as the code does.
+-- Believed, for this crate's laws: whether the locals of a function's Core may live in registers, by their numbers, as specs/Names says it of the names that
+-- they are of: those of a block come before those of blocks within it, those of the `default` of a `switch` behind those of its other clauses, and else they
+-- come as the code does.
 use Rattle.std.specs.Prelude.{ℕ, suc, Bool, Some, List, [], ◌∷◌, ◌++◌, length}
 use Rattle.cyc_tree.specs.Tree as tree
 use Rattle.cyc_tree.specs.Tree.{

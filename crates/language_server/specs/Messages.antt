@@ -1,4 +1,4 @@
--- Messages by what they are.
+-- Believed: messages by what they are.
 use Rattle.editor_protocol.specs.declared.messages.Message.{Message}
 use Rattle.editor_protocol.specs.declared.messages.Message.TheVariants.{Response, Notification}
 

@@ -1,4 +1,4 @@
--- Which requests there are, and when they may be made.
+-- Believed: which requests there are, and when they may be made.
 use Rattle.std.specs.Prelude.{ℕ, List, [], ◌∷◌, map, Option, Some, None, Result, Ok, Err, true, false, codes, if◌then◌else◌}
 use Rattle.editor_protocol.specs.declared.messages.Code.{Code}
 use Rattle.editor_protocol.specs.declared.messages.Code.TheVariants.{InvalidRequest, MethodNotFound, ServerNotInitialized}

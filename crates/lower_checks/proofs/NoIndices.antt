@@ -47,7 +47,8 @@ mutual
   expression_none first (Expression.Grouped at inner) h = expression_none first inner h
   expression_none first (Expression.Suffixed primary suffixes) h =
       let a = indices_in_suffixes suffixes in
-      both_none _ _ (expression_none (first + a) primary (second_none a (indices_in primary) h)) (suffixes_none first suffixes (first_none a (indices_in primary) h))
+      both_none _ _ (expression_none (first + a) primary (second_none a (indices_in primary) h))
+      (suffixes_none first suffixes (first_none a (indices_in primary) h))
   expression_none first (Expression.Prefixed at operator operand) h = expression_none first operand h
   expression_none first (Expression.New at new) h = made_none first new h
   expression_none first (Expression.NewIn at handle new) h =
@@ -55,7 +56,8 @@ mutual
       both_none _ _ (expression_none first handle (first_none a (indices_in_made new) h)) (made_none (first + a) new (second_none a (indices_in_made new) h))
   expression_none first (Expression.Chain e others) h =
       let a = indices_in e in
-      both_none _ _ (expression_none first e (first_none a (indices_in_links others) h)) (links_none (first + a) others (second_none a (indices_in_links others) h))
+      both_none _ _ (expression_none first e (first_none a (indices_in_links others) h))
+      (links_none (first + a) others (second_none a (indices_in_links others) h))
   expression_none first (Expression.AllOf e others) h =
       let a = indices_in e in
       both_none _ _ (expression_none first e (first_none a (indices_in_all others) h)) (all_none (first + a) others (second_none a (indices_in_all others) h))
@@ -77,7 +79,8 @@ mutual
   links_none first NoLinks h = refl
   links_none first (MoreLinks operator operand others) h =
       let a = indices_in operand in
-      both_none _ _ (expression_none first operand (first_none a (indices_in_links others) h)) (links_none (first + a) others (second_none a (indices_in_links others) h))
+      both_none _ _ (expression_none first operand (first_none a (indices_in_links others) h))
+      (links_none (first + a) others (second_none a (indices_in_links others) h))
 
   pub suffixes_none : (first : ℕ) (ss : Suffixes) → indices_in_suffixes ss ≡ 0 → suffix_order first ss ≡ []
   suffixes_none first NoSuffixes h = refl

@@ -1,7 +1,8 @@
 -- A struct of the table is laid out as its shape is.
 use Rattle.std.proofs.Common.{◌≡◌, ◌∙◌, ℕ, zero, suc, ◌+◌, ◌-◌, refl, sym, ap, arith, List, [], ◌∷◌, ◌++◌, map, Option, Some, None}
 use Rattle.std.specs.Prelude.{IfSome, option_map}
-use Rattle.source_meaning.specs.Shapes.{Shape, IntShape, UnsignedShape, CharShape, VoidShape, ThinShape, FatShape, HandleShape, KeyShape, StructShape, UnionShape, ArrayShape}
+use Rattle.source_meaning.specs.Shapes.{Shape, IntShape, UnsignedShape, CharShape, VoidShape, ThinShape, FatShape, HandleShape, KeyShape, StructShape}
+use Rattle.source_meaning.specs.Shapes.{UnionShape, ArrayShape}
 use Rattle.source_meaning.specs.Shapes.{parts_of}
 use Rattle.source_meaning.specs.Shapes as shapes
 use Rattle.source_meaning.specs.Sizes.{Extent, struct_extent}

@@ -6,11 +6,13 @@ use Rattle.cyc_tree.specs.View.{OneSuffix, suffix_tree, suffixes_of}
 use Rattle.cyc_tree.specs.declared.expression.Suffix as code
 use Rattle.source_meaning.specs.Shapes.{Shape, pointee}
 use Rattle.source_meaning.specs.Steps.{World}
-use Rattle.source_lowering.specs.Lowered.{Left, Named, expression_code, left_of, loads_code, offset_code, place_code, pointer_to, reach_code, static_shape, store_to, stores_code, suffix_values, suffixed_code, suffixed_shape}
+use Rattle.source_lowering.specs.Lowered.{Left, Named, expression_code, left_of, loads_code, offset_code, place_code, pointer_to, reach_code, static_shape}
+use Rattle.source_lowering.specs.Lowered.{store_to, stores_code, suffix_values, suffixed_code, suffixed_shape}
 use Rattle.source_lowering.specs.Members.{subscript_code}
 use Rattle.source_lowering.specs.Lowerable.{TakesIndices, TakesMembers, TakesSuffixes}
 use Rattle.core_meaning.specs.Core.{Statement}
-use Rattle.lower_checks.specs.Reaching.{IsLeftAt, Place, first_code, further_code, further_place, indices_code, indices_in, left_by, member_place, place_at_once}
+use Rattle.lower_checks.specs.Reaching.{IsLeftAt, Place, first_code, further_code, further_place, indices_code, indices_in, left_by, member_place}
+use Rattle.lower_checks.specs.Reaching.{place_at_once}
 use Rattle.lower_checks.proofs.Lists.{then_of}
 
 -- a place, and what reads it

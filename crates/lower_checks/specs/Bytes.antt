@@ -1,4 +1,4 @@
--- Bytes, as lists of numbers.
+-- View of code: bytes, as lists of numbers.
 use Rattle.std.specs.Prelude.{◌≡◌, ℕ, ◌<◌, List, Some, slice_get}
 
 -- each of them is below 256

@@ -1,4 +1,4 @@
--- What cells of shapes are made for.
+-- View of code: what cells of shapes are made for.
 use Rattle.std.specs.Prelude.{Option, Some, None}
 use Rattle.source_meaning.specs.Shapes.{Shape, IntShape, UnsignedShape, CharShape, ThinShape, FatShape, HandleShape, KeyShape}
 use Rattle.cyc_core.specs.declared.operation.Cell.{Cell}

@@ -1,4 +1,4 @@
--- The regions around a statement are counted, and so are those that a loop or a `switch` has of them.
+-- View of code: the regions around a statement are counted, and so are those that a loop or a `switch` has of them.
 use Rattle.std.specs.Prelude.{◌≤◌}
 use Rattle.lower_checks.specs.declared.leaving.RegionsAround.{RegionsAround}
 

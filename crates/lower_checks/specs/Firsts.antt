@@ -1,4 +1,4 @@
--- What a table of names has.
+-- View of code: what a table of names has.
 use Rattle.std.specs.Prelude.{ℕ, List, Option, bytes_eq}
 use Rattle.indexmap.specs.IndexMap.{get_by}
 use Rattle.lower_checks.specs.declared.first.Firsts.{Firsts}

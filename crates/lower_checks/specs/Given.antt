@@ -1,4 +1,4 @@
--- Regions that a type leaves out and an initializer says: which pointers of a type as it is written are unique by that.
+-- View of code: regions that a type leaves out and an initializer says: which pointers of a type as it is written are unique by that.
 use Rattle.std.specs.Prelude.{ℕ, Bool, true, false, Option, Some, None, List, [], ◌∷◌, get_or, length, reverse}
 use Rattle.cyc_tree.specs.declared.name.Sign.{Sign}
 use Rattle.cyc_tree.specs.declared.name.Sign.TheVariants.{Nullable, NotNull, Fat}

@@ -1,4 +1,4 @@
--- What a global of one word begins with: a number, or a pointer.
+-- View of code: what a global of one word begins with: a number, or a pointer.
 use Rattle.cyc_tree.specs.Tree as tree
 use Rattle.cyc_tree.specs.Tree.{Initial}
 

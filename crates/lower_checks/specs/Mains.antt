@@ -1,4 +1,4 @@
--- The function that a program begins with is there.
+-- View of code: the function that a program begins with is there.
 use Rattle.std.specs.Prelude.{◌<◌, length}
 use Rattle.cyc_tree.specs.Tree.{Program}
 use Rattle.source_lowering.specs.Programs.{program_code}

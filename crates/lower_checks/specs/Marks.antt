@@ -1,4 +1,4 @@
--- How the code keeps the locals: each with the one that it hides, and a table of the innermost one of each name.
+-- View of code: how the code keeps the locals: each with the one that it hides, and a table of the innermost one of each name.
 use Rattle.std.specs.Prelude.{◌≡◌, ℕ, suc, List, [], ◌∷◌, map, Option, Some, None, unwrap_or, bytes_eq, if◌then◌else◌}
 use Rattle.indexmap.specs.IndexMap.{get_by}
 use Rattle.lower_checks.specs.Visible.{Declared, declared}

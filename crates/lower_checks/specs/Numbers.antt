@@ -1,4 +1,4 @@
--- The numbers of the elements that are being made, by their names: each is the one local of its array's block.
+-- View of code: the numbers of the elements that are being made, by their names: each is the one local of its array's block.
 use Rattle.std.specs.Prelude.{ℕ, List, [], ◌∷◌, map}
 use Rattle.source_lowering.specs.Lowered.{Named, element_names}
 use Rattle.lower_checks.specs.declared.numbers.Number.{Number}

@@ -1,4 +1,4 @@
--- What is promised of the Core that a program is lowered to.
+-- View of code: what is promised of the Core that a program is lowered to.
 use Rattle.std.specs.Prelude.{◌≡◌, ℕ, ◌+◌, ◌*◌, ◌≤◌, List, Some, slice_get, length}
 use Rattle.cyc_words.specs.Events.{AreBytes, SourceEnding}
 use Rattle.cyc_tree.specs.Tree.{Program}

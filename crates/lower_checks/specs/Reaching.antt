@@ -1,4 +1,4 @@
--- How far the code has come on the way along suffixes.
+-- View of code: how far the code has come on the way along suffixes.
 use Rattle.std.specs.Prelude.{◌≡◌, ℕ, suc, ◌+◌, ◌-◌, List, [], ◌++◌, length}
 use Rattle.cyc_tree.specs.Tree.{Expression, Suffixes, NoSuffixes, Index, Dot, Arrow}
 use Rattle.source_meaning.specs.Shapes.{Shape, pointee}
@@ -7,7 +7,8 @@ use Rattle.source_meaning.specs.Steps.{World}
 use Rattle.source_meaning.specs.Conversions.{cells_of}
 use Rattle.source_meaning.specs.Places.{struct_parts}
 use Rattle.source_lowering.specs.Layouts.{bytes_before, extent_of}
-use Rattle.source_lowering.specs.Lowered.{Left, Named, expression_code, left_of, loads_code, member_shape, place_code, reach_code, static_shape, suffix_values, suffixed_code}
+use Rattle.source_lowering.specs.Lowered.{Left, Named, expression_code, left_of, loads_code, member_shape, place_code, reach_code, static_shape, suffix_values}
+use Rattle.source_lowering.specs.Lowered.{suffixed_code}
 use Rattle.source_lowering.specs.Lowerable.{Takes, TakesPlace, TakesSuffixes}
 use Rattle.source_lowering.specs.Members.{subscript_code}
 use Rattle.core_meaning.specs.Core.{Statement}

@@ -1,4 +1,4 @@
--- Numbers of temporaries are words: a phrase is lowered where so many are left behind its first one as cyc_tree's Room counts for it.
+-- View of code: numbers of temporaries are words: a phrase is lowered where so many are left behind its first one as cyc_tree's Room counts for it.
 use Rattle.std.specs.Prelude.{ℕ, ◌+◌, ◌<◌, ◌^◌}
 
 -- so many temporaries are left behind one

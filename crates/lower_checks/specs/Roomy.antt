@@ -1,4 +1,4 @@
--- There is room for each function of a program.
+-- View of code: there is room for each function of a program.
 use Rattle.std.specs.Prelude.{List, [], ◌∷◌}
 use Rattle.cyc_tree.specs.Tree.{FunctionItem, Item}
 use Rattle.cyc_tree.specs.Room.{function_room}

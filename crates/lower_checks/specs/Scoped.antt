@@ -1,4 +1,4 @@
--- What an expression is lowered in: a program, and the names that are visible.
+-- View of code: what an expression is lowered in: a program, and the names that are visible.
 use Rattle.std.specs.Prelude.{List}
 use Rattle.source_meaning.specs.Steps.{World}
 use Rattle.source_meaning.specs.Programs.{world_of}

@@ -1,4 +1,4 @@
--- The kinds of pointers around each other, from the outside inwards, and the shape of such pointers.
+-- View of code: the kinds of pointers around each other, from the outside inwards, and the shape of such pointers.
 use Rattle.std.specs.Prelude.{ℕ, zero, suc, ◌==◌, ◌%◌, ◌/◌, Bool, true, false, List, [], ◌∷◌, ◌++◌}
 use Rattle.source_meaning.specs.Shapes.{Shape, Shared, Alone, NeverNull, ThinShape, FatShape}
 use Rattle.lower_checks.specs.declared.signs.Pointing.{Pointing}

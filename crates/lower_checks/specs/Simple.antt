@@ -1,4 +1,4 @@
--- Statements without statements in them, and expressions without expressions in them.
+-- View of code: statements without statements in them, and expressions without expressions in them.
 use Rattle.std.specs.Prelude.{Bool, true, false}
 use Rattle.cyc_tree.specs.Tree.{Expression, Statement}
 

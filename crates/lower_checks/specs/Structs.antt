@@ -1,4 +1,4 @@
--- What the code knows of a program's structs: their members, and where their cells lie, by its unions.
+-- View of code: what the code knows of a program's structs: their members, and where their cells lie, by its unions.
 use Rattle.std.specs.Prelude.{◌≡◌, ℕ, ◌+◌, ◌-◌, ◌≤◌, false, true, List, [], ◌∷◌, ◌++◌, length, map, Option, Some, None, bytes_eq, is_some, option_map}
 use Rattle.std.specs.Prelude.{All, IfSome}
 use Rattle.indexmap.specs.IndexMap.{get_by}

@@ -1,4 +1,4 @@
--- What the tables of names have.
+-- View of code: what the tables of names have.
 use Rattle.std.specs.Prelude.{◌≡◌, ℕ, suc, List, [], ◌∷◌, Option, Some, None, option_map, length, bytes_eq, if◌then◌else◌}
 use Rattle.cyc_tree.specs.Tree as tree
 use Rattle.cyc_tree.specs.View.{function_tree}

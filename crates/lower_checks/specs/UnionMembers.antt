@@ -1,4 +1,4 @@
--- The members of a program's unions, by the tags of these and by their names.
+-- View of code: the members of a program's unions, by the tags of these and by their names.
 use Rattle.std.specs.Prelude.{◌≡◌, ℕ, suc, List, [], ◌∷◌, Option, Some, None, bytes_eq, option_map, if◌then◌else◌}
 use Rattle.indexmap.specs.IndexMap.{get_by}
 use Rattle.source_meaning.specs.Shapes.{Layout, Part, Shape, parts_of}

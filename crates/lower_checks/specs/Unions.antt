@@ -1,4 +1,4 @@
--- What the code knows of a program's tagged unions: their members, and what their cells are made for.
+-- View of code: what the code knows of a program's tagged unions: their members, and what their cells are made for.
 use Rattle.std.specs.Prelude.{◌≡◌, ℕ, Bool, true, List, [], ◌∷◌, map, Option, Some, None, bytes_eq, option_map, is_some, if◌then◌else◌}
 use Rattle.cyc_tree.specs.View.{member_tree}
 use Rattle.source_meaning.specs.Shapes.{Shape, UnionShape, Part, Layout, part_of}

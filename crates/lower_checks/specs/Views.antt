@@ -1,4 +1,4 @@
--- What contracts see of the shapes and names that the code has.
+-- View of code: what contracts see of the shapes and names that the code has.
 use Rattle.std.specs.Prelude.{Bool, List, map, reverse}
 use Rattle.cyc_tree.specs.View.{base_tree, pointer_tree}
 use Rattle.source_meaning.specs.Shapes.{

@@ -1,4 +1,4 @@
--- The locals that are visible at a point, between the beginnings of the open blocks.
+-- View of code: the locals that are visible at a point, between the beginnings of the open blocks.
 use Rattle.std.specs.Prelude.{ℕ, List, [], ◌∷◌, Option, Some, None}
 use Rattle.source_lowering.specs.Lowered.{Named}
 use Rattle.source_lowering.specs.Programs.{named_here, outward}

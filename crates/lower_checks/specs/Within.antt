@@ -1,4 +1,4 @@
--- How far the members of structs lie from where an object begins: each struct takes at most 4,096 bytes, and none has more cells than bytes.
+-- View of code: how far the members of structs lie from where an object begins: each struct takes at most 4,096 bytes, and none has more cells than bytes.
 use Rattle.std.specs.Prelude.{ℕ, ◌+◌, ◌≤◌, List, length}
 use Rattle.source_meaning.specs.Shapes.{Part, Shape}
 use Rattle.source_meaning.specs.Sizes.{all_cells}

@@ -1,4 +1,4 @@
--- What has been written of a function's body, and whether that failed for want of memory.
+-- View of code: what has been written of a function's body, and whether that failed for want of memory.
 use Rattle.std.specs.Prelude.{◌≡◌, ℕ, false, List, [], ◌++◌, length, map}
 use Rattle.core_meaning.specs.Core.{Statement}
 use Rattle.cyc_core.specs.Trees.{statement_tree}

@@ -4,7 +4,8 @@ ghost use Rattle.std.specs.Prelude.{◌≡◌, ◌%◌, ◌++◌, ◌∷◌, [],
 ghost use Rattle.cyc_tree.specs.View.{constant_tree, initial_tree};
 ghost use Rattle.core_meaning.specs.Memory.{Word};
 ghost use Rattle.cyc_core.specs.Trees.{datum_tree};
-ghost use Rattle.source_meaning.specs.Shapes.{Shape as SourceShape, Owner as SourceOwner, Reach as SourceReach, IntShape, UnsignedShape, CharShape, ThinShape, FatShape};
+ghost use Rattle.source_meaning.specs.Shapes.{Shape as SourceShape, Owner as SourceOwner, Reach as SourceReach, IntShape, UnsignedShape, CharShape, ThinShape};
+ghost use Rattle.source_meaning.specs.Shapes.{FatShape};
 ghost use Rattle.source_meaning.specs.Places.{literal_string, own_string};
 ghost use Rattle.source_meaning.specs.Steps.{World};
 ghost use Rattle.source_meaning.specs.Programs.{world_of};

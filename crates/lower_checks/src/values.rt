@@ -2,7 +2,8 @@
 
 ghost use Rattle.std.specs.Prelude.{◌≡◌};
 ghost use Rattle.cyc_core.specs.Trees.{operation_tree};
-ghost use Rattle.source_lowering.specs.Lowered.{check_code, compared_code, conversion_code, turned_code, pointers_code, null_code, operator_code, truth_code, word_code, not_code};
+ghost use Rattle.source_lowering.specs.Lowered.{check_code, compared_code, conversion_code, turned_code, pointers_code, null_code, operator_code, truth_code};
+ghost use Rattle.source_lowering.specs.Lowered.{word_code, not_code};
 ghost use Rattle.source_lowering.specs.Lowered.{thinned_code};
 ghost use Rattle.source_lowering.specs.Programs.{first_code};
 ghost use Rattle.source_meaning.specs.Programs.{world_of};

@@ -1,4 +1,4 @@
--- One block of memory: a row of words, and behind it a row of bytes.
+-- View of code: one block of memory: a row of words, and behind it a row of bytes.
 use Rattle.std.specs.Prelude.{ℕ, ◌+◌, ◌*◌, []}
 use base.Fml.{Fml, fsep, fwand, froom, ffalse}
 use mir.Syntax.{Ty, ty_struct, ty_array, ty_int, tcons, tnil, w8, w32}

@@ -1,4 +1,4 @@
--- A part of the payload that is lent.
+-- View of code: a part of the payload that is lent.
 use Rattle.std.specs.Prelude.{ℕ, List, length, take, drop, ◌++◌}
 use Rattle.std.specs.Borrow.{Lends, MutBor, Fml, Array, u8}
 use Rattle.raw_pages.specs.Raw.{Raw}

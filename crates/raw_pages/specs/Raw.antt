@@ -1,4 +1,4 @@
--- Pages as two lists.
+-- Believed: pages as two lists.
 use Rattle.std.specs.Prelude.{◌≡◌, ℕ, ◌+◌, ◌*◌, ◌/◌, ◌≤◌, Bool, true, false, ◌||◌, List, Result, Ok, Err, length, slice_index, nat_eq, nat_lt}
 use Rattle.raw_pages.specs.declared.fault.PagesFault.{PagesFault}
 use Rattle.raw_pages.specs.declared.fault.PagesFault.TheVariants.{Memory, Pages}

@@ -1,4 +1,4 @@
--- The rows of a block lie where the block has room for them.
+-- View of code: the rows of a block lie where the block has room for them.
 use Rattle.std.specs.Prelude.{◌≡◌, ℕ, ◌*◌, ◌<◌, ◌≤◌}
 use denote.RawPtr.{◌+ₚ◌}
 use Rattle.std_alloc.specs.declared.vec.Vec.{Vec}

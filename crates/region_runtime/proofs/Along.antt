@@ -7,7 +7,8 @@ use Rattle.arena_laws.specs.Holdings.{arena_base}
 use Rattle.arena_laws.specs.Lawful.{Grants, region_free}
 use Rattle.arena_laws.specs.Laws.{Does, region_new}
 use Rattle.region_runtime.specs.Headers.{word_in, owner_of, used_of, is_live_number, pages_of, holder_of}
-use Rattle.region_runtime.specs.Pool.{Pooled, Shape, shape_of, AreApart, byte_at, held, holdings_of, is_taken, is_taken_by, page_at, tag_by, tag_of, word_by, word_of, counts_of}
+use Rattle.region_runtime.specs.Pool.{Pooled, Shape, shape_of, AreApart, byte_at, held, holdings_of, is_taken, is_taken_by, page_at, tag_by, tag_of, word_by}
+use Rattle.region_runtime.specs.Pool.{word_of, counts_of}
 use Rattle.region_runtime.specs.Sound.{IsOrdered, IsSound, no_page}
 use Rattle.region_runtime.specs.Steps.{next_page, with_first, with_freed, with_taken, without_page}
 use Rattle.region_runtime.specs.Calls.{IsGot}

@@ -128,7 +128,8 @@ module _ (u : Shape) (p : ℕ) (s : IsOrdered u (page_in_hand p)) (room : ℕ) (
     others q f n m =
         let a = put_word p 2 room u.word in let b = put_word p 1 h a in let c = put_word p 0 (newest_of u.word h) b in let d = put_word (h - 1) 3 p c in
         let e = put_word (h - 1) 4 (count_of u.word h + 1) d in
-        word_other (h - 1) 6 p e q f m ∙ word_other (h - 1) 4 (count_of u.word h + 1) d q f m ∙ word_other (h - 1) 3 p c q f m ∙ word_other p 0 (newest_of u.word h) b q f n
+        word_other (h - 1) 6 p e q f m ∙ word_other (h - 1) 4 (count_of u.word h + 1) d q f m ∙ word_other (h - 1) 3 p c q f m
+        ∙ word_other p 0 (newest_of u.word h) b q f n
         ∙ word_other p 1 h a q f n ∙ word_other p 2 room u.word q f n
 
     tag_kept : (g : ℕ) → is_live_number (owner_of u.word) g ≡ true → tag_in grown.word g ≡ tag_in u.word g

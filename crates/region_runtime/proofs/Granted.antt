@@ -43,7 +43,8 @@ less_holds t u l = λ i. record {
 first_others : (u : Shape) (p q f : ℕ) → nat_eq q p ≡ false → (with_first p u).word q f ≡ u.word q f
 first_others u p q f n =
     let a = put_word p 1 (p + 1) u.word in let b = put_word p 2 0 a in let c = put_word p 3 p b in let d = put_word p 4 1 c in let e = put_word p 5 0 d in
-    word_other p 6 p e q f n ∙ word_other p 5 0 d q f n ∙ word_other p 4 1 c q f n ∙ word_other p 3 p b q f n ∙ word_other p 2 0 a q f n ∙ word_other p 1 (p + 1) u.word q f n
+    word_other p 6 p e q f n ∙ word_other p 5 0 d q f n ∙ word_other p 4 1 c q f n ∙ word_other p 3 p b q f n ∙ word_other p 2 0 a q f n
+    ∙ word_other p 1 (p + 1) u.word q f n
 
 module _ (u : Shape) (p : ℕ) (s : IsOrdered u (page_in_hand p)) where
   abbrev pub first : Shape

@@ -69,7 +69,8 @@ module _ (t : Shape) (p : ℕ) (s : IsOrdered t (page_in_hand p)) where
         (omega arith) hand_small (λ g e. pages_are (with_taken p t).word g ∙ sym (pages_are t.word g));
     rounded = s.rounded;
     within = s.within;
-    current = marked_current taken_mark (with_taken p t).word (omega arith) refl (λ g. pages_are (with_taken p t).word g ∙ sym (pages_are t.word g)) (λ g. refl);
+    current = marked_current taken_mark (with_taken p t).word (omega arith) refl (λ g. pages_are (with_taken p t).word g ∙ sym (pages_are t.word g))
+        (λ g. refl);
     heap = λ q e. heap_other q taken_mark (s.heap q e);
     unused = blank_put t.word t.ever_used p 1 taken_mark hand_in s.unused;
   }
@@ -225,7 +226,8 @@ module _ (t : Shape) (p : ℕ) (s : IsOrdered t (page_in_hand p)) where
       current = λ g e. current_by g (nat_eq g h) refl (sym (lives g) ∙ e);
       heap = λ q e. heap_other q h (s.heap q e);
       unused = let n = t.ever_used in let l = hand_in in let f = first_in in
-          let a = put_word p 2 room t.word in let b = put_word p 1 h a in let c = put_word p 0 (newest_of t.word h) b in let d = put_word (h - 1) 3 p c in let e = put_word (h - 1) 4 (count_of t.word h + 1) d in
+          let a = put_word p 2 room t.word in let b = put_word p 1 h a in let c = put_word p 0 (newest_of t.word h) b in let d = put_word (h - 1) 3 p c in
+          let e = put_word (h - 1) 4 (count_of t.word h + 1) d in
           blank_put e n (h - 1) 6 p f (blank_joined room);
     }
       where

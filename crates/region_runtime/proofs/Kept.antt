@@ -6,7 +6,8 @@ use Rattle.arena_laws.specs.declared.standing.Standing.TheVariants.{Lexical}
 use Rattle.arena_laws.specs.Counts.{put, one_less, is_full}
 use Rattle.arena_laws.specs.Holdings.{arena_base}
 use Rattle.region_runtime.specs.Chains.{follow, times, last_or}
-use Rattle.region_runtime.specs.Headers.{AreBlank, link_of, owner_of, used_of, newest_of, count_of, heap_mark, taken_mark, is_live_number, pages_of, holder_of, marked, current_of}
+use Rattle.region_runtime.specs.Headers.{AreBlank, link_of, owner_of, used_of, newest_of, count_of, heap_mark, taken_mark, is_live_number, pages_of, holder_of}
+use Rattle.region_runtime.specs.Headers.{marked, current_of}
 use Rattle.region_runtime.specs.Pool.{
   Shape,
   last_of,
@@ -109,7 +110,14 @@ module _ (t : Shape) (word : ℕ → ℕ → ℕ) (owners : (q : ℕ) → owner_
     pages = t.pages;
     standing = standing_by (owner_is i);
     owner = owner_at (λ q. holder_is q i) (used_is i);
-    counts = record { fresh = t.pages - t.ever_used; given = t.freed; taken = λ h. taken_is h i; left = λ h. left_of (used_is i) (last_is h i); class_pages = λ c. 0; slots = λ c. 0 };
+    counts = record {
+      fresh = t.pages - t.ever_used;
+      given = t.freed;
+      taken = λ h. taken_is h i;
+      left = λ h. left_of (used_is i) (last_is h i);
+      class_pages = λ c. 0;
+      slots = λ c. 0;
+    };
   }
 
   pub kept_taken : is_taken_by word ≡ is_taken_by t.word

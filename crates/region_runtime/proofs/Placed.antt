@@ -154,7 +154,14 @@ module _ (u : Shape) (p : ℕ) (s : IsOrdered u (page_in_hand p)) (room : ℕ) (
     standing = λ g. if heap_live g i then Some Lexical else None;
     owner = λ q. (ap (λ f. owner_at f (put p room (used_of u.word)) q) (λ j r. heap_holder r j) ∙ owner_new (holder_of u.word) (used_of u.word) p 0
         room nobody most q) i;
-    counts = record { fresh = u.pages - u.ever_used; given = u.freed; taken = λ g. heap_taken g i; left = λ g. heap_left g i; class_pages = λ c. 0; slots = λ c. 0 };
+    counts = record {
+      fresh = u.pages - u.ever_used;
+      given = u.freed;
+      taken = λ g. heap_taken g i;
+      left = λ g. heap_left g i;
+      class_pages = λ c. 0;
+      slots = λ c. 0;
+    };
   }
 
   -- beside its last page
@@ -275,7 +282,14 @@ module _ (u : Shape) (p : ℕ) (s : IsOrdered u (page_in_hand p)) (room : ℕ) (
       standing = λ g. if region_live g i then Some Lexical else None;
       owner = λ q. (ap (λ f. owner_at f (put p room (used_of u.word)) q) (λ j r. region_holder r j) ∙ owner_new (holder_of u.word) (used_of u.word) p h
           room nobody most q) i;
-      counts = record { fresh = u.pages - u.ever_used; given = u.freed; taken = λ g. region_taken g i; left = λ g. region_left g i; class_pages = λ c. 0; slots = λ c. 0 };
+      counts = record {
+        fresh = u.pages - u.ever_used;
+        given = u.freed;
+        taken = λ g. region_taken g i;
+        left = λ g. region_left g i;
+        class_pages = λ c. 0;
+        slots = λ c. 0;
+      };
     }
 
     -- beside its current page

@@ -246,7 +246,8 @@ live_by false false e l = l
 module _ (t now : Shape) (h room left was touched : ℕ) (r : IsRunning t now h room left was touched) (limit : room ≤ 1048576)
     (pages : t.ever_used + run_of room ≤ t.pages) (few : was < 60) (live : 0 < h → is_live_number (owner_of t.word) h ≡ true) where
   pub live_now : 0 < h → is_live_number (owner_of now.word) h ≡ true
-  live_now l = live_by (is_live_number (owner_of now.word) h) (is_live_number (owner_of t.word) h) (ap (λ k. let k : Holdings = k in k.standing h) r.run.holds) (live l)
+  live_now l = live_by (is_live_number (owner_of now.word) h) (is_live_number (owner_of t.word) h)
+      (ap (λ k. let k : Holdings = k in k.standing h) r.run.holds) (live l)
 
   pages_same : now.pages ≡ t.pages
   pages_same = ap (λ k. let k : Holdings = k in k.pages) r.run.holds

@@ -92,7 +92,8 @@ tag_says fields value new v s l b h x d e =
     let w = (with_word (h - 1) 5 x t).word in
     let k = there t s.ordered h x d in
     let says : TagSays fields new h x = record {
-      sound = sound_after fields new (with_word (h - 1) 5 x t) s l b e (kept_ordered t w (λ q. refl) (λ q. refl) (λ q. refl) (λ g d. refl) (λ g d. refl) (λ g d. refl)
+      sound = sound_after fields new (with_word (h - 1) 5 x t) s l b e
+          (kept_ordered t w (λ q. refl) (λ q. refl) (λ q. refl) (λ g d. refl) (λ g d. refl) (λ g d. refl)
           no_page s.ordered (blank_put t.word t.ever_used (h - 1) 5 x (first_used t s.ordered h d) s.ordered.unused));
       says = sym k;
       tags = ap (λ m. tag_by m.word) e ∙ (rw k (λ i g. tag_put t s.ordered h x d g i));
@@ -181,7 +182,8 @@ word_says fields value new v s l b p f x k low high e =
     let ws : (q g : ℕ) → word_by w q g ≡ words_set fields p f x q g = (λ q g. rw (k, m) (written_words t s.ordered p f x k low up q g)) in
     let says : WordSays fields new p f x = record {
       sound = sound_after fields new (with_word p f x t) s l b e (kept_ordered t w (λ q. o q 1 (omega arith)) (λ q. o q 0 (omega arith)) (λ q. o q
-          2 (omega arith)) (λ h d. a h 3 d) (λ h d. a h 4 d) (λ h d. a h 6 d) no_page s.ordered (blank_put t.word t.ever_used p f x (taken_used t s.ordered p k) s.ordered.unused));
+          2 (omega arith)) (λ h d. a h 3 d) (λ h d. a h 4 d) (λ h d. a h 6 d) no_page s.ordered
+          (blank_put t.word t.ever_used p f x (taken_used t s.ordered p k) s.ordered.unused));
       words = ap (λ n. word_by n.word) e ∙ (λ i q g. ws q g i);
       holds = ap holdings_of e ∙ kept_holds t w (λ q. o q 1 (omega arith)) (λ q. o q 0 (omega arith)) (λ q. o q 2 (omega arith)) (λ h d. a h 3 d)
           (λ h d. a h 4 d) (λ h d. a h 6 d);

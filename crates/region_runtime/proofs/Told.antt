@@ -166,7 +166,8 @@ module _ (fields value new : Pooled) (view : fields ≡ value) (s : IsSound fiel
           let e' : shape_of new ≡ with_page h (next_page t) room (without_page t) = e ∙ ap (λ k. with_page h k room (without_page t)) n in
           subst (λ k. PlaceSays value new h bytes (arena_base + 4096 * k)) (sym n)
           (told (with_page h (next_page t) room (without_page t)) (arena_base + 4096 * next_page t) e'
-          (single true short_of (with_page h (next_page t) room (without_page t)).ever_used (grown_used (next_page t) ∙ used_taken t)) (page_placed t s.ordered h bytes room live short rounded needs f))
+          (single true short_of (with_page h (next_page t) room (without_page t)).ever_used (grown_used (next_page t) ∙ used_taken t))
+          (page_placed t s.ordered h bytes room live short rounded needs f))
         where
           grown_used : (p : ℕ) → (with_page h p room (without_page t)).ever_used ≡ (without_page t).ever_used
           grown_used p = by_heap (nat_eq h 0)

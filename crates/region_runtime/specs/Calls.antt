@@ -1,4 +1,4 @@
--- What the pool's calls say, in the words of the laws of every store.
+-- Believed: what the pool's calls say, in the words of the laws of every store.
 use Rattle.std.specs.Prelude.{◌≡◌, Option, Some, None, ℕ, ◌<◌, ◌≤◌, true, false, ◌&&◌, nat_eq, if◌then◌else◌, Result, Ok, Err}
 use Rattle.arena_laws.specs.declared.refusal.StoreRefusal.{StoreRefusal}
 use Rattle.arena_laws.specs.declared.refusal.StoreRefusal.TheVariants as store

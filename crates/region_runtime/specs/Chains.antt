@@ -1,4 +1,4 @@
--- Chains of pages through a word of each header. How many pages a chain has is known beside it.
+-- Believed: chains of pages through a word of each header. How many pages a chain has is known beside it.
 use Rattle.std.specs.Prelude.{ℕ, zero, suc, List, [], ◌∷◌, nat_eq, if◌then◌else◌}
 
 -- the given number of pages, from one on along the links

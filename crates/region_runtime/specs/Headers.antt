@@ -1,5 +1,6 @@
--- What the words of the headers say. `word p f` is the word of page p at field f.
-use Rattle.std.specs.Prelude.{◌≡◌, ◌≤◌, Option, Some, None, ℕ, zero, suc, ◌+◌, ◌-◌, ◌*◌, ◌/◌, Bool, ◌&&◌, List, length, slice_index, nat_eq, nat_lt, if◌then◌else◌}
+-- Believed: what the words of the headers say. `word p f` is the word of page p at field f.
+use Rattle.std.specs.Prelude.{◌≡◌, ◌≤◌, Option, Some, None, ℕ, zero, suc, ◌+◌, ◌-◌, ◌*◌, ◌/◌, Bool, ◌&&◌, List, length, slice_index, nat_eq, nat_lt}
+use Rattle.std.specs.Prelude.{if◌then◌else◌}
 use Rattle.region_runtime.specs.Chains.{follow, times}
 
 -- the word of a page at a field from 0 to 15, and 0 elsewhere

@@ -1,4 +1,4 @@
--- What a pool's words and bytes stand for.
+-- Believed: what a pool's words and bytes stand for.
 use Rattle.std.specs.Prelude.{
   ◌≡◌,
   Option,

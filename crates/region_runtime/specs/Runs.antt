@@ -1,4 +1,4 @@
--- A run: neighbouring pages that were never used join the heap or a live region, one by one.
+-- View of code: a run: neighbouring pages that were never used join the heap or a live region, one by one.
 use Rattle.std.specs.Prelude.{◌≡◌, ℕ, ◌+◌, ◌-◌}
 use Rattle.arena_laws.specs.declared.owner.Owner.TheVariants.{Region}
 use Rattle.arena_laws.specs.Counts.{put}

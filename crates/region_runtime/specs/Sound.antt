@@ -1,4 +1,4 @@
--- What is true of every pool.
+-- View of code: what is true of every pool.
 use Rattle.std.specs.Prelude.{◌≡◌, ℕ, ◌+◌, ◌-◌, ◌%◌, ◌<◌, ◌≤◌, true, List, nat_lt, if◌then◌else◌}
 use Rattle.raw_pages.specs.Raw.{IsWhole}
 use Rattle.region_runtime.specs.Chains.{follow, times, last_or}

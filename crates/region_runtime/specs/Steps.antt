@@ -1,4 +1,4 @@
--- What the private functions make of a pool's shape.
+-- View of code: what the private functions make of a pool's shape.
 use Rattle.std.specs.Prelude.{ℕ, ◌+◌, ◌-◌, nat_eq, nat_lt, if◌then◌else◌}
 use Rattle.region_runtime.specs.declared.book.Book.{Book}
 use Rattle.region_runtime.specs.Headers.{put_word, newest_of, count_of, heap_mark, taken_mark}

@@ -1,4 +1,4 @@
--- How many pages were ever used, and how many header words were read or written, after a call.
+-- Believed: how many pages were ever used, and how many header words were read or written, after a call.
 use Rattle.arena_laws.specs.Counts.{block_needs_page, is_large, run_of}
 use Rattle.std.specs.Prelude.{ℕ, ◌+◌, ◌-◌, ◌*◌, ◌≤◌, Bool, nat_eq, nat_lt, if◌then◌else◌}
 use Rattle.arena_laws.specs.Holdings.{Holdings}

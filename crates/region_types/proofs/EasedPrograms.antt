@@ -7,7 +7,8 @@ use Rattle.source_typing.proofs.Inversion.{both_none, none_is, none_of_both}
 use Rattle.source_typing.proofs.SameTags.{SameTags}
 use Rattle.source_typing.specs.Answers.{effect_fault, type_fault}
 use Rattle.source_typing.specs.Faults.{earliest, type_rule}
-use Rattle.source_typing.specs.Programs.{all_tag_faults, builtins, entries, faults_with, item_faults, items_from, judged_tags, main_found, second_names, size_faults, tables_of, typing_faults}
+use Rattle.source_typing.specs.Programs.{all_tag_faults, builtins, entries, faults_with, item_faults, items_from, judged_tags, main_found, second_names}
+use Rattle.source_typing.specs.Programs.{size_faults, tables_of, typing_faults}
 use Rattle.source_typing.specs.Scope.{at_item}
 use Rattle.source_typing.specs.Tables.{Entry, OfBuiltin, OfFunction, OfOther, OfTag, OfValue, Tables, Tag, as_tag, find}
 use Rattle.source_typing.specs.Types.{same_bool}

@@ -1,4 +1,4 @@
--- The first faults of a program, by the rules of `source_typing`.
+-- View of code: the first faults of a program, by the rules of `source_typing`.
 use Rattle.std.specs.Prelude.{◌≡◌, Option}
 use Rattle.cyc_tree.specs.Tree.{Program}
 use Rattle.source_typing.specs.Answers.{effect_fault, type_fault}

@@ -18,7 +18,8 @@ is_apart (r ∷ rs) = list_all (are_apart r) rs && is_apart rs
 -- what both rows look at in a word of both
 shared_bits : (w : ℕ) (r s : Row) → Matches w r → Matches w s → bit_and r.value s.mask ≡ bit_and s.value r.mask
 shared_bits w r s a b =
-    ap (λ v. bit_and v s.mask) (sym a) ∙ and_assoc s.mask w r.mask ∙ ap (bit_and w) (and_comm r.mask s.mask) ∙ sym (and_assoc r.mask w s.mask) ∙ ap (λ v. bit_and v r.mask) b
+    ap (λ v. bit_and v s.mask) (sym a) ∙ and_assoc s.mask w r.mask ∙ ap (bit_and w) (and_comm r.mask s.mask) ∙ sym (and_assoc r.mask w s.mask)
+    ∙ ap (λ v. bit_and v r.mask) b
 
 apart : (r s : Row) → are_apart r s ≡ true → AreApart r s
 apart r s test w a b =

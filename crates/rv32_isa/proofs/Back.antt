@@ -39,7 +39,8 @@ s_back v w fits e =
 b_back : (v w : ℕ) → w < 2 ^ 32 → bit_and w 0x707f ≡ v → assembled (BType v (rs1 w) (rs2 w) (b_immediate w)) ≡ w
 b_back v w fits e =
     let kept : bit_and w 0x707f ≡ (w / 4096 % 8) * 4096 + w % 128 = mask_funct3 w in
-    let back : unsigned 13 (b_immediate w) ≡ bits w 31 31 * 2 ^ 12 + bits w 7 7 * 2 ^ 11 + bits w 30 25 * 2 ^ 5 + bits w 11 8 * 2 = unsigned-signed_13 (bits w 31 31 * 2 ^ 12 + bits w 7 7 * 2 ^ 11 + bits w 30 25 * 2 ^ 5 + bits w 11 8 * 2) (omega arith) in
+    let back : unsigned 13 (b_immediate w) ≡ bits w 31 31 * 2 ^ 12 + bits w 7 7 * 2 ^ 11 + bits w 30 25 * 2 ^ 5 + bits w 11 8 * 2 =
+    unsigned-signed_13 (bits w 31 31 * 2 ^ 12 + bits w 7 7 * 2 ^ 11 + bits w 30 25 * 2 ^ 5 + bits w 11 8 * 2) (omega arith) in
     rw back (omega arith)
 
 u_back : (v w : ℕ) → w < 2 ^ 32 → bit_and w 0x7f ≡ v → assembled (UType v (rd w) (bits w 31 12)) ≡ w
@@ -48,7 +49,8 @@ u_back v w fits e = let kept : bit_and w 0x7f ≡ w % 128 = mask_opcode w in ome
 j_back : (v w : ℕ) → w < 2 ^ 32 → bit_and w 0x7f ≡ v → assembled (JType v (rd w) (j_immediate w)) ≡ w
 j_back v w fits e =
     let kept : bit_and w 0x7f ≡ w % 128 = mask_opcode w in
-    let back : unsigned 21 (j_immediate w) ≡ bits w 31 31 * 2 ^ 20 + bits w 19 12 * 2 ^ 12 + bits w 20 20 * 2 ^ 11 + bits w 30 21 * 2 = unsigned-signed_21 (bits w 31 31 * 2 ^ 20 + bits w 19 12 * 2 ^ 12 + bits w 20 20 * 2 ^ 11 + bits w 30 21 * 2) (omega arith) in
+    let back : unsigned 21 (j_immediate w) ≡ bits w 31 31 * 2 ^ 20 + bits w 19 12 * 2 ^ 12 + bits w 20 20 * 2 ^ 11 + bits w 30 21 * 2 =
+    unsigned-signed_21 (bits w 31 31 * 2 ^ 20 + bits w 19 12 * 2 ^ 12 + bits w 20 20 * 2 ^ 11 + bits w 30 21 * 2) (omega arith) in
     rw back (omega arith)
 
 none_back : (v w : ℕ) → w < 2 ^ 32 → bit_and w 0xffffffff ≡ v → v ≡ w

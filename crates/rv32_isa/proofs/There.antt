@@ -1,11 +1,14 @@
 use Rattle.std.proofs.Common.{◌≡◌, ℕ, ℤ, ◌+◌, ◌*◌, ◌/◌, ◌%◌, ◌^◌, ◌∙◌, sym, ap, refl, arith, lit<}
 use Rattle.std.specs.Prelude.{Some}
 use Rattle.rv32_isa.specs.Numbers.{bits, signed, unsigned}
-use Rattle.rv32_isa.specs.Table.{rows, decoded, rd, rs1, rs2, i_immediate, s_immediate, b_immediate, j_immediate, r_format, i_format, fence_format, s_format, b_format, u_format, j_format}
+use Rattle.rv32_isa.specs.Table.{rows, decoded, rd, rs1, rs2, i_immediate, s_immediate, b_immediate, j_immediate, r_format, i_format, fence_format, s_format}
+use Rattle.rv32_isa.specs.Table.{b_format, u_format, j_format}
 use Rattle.rv32_isa.specs.Words.{RType, IType, SType, BType, UType, JType, FenceType, assembled, Fits, layout}
 use Rattle.rv32_isa.proofs.Fields.{first_agreeing, decoded_at, decoded_by_fields}
 use Rattle.rv32_isa.specs.declared.instruction.Instr.{Instr}
-use Rattle.rv32_isa.specs.declared.instruction.Instr.TheVariants.{Lui, Auipc, Jal, Jalr, Beq, Bne, Blt, Bge, Bltu, Bgeu, Lb, Lh, Lw, Lbu, Lhu, Sb, Sh, Sw, Addi, Slti, Sltiu, Xori, Ori, Andi, Slli, Srli, Srai, Add, Sub, Sll, Slt, Sltu, Xor, Srl, Sra, Or, And, Fence, Ecall, Ebreak, Mul, Mulh, Mulhsu, Mulhu, Div, Divu, Rem, Remu}
+use Rattle.rv32_isa.specs.declared.instruction.Instr.TheVariants.{Lui, Auipc, Jal, Jalr, Beq, Bne, Blt, Bge, Bltu, Bgeu, Lb, Lh, Lw, Lbu, Lhu, Sb, Sh, Sw, Addi}
+use Rattle.rv32_isa.specs.declared.instruction.Instr.TheVariants.{Slti, Sltiu, Xori, Ori, Andi, Slli, Srli, Srai, Add, Sub, Sll, Slt, Sltu, Xor, Srl, Sra, Or}
+use Rattle.rv32_isa.specs.declared.instruction.Instr.TheVariants.{And, Fence, Ecall, Ebreak, Mul, Mulh, Mulhsu, Mulhu, Div, Divu, Rem, Remu}
 
 -- a value under each mask
 abbrev IsBase7 : ℕ → Type 0
@@ -18,73 +21,88 @@ abbrev IsBase17 : ℕ → Type 0
 IsBase17 v = v / 33554432 % 128 * 33554432 + v / 4096 % 8 * 4096 + v % 128 ≡ v
 
 -- what the table reads from the word of a format
-r_there : (instr : ℕ → ℕ → ℕ → Instr) (v : ℕ) → IsBase17 v → ((w : ℕ) → first_agreeing (v % 128) (v / 4096 % 8) (v / 33554432 % 128) w rows ≡ Some (r_format instr w)) → (a b c : ℕ) → Fits (RType v a b c) → decoded (assembled (RType v a b c)) ≡ Some (instr a b c)
+r_there : (instr : ℕ → ℕ → ℕ → Instr) (v : ℕ) → IsBase17 v
+    → ((w : ℕ) → first_agreeing (v % 128) (v / 4096 % 8) (v / 33554432 % 128) w rows ≡ Some (r_format instr w)) → (a b c : ℕ) → Fits (RType v a b c)
+    → decoded (assembled (RType v a b c)) ≡ Some (instr a b c)
 r_there instr v base there a b c fit = go (assembled (RType v a b c)) refl where
   go : (w : ℕ) → w ≡ assembled (RType v a b c) → decoded w ≡ Some (instr a b c)
   go w e =
-      let known : first_agreeing (v % 128) (v / 4096 % 8) (v / 33554432 % 128) w rows ≡ decoded w = decoded_at w (v % 128) (v / 4096 % 8) (v / 33554432 % 128) (omega arith) (omega arith) (omega arith) (omega arith) in
+      let known : first_agreeing (v % 128) (v / 4096 % 8) (v / 33554432 % 128) w rows ≡ decoded w = decoded_at w (v % 128) (v / 4096 % 8) (v / 33554432 % 128)
+      (omega arith) (omega arith) (omega arith) (omega arith) in
       let ea : rd w ≡ a = omega arith in
       let eb : rs1 w ≡ b = omega arith in
       let ec : rs2 w ≡ c = omega arith in
       sym known ∙ there w ∙ rw (ea, eb, ec) refl
 
-fence_there : (instr : ℕ → ℕ → ℕ → Instr) (v : ℕ) → IsBase10 v → ((w f : ℕ) → first_agreeing (v % 128) (v / 4096 % 8) f w rows ≡ Some (fence_format instr w)) → (a b n : ℕ) → Fits (FenceType v a b n) → decoded (assembled (FenceType v a b n)) ≡ Some (instr a b n)
+fence_there : (instr : ℕ → ℕ → ℕ → Instr) (v : ℕ) → IsBase10 v → ((w f : ℕ) → first_agreeing (v % 128) (v / 4096 % 8) f w rows ≡ Some (fence_format instr w))
+    → (a b n : ℕ) → Fits (FenceType v a b n) → decoded (assembled (FenceType v a b n)) ≡ Some (instr a b n)
 fence_there instr v base there a b n fit = go (assembled (FenceType v a b n)) refl where
   go : (w : ℕ) → w ≡ assembled (FenceType v a b n) → decoded w ≡ Some (instr a b n)
   go w e =
-      let known : first_agreeing (v % 128) (v / 4096 % 8) (w / 33554432) w rows ≡ decoded w = decoded_at w (v % 128) (v / 4096 % 8) (w / 33554432) (omega arith) (omega arith) (omega arith) refl in
+      let known : first_agreeing (v % 128) (v / 4096 % 8) (w / 33554432) w rows ≡ decoded w = decoded_at w (v % 128) (v / 4096 % 8) (w / 33554432) (omega arith)
+      (omega arith) (omega arith) refl in
       let ea : rd w ≡ a = omega arith in
       let eb : rs1 w ≡ b = omega arith in
       let en : bits w 31 20 ≡ n = omega arith in
       sym known ∙ there w (w / 33554432) ∙ rw (ea, eb, en) refl
 
-i_there : (instr : ℕ → ℕ → ℤ → Instr) (v : ℕ) → IsBase10 v → ((w f : ℕ) → first_agreeing (v % 128) (v / 4096 % 8) f w rows ≡ Some (i_format instr w)) → (a b : ℕ) (z : ℤ) → Fits (IType v a b z) → decoded (assembled (IType v a b z)) ≡ Some (instr a b z)
+i_there : (instr : ℕ → ℕ → ℤ → Instr) (v : ℕ) → IsBase10 v → ((w f : ℕ) → first_agreeing (v % 128) (v / 4096 % 8) f w rows ≡ Some (i_format instr w))
+    → (a b : ℕ) (z : ℤ) → Fits (IType v a b z) → decoded (assembled (IType v a b z)) ≡ Some (instr a b z)
 i_there instr v base there a b z fit = go (assembled (IType v a b z)) refl (unsigned 12 z) refl where
   go : (w : ℕ) → w ≡ assembled (IType v a b z) → (u : ℕ) → u ≡ unsigned 12 z → decoded w ≡ Some (instr a b z)
   go w e u eu =
-      let known : first_agreeing (v % 128) (v / 4096 % 8) (w / 33554432) w rows ≡ decoded w = decoded_at w (v % 128) (v / 4096 % 8) (w / 33554432) (omega arith) (omega arith) (omega arith) refl in
+      let known : first_agreeing (v % 128) (v / 4096 % 8) (w / 33554432) w rows ≡ decoded w = decoded_at w (v % 128) (v / 4096 % 8) (w / 33554432) (omega arith)
+      (omega arith) (omega arith) refl in
       let ea : rd w ≡ a = omega arith in
       let eb : rs1 w ≡ b = omega arith in
       let en : bits w 31 20 ≡ unsigned 12 z = omega arith in
       let ez : i_immediate w ≡ z = ap (signed 12) en ∙ fit.2.1 in
       sym known ∙ there w (w / 33554432) ∙ rw (ea, eb, ez) refl
 
-s_there : (instr : ℕ → ℕ → ℤ → Instr) (v : ℕ) → IsBase10 v → ((w f : ℕ) → first_agreeing (v % 128) (v / 4096 % 8) f w rows ≡ Some (s_format instr w)) → (b c : ℕ) (z : ℤ) → Fits (SType v b c z) → decoded (assembled (SType v b c z)) ≡ Some (instr b c z)
+s_there : (instr : ℕ → ℕ → ℤ → Instr) (v : ℕ) → IsBase10 v → ((w f : ℕ) → first_agreeing (v % 128) (v / 4096 % 8) f w rows ≡ Some (s_format instr w))
+    → (b c : ℕ) (z : ℤ) → Fits (SType v b c z) → decoded (assembled (SType v b c z)) ≡ Some (instr b c z)
 s_there instr v base there b c z fit = go (assembled (SType v b c z)) refl where
   go : (w : ℕ) → w ≡ assembled (SType v b c z) → decoded w ≡ Some (instr b c z)
   go w e =
-      let known : first_agreeing (v % 128) (v / 4096 % 8) (w / 33554432) w rows ≡ decoded w = decoded_at w (v % 128) (v / 4096 % 8) (w / 33554432) (omega arith) (omega arith) (omega arith) refl in
+      let known : first_agreeing (v % 128) (v / 4096 % 8) (w / 33554432) w rows ≡ decoded w = decoded_at w (v % 128) (v / 4096 % 8) (w / 33554432) (omega arith)
+      (omega arith) (omega arith) refl in
       let eb : rs1 w ≡ b = omega arith in
       let ec : rs2 w ≡ c = omega arith in
       let en : bits w 31 25 * 2 ^ 5 + bits w 11 7 ≡ unsigned 12 z = omega arith in
       let ez : s_immediate w ≡ z = ap (signed 12) en ∙ fit.2.1 in
       sym known ∙ there w (w / 33554432) ∙ rw (eb, ec, ez) refl
 
-b_there : (instr : ℕ → ℕ → ℤ → Instr) (v : ℕ) → IsBase10 v → ((w f : ℕ) → first_agreeing (v % 128) (v / 4096 % 8) f w rows ≡ Some (b_format instr w)) → (b c : ℕ) (z : ℤ) → Fits (BType v b c z) → decoded (assembled (BType v b c z)) ≡ Some (instr b c z)
+b_there : (instr : ℕ → ℕ → ℤ → Instr) (v : ℕ) → IsBase10 v → ((w f : ℕ) → first_agreeing (v % 128) (v / 4096 % 8) f w rows ≡ Some (b_format instr w))
+    → (b c : ℕ) (z : ℤ) → Fits (BType v b c z) → decoded (assembled (BType v b c z)) ≡ Some (instr b c z)
 b_there instr v base there b c z fit = go (assembled (BType v b c z)) refl where
   go : (w : ℕ) → w ≡ assembled (BType v b c z) → decoded w ≡ Some (instr b c z)
   go w e =
-      let known : first_agreeing (v % 128) (v / 4096 % 8) (w / 33554432) w rows ≡ decoded w = decoded_at w (v % 128) (v / 4096 % 8) (w / 33554432) (omega arith) (omega arith) (omega arith) refl in
+      let known : first_agreeing (v % 128) (v / 4096 % 8) (w / 33554432) w rows ≡ decoded w = decoded_at w (v % 128) (v / 4096 % 8) (w / 33554432) (omega arith)
+      (omega arith) (omega arith) refl in
       let eb : rs1 w ≡ b = omega arith in
       let ec : rs2 w ≡ c = omega arith in
       let en : bits w 31 31 * 2 ^ 12 + bits w 7 7 * 2 ^ 11 + bits w 30 25 * 2 ^ 5 + bits w 11 8 * 2 ≡ unsigned 13 z = omega arith in
       let ez : b_immediate w ≡ z = ap (signed 13) en ∙ fit.2.1 in
       sym known ∙ there w (w / 33554432) ∙ rw (eb, ec, ez) refl
 
-u_there : (instr : ℕ → ℕ → Instr) (v : ℕ) → IsBase7 v → ((w f g : ℕ) → first_agreeing (v % 128) f g w rows ≡ Some (u_format instr w)) → (a n : ℕ) → Fits (UType v a n) → decoded (assembled (UType v a n)) ≡ Some (instr a n)
+u_there : (instr : ℕ → ℕ → Instr) (v : ℕ) → IsBase7 v → ((w f g : ℕ) → first_agreeing (v % 128) f g w rows ≡ Some (u_format instr w)) → (a n : ℕ)
+    → Fits (UType v a n) → decoded (assembled (UType v a n)) ≡ Some (instr a n)
 u_there instr v base there a n fit = go (assembled (UType v a n)) refl where
   go : (w : ℕ) → w ≡ assembled (UType v a n) → decoded w ≡ Some (instr a n)
   go w e =
-      let known : first_agreeing (v % 128) (w / 4096 % 8) (w / 33554432) w rows ≡ decoded w = decoded_at w (v % 128) (w / 4096 % 8) (w / 33554432) (omega arith) (omega arith) refl refl in
+      let known : first_agreeing (v % 128) (w / 4096 % 8) (w / 33554432) w rows ≡ decoded w = decoded_at w (v % 128) (w / 4096 % 8) (w / 33554432) (omega arith)
+      (omega arith) refl refl in
       let ea : rd w ≡ a = omega arith in
       let en : bits w 31 12 ≡ n = omega arith in
       sym known ∙ there w (w / 4096 % 8) (w / 33554432) ∙ rw (ea, en) refl
 
-j_there : (instr : ℕ → ℤ → Instr) (v : ℕ) → IsBase7 v → ((w f g : ℕ) → first_agreeing (v % 128) f g w rows ≡ Some (j_format instr w)) → (a : ℕ) (z : ℤ) → Fits (JType v a z) → decoded (assembled (JType v a z)) ≡ Some (instr a z)
+j_there : (instr : ℕ → ℤ → Instr) (v : ℕ) → IsBase7 v → ((w f g : ℕ) → first_agreeing (v % 128) f g w rows ≡ Some (j_format instr w)) → (a : ℕ) (z : ℤ)
+    → Fits (JType v a z) → decoded (assembled (JType v a z)) ≡ Some (instr a z)
 j_there instr v base there a z fit = go (assembled (JType v a z)) refl where
   go : (w : ℕ) → w ≡ assembled (JType v a z) → decoded w ≡ Some (instr a z)
   go w e =
-      let known : first_agreeing (v % 128) (w / 4096 % 8) (w / 33554432) w rows ≡ decoded w = decoded_at w (v % 128) (w / 4096 % 8) (w / 33554432) (omega arith) (omega arith) refl refl in
+      let known : first_agreeing (v % 128) (w / 4096 % 8) (w / 33554432) w rows ≡ decoded w = decoded_at w (v % 128) (w / 4096 % 8) (w / 33554432) (omega arith)
+      (omega arith) refl refl in
       let ea : rd w ≡ a = omega arith in
       let en : bits w 31 31 * 2 ^ 20 + bits w 19 12 * 2 ^ 12 + bits w 20 20 * 2 ^ 11 + bits w 30 21 * 2 ≡ unsigned 21 z = omega arith in
       let ez : j_immediate w ≡ z = ap (signed 21) en ∙ fit.1.1 in

@@ -1,8 +1,10 @@
--- The assembler's text of the instructions, with numbers decimal and no pseudoinstructions.
+-- View of code: the assembler's text of the instructions, with numbers decimal and no pseudoinstructions.
 use Rattle.std.specs.Prelude.{ℕ, ℤ, ◌%◌, List, ◌++◌, codes, nat_eq, if◌then◌else◌}
 use Rattle.std.specs.Fmt.{decimal, signed_decimal}
 use Rattle.rv32_isa.specs.declared.instruction.Instr.{Instr}
-use Rattle.rv32_isa.specs.declared.instruction.Instr.TheVariants.{Lui, Auipc, Jal, Jalr, Beq, Bne, Blt, Bge, Bltu, Bgeu, Lb, Lh, Lw, Lbu, Lhu, Sb, Sh, Sw, Addi, Slti, Sltiu, Xori, Ori, Andi, Slli, Srli, Srai, Add, Sub, Sll, Slt, Sltu, Xor, Srl, Sra, Or, And, Fence, Ecall, Ebreak, Mul, Mulh, Mulhsu, Mulhu, Div, Divu, Rem, Remu}
+use Rattle.rv32_isa.specs.declared.instruction.Instr.TheVariants.{Lui, Auipc, Jal, Jalr, Beq, Bne, Blt, Bge, Bltu, Bgeu, Lb, Lh, Lw, Lbu, Lhu, Sb, Sh, Sw, Addi}
+use Rattle.rv32_isa.specs.declared.instruction.Instr.TheVariants.{Slti, Sltiu, Xori, Ori, Andi, Slli, Srli, Srai, Add, Sub, Sll, Slt, Sltu, Xor, Srl, Sra, Or}
+use Rattle.rv32_isa.specs.declared.instruction.Instr.TheVariants.{And, Fence, Ecall, Ebreak, Mul, Mulh, Mulhsu, Mulhu, Div, Divu, Rem, Remu}
 use Rattle.rv32_isa.specs.Words.{Layout, RType, IType, SType, BType, UType, JType, FenceType, Alone}
 use Rattle.rv32_isa.specs.declared.text.Operands.{Operands}
 use Rattle.rv32_isa.specs.declared.text.Operands.TheVariants.{Upper, Jump, Address, Branch, Immediate, Shift, Bits, Registers, Nothing}

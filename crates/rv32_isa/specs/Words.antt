@@ -1,10 +1,11 @@
--- The word of an instruction, put together from its operands: RISC-V Unprivileged ISA 20191213,
--- chapter RV32I, sections Base Instruction Formats and Immediate Encoding Variants. `encode` is
--- proved against these definitions, and these against the table.
+-- Believed: the word of an instruction, put together from its operands: RISC-V Unprivileged ISA 20191213, chapter RV32I, sections Base Instruction Formats and
+-- Immediate Encoding Variants. `encode` is proved against these definitions, and these against the table.
 use Rattle.std.specs.Prelude.{◌≡◌, ℕ, ℤ, ◌+◌, ◌*◌, ◌/◌, ◌%◌, ◌^◌, ◌<◌}
 use Rattle.rv32_isa.specs.Numbers.{signed, unsigned}
 use Rattle.rv32_isa.specs.declared.instruction.Instr.{Instr}
-use Rattle.rv32_isa.specs.declared.instruction.Instr.TheVariants.{Lui, Auipc, Jal, Jalr, Beq, Bne, Blt, Bge, Bltu, Bgeu, Lb, Lh, Lw, Lbu, Lhu, Sb, Sh, Sw, Addi, Slti, Sltiu, Xori, Ori, Andi, Slli, Srli, Srai, Add, Sub, Sll, Slt, Sltu, Xor, Srl, Sra, Or, And, Fence, Ecall, Ebreak, Mul, Mulh, Mulhsu, Mulhu, Div, Divu, Rem, Remu}
+use Rattle.rv32_isa.specs.declared.instruction.Instr.TheVariants.{Lui, Auipc, Jal, Jalr, Beq, Bne, Blt, Bge, Bltu, Bgeu, Lb, Lh, Lw, Lbu, Lhu, Sb, Sh, Sw, Addi}
+use Rattle.rv32_isa.specs.declared.instruction.Instr.TheVariants.{Slti, Sltiu, Xori, Ori, Andi, Slli, Srli, Srai, Add, Sub, Sll, Slt, Sltu, Xor, Srl, Sra, Or}
+use Rattle.rv32_isa.specs.declared.instruction.Instr.TheVariants.{And, Fence, Ecall, Ebreak, Mul, Mulh, Mulhsu, Mulhu, Div, Divu, Rem, Remu}
 
 -- a word's format, with the bits that name the instruction, and its operands
 pub data Layout : Type 0 where
@@ -22,9 +23,11 @@ abbrev pub assembled : Layout → ℕ
 assembled (RType value rd rs1 rs2) = value + rd * 2 ^ 7 + rs1 * 2 ^ 15 + rs2 * 2 ^ 20
 assembled (IType value rd rs1 imm) = value + rd * 2 ^ 7 + rs1 * 2 ^ 15 + unsigned 12 imm * 2 ^ 20
 assembled (SType value rs1 rs2 imm) = value + unsigned 12 imm % 2 ^ 5 * 2 ^ 7 + rs1 * 2 ^ 15 + rs2 * 2 ^ 20 + unsigned 12 imm / 2 ^ 5 * 2 ^ 25
-assembled (BType value rs1 rs2 offset) = value + unsigned 13 offset / 2 ^ 11 % 2 * 2 ^ 7 + unsigned 13 offset / 2 % 2 ^ 4 * 2 ^ 8 + rs1 * 2 ^ 15 + rs2 * 2 ^ 20 + unsigned 13 offset / 2 ^ 5 % 2 ^ 6 * 2 ^ 25 + unsigned 13 offset / 2 ^ 12 * 2 ^ 31
+assembled (BType value rs1 rs2 offset) = value + unsigned 13 offset / 2 ^ 11 % 2 * 2 ^ 7 + unsigned 13 offset / 2 % 2 ^ 4 * 2 ^ 8 + rs1 * 2 ^ 15 + rs2 * 2 ^ 20
+    + unsigned 13 offset / 2 ^ 5 % 2 ^ 6 * 2 ^ 25 + unsigned 13 offset / 2 ^ 12 * 2 ^ 31
 assembled (UType value rd imm) = value + rd * 2 ^ 7 + imm * 2 ^ 12
-assembled (JType value rd offset) = value + rd * 2 ^ 7 + unsigned 21 offset / 2 ^ 12 % 2 ^ 8 * 2 ^ 12 + unsigned 21 offset / 2 ^ 11 % 2 * 2 ^ 20 + unsigned 21 offset / 2 % 2 ^ 10 * 2 ^ 21 + unsigned 21 offset / 2 ^ 20 * 2 ^ 31
+assembled (JType value rd offset) = value + rd * 2 ^ 7 + unsigned 21 offset / 2 ^ 12 % 2 ^ 8 * 2 ^ 12 + unsigned 21 offset / 2 ^ 11 % 2 * 2 ^ 20
+    + unsigned 21 offset / 2 % 2 ^ 10 * 2 ^ 21 + unsigned 21 offset / 2 ^ 20 * 2 ^ 31
 assembled (FenceType value rd rs1 upper) = value + rd * 2 ^ 7 + rs1 * 2 ^ 15 + upper * 2 ^ 20
 assembled (Alone value) = value
 

@@ -1,7 +1,8 @@
 //! The text of instructions, as an assembler reads them.
 ghost use Rattle.std.specs.Prelude.{◌≡◌, Some};
 ghost use Rattle.std.specs.Fmt.{DisplaysOnOk};
-ghost use Rattle.rv32_isa.specs.Text.{register_text, registers_text, number_text, signed_text, memory_text, upper_text, jump_text, parts_text, operands_in, instr_text};
+ghost use Rattle.rv32_isa.specs.Text.{register_text, registers_text, number_text, signed_text, memory_text, upper_text, jump_text, parts_text, operands_in};
+ghost use Rattle.rv32_isa.specs.Text.{instr_text};
 ghost use Rattle.rv32_isa.specs.Words.{layout};
 
 use crate::immediates::{BranchOffset, JumpOffset, Signed12};

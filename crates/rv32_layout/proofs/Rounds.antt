@@ -97,7 +97,8 @@ none_shorter : (places : ℕ → ℕ) (at : ℕ) (lines : List Line) → code_le
 none_shorter places at [] = omega arith
 none_shorter places at (line ∷ lines) = omega (arith, no_shorter places at line, none_shorter places (at + size_of line) lines)
 
-pub round_grows : (places : ℕ → ℕ) (at : ℕ) (lines : List Line) → all_reach places at lines ≡ false → code_length lines < code_length (lengthened places at lines)
+pub round_grows : (places : ℕ → ℕ) (at : ℕ) (lines : List Line) → all_reach places at lines ≡ false
+    → code_length lines < code_length (lengthened places at lines)
 round_grows places at [] beyond = absurd (cc beyond)
 round_grows places at (line ∷ lines) beyond =
     by (placing.reaches places at line) refl beyond (λ others. round_grows places (at + size_of line) lines others)

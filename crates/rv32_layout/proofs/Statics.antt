@@ -26,7 +26,8 @@ whole_first l k j = part_first (shape_in (slice_get (layout_tree l).cells (k % l
 first_is_nothing : (l : Layout) (k j : ℕ) → IsNothing (whole_first l k j)
 first_is_nothing l k j = begins_with_nothing l.cells.items (k % length (layout_tree l).cells) j
 
-pub whole_zeros : (os : List ℕ) (l : Layout) (count : ℕ) → element_bytes os (layout_tree l).cells (whole_first l) 0 count ≡ zeros (count * cells_size l.cells.items)
+pub whole_zeros : (os : List ℕ) (l : Layout) (count : ℕ)
+    → element_bytes os (layout_tree l).cells (whole_first l) 0 count ≡ zeros (count * cells_size l.cells.items)
 whole_zeros os l count = elements_are_zeros os (whole_first l) (first_is_nothing l) 0 count l.cells.items
 
 -- ---- how many they are
@@ -54,7 +55,8 @@ data_more os at next d ds ends =
     ∙ omega (arith, zeros_long, length-append padding (datum_bytes os (datum_tree d) ++ rest), length-append (datum_bytes os (datum_tree d)) rest)
 
 -- the same, where the global is the first of those that are left
-pub data_of_rest : (os : List ℕ) (globals : List Datum) (d : Datum) (others : List Datum) (at next whole : ℕ) → globals ≡ d ∷ others → next ≡ rounded at + datum_size d
+pub data_of_rest : (os : List ℕ) (globals : List Datum) (d : Datum) (others : List Datum) (at next whole : ℕ) → globals ≡ d ∷ others
+    → next ≡ rounded at + datum_size d
     → at + length (data_bytes os at (map datum_tree globals)) ≡ whole → next + length (data_bytes os next (map datum_tree others)) ≡ whole
 data_of_rest os globals d others at next whole here ends so_far =
     data_more os at next d (map datum_tree others) ends ∙ ap (λ gs. at + length (data_bytes os at (map datum_tree gs))) (sym here) ∙ so_far
@@ -90,7 +92,8 @@ data_joined os old new low next d ds begins ends is =
     ap (λ x. old ++ x) (append_assoc padding here rest)
 
 -- the same, where the global is the first of those that are left
-pub rest_joined : (os : List ℕ) (globals : List Datum) (d : Datum) (others : List Datum) (old new : List ℕ) (low next : ℕ) (whole : List ℕ) → globals ≡ d ∷ others
+pub rest_joined : (os : List ℕ) (globals : List Datum) (d : Datum) (others : List Datum) (old new : List ℕ) (low next : ℕ) (whole : List ℕ)
+    → globals ≡ d ∷ others
     → low ≡ length old → next ≡ length new → new ≡ old ++ (zeros (rounded low - low) ++ datum_bytes os (datum_tree d))
     → old ++ data_bytes os low (map datum_tree globals) ≡ whole → new ++ data_bytes os next (map datum_tree others) ≡ whole
 rest_joined os globals d others old new low next whole here begins ends is so_far =

@@ -46,7 +46,8 @@ text_bytes os text small =
 -- ---- pointers
 
 -- a number's lowest 32 bits are its word
-word_bytes_same : (x y : ℕ) → x ≡ y % 2 ^ 32 → u32_bytes x ≡ (y + 0) % 2 ^ 8 ∷ (y + 0) / 2 ^ 8 % 2 ^ 8 ∷ (y + 0) / 2 ^ 16 % 2 ^ 8 ∷ (y + 0) / 2 ^ 24 % 2 ^ 8 ∷ []
+word_bytes_same : (x y : ℕ) → x ≡ y % 2 ^ 32
+    → u32_bytes x ≡ (y + 0) % 2 ^ 8 ∷ (y + 0) / 2 ^ 8 % 2 ^ 8 ∷ (y + 0) / 2 ^ 16 % 2 ^ 8 ∷ (y + 0) / 2 ^ 24 % 2 ^ 8 ∷ []
 word_bytes_same x y is =
     let first : x % 2 ^ 8 ≡ (y + 0) % 2 ^ 8 = omega (arith, is) in
     let second : x / 2 ^ 8 % 2 ^ 8 ≡ (y + 0) / 2 ^ 8 % 2 ^ 8 = omega (arith, is) in

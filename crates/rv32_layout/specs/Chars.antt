@@ -1,4 +1,4 @@
--- Strings.
+-- View of code: strings.
 use Rattle.std.specs.Prelude.{ℕ, ◌<◌, ◌^◌, List}
 use Rattle.std.specs.List.{AllByRecursion}
 

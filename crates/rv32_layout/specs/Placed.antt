@@ -1,4 +1,4 @@
--- Placed code: the instructions that the lines stand for, one after the other, each as its word.
+-- Believed: placed code: the instructions that the lines stand for, one after the other, each as its word.
 use Rattle.std.specs.Prelude.{◌≡◌, ℕ, ◌+◌, ◌^◌, ◌<◌, List, [], ◌∷◌, ◌++◌, Some}
 use Rattle.cyc_image.specs.Format.{u32_bytes}
 use Rattle.rv32_isa.specs.Table.{decoded}

@@ -1,4 +1,4 @@
--- What the parts of `place` say: where the table has a label, and what they append.
+-- View of code: what the parts of `place` say: where the table has a label, and what they append.
 use Rattle.std.specs.Prelude.{◌≡◌, ℕ, ◌+◌, ◌%◌, ◌≤◌, Bool, true, ◌&&◌, List, [], ◌∷◌, ◌++◌, nat_eq, if◌then◌else◌, unwrap_or}
 use Rattle.indexmap.specs.IndexMap.{get}
 use Rattle.rv32_isa.specs.declared.instruction.Instr.{Instr}

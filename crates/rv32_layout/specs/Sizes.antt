@@ -1,4 +1,4 @@
--- How many bytes globals and strings take, cell by cell.
+-- View of code: how many bytes globals and strings take, cell by cell.
 use Rattle.std.specs.Prelude.{ℕ, ◌+◌, ◌*◌, List, [], ◌∷◌, length}
 use Rattle.cyc_core.specs.declared.layout.CellLayout.{CellLayout}
 use Rattle.cyc_core.specs.declared.program.Datum.{Datum}

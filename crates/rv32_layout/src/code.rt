@@ -28,7 +28,8 @@ pub fn place(alloc: Global, labelled: &Labelled) -> Result<Code, LayoutFault>
     // the bytes are the words of the lines with short branches, and no others are
     ensures placed { IfOk result (λ code. ArePlaced (shortened (wide_in labelled.now.lines) labelled.now.lines) code.bytes.items) }
     ensures words { IfOk result (λ code. AreInstructions code.bytes.items) }
-    // no more bytes than those of the lines with short branches, and so than their words, where a conditional jump counts as two; none only where these are none
+    // no more bytes than those of the lines with short branches, and so than their words, where a conditional jump counts as two; none only where these are
+    // none
     ensures short { IfOk result (λ code. vec_len code.bytes ≤ code_length (shortened (wide_in labelled.now.lines) labelled.now.lines)) }
     ensures length { IfOk result (λ code. vec_len code.bytes ≤ code_length labelled.now.lines) }
     ensures some { IfOk result (λ code. 0 < code_length labelled.now.lines → 0 < vec_len code.bytes) }

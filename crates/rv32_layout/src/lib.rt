@@ -3,7 +3,8 @@
 //! `place` gives each line its words, and each jump and call its offset from where its label stands:
 //! each machine with the code has the lines. A conditional jump is a branch of one word where its label is in
 //! reach. The code is refused as too large only where it is over 1,048,576 bytes. `data` gives each global
-//! and string its bytes, whatever the program. `positions` says where in the code statements of the source begin. Stands on `rv32_select`, `cyc_core`, `rv32_isa`, `byteorder`,
+//! and string its bytes, whatever the program. `positions` says where in the code statements of the source begin. Stands on `rv32_select`, `cyc_core`,
+//! `rv32_isa`, `byteorder`,
 //! `indexmap` and `thiserror`, and its clauses on the definitions of `core_lines`, `rv32_machine` and
 //! `cyc_image`.
 #![tactic(auto)]

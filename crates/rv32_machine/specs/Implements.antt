@@ -1,7 +1,8 @@
--- When a machine does what a meaning says, whatever its store answers: it shows the same events and ends alike, as far as each of them goes; and where the store
--- or the stack has no room, it stops before the event that wanted it.
+-- Believed: when a machine does what a meaning says, whatever its store answers: it shows the same events and ends alike, as far as each of them goes; and
+-- where the store or the stack has no room, it stops before the event that wanted it.
 use Rattle.std.specs.Prelude.{◌≡◌, ℕ, ◌+◌, ◌<◌, ◌⊎◌, Bool, true, false, List, [], ◌∷◌, ◌++◌}
-use Rattle.cyc_words.specs.Events.{Event, SourceEvent, Visible, Called, Returned, visible, SourceEnding, Request, NewRegion, BlockIn, UniqueBlock, NewKey, MachineEnding}
+use Rattle.cyc_words.specs.Events.{Event, SourceEvent, Visible, Called, Returned, visible, SourceEnding, Request, NewRegion, BlockIn, UniqueBlock, NewKey}
+use Rattle.cyc_words.specs.Events.{MachineEnding}
 use Rattle.cyc_words.specs.Events as events
 use Rattle.arena_laws.specs.Lawful.{Answer}
 use Rattle.rv32_machine.specs.State.{State, Areas}
@@ -62,7 +63,8 @@ pub record IsCut (shown : List Event) (meant : List SourceEvent) (reason : List 
 
 -- ---- agreement
 
--- A run that is over has ended as the meaning does with so much fuel, with its events, or was cut; one that goes on has shown some of them, and so has one whose
+-- A run that is over has ended as the meaning does with so much fuel, with its events, or was cut; one that goes on has shown some of them, and so has one
+-- whose
 -- store lacked host memory. No run is at a fault. `bound` says of each function how many bytes its frame may take.
 abbrev pub AgreesIn : (List ℕ → ℕ) → Areas → MachineEnding → List Event → List SourceEvent → SourceEnding → Type 0
 AgreesIn bound n MachineEnding.Running shown meant ending = IsBeginning shown (visible meant)

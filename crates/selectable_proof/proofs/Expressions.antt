@@ -69,7 +69,8 @@ module _ (own n : ℕ) (w : World) (plain : IsPlainWorld w) where
       (global_lies n w.globals name around.globals)
 
   -- what a pointer that is taken leads to is no array
-  value_target : {blocks : List ℕ} (names : List Named) (around : Around blocks n w names) (e : Expression) → Takes w names e → IsTarget (static_shape w names e)
+  value_target : {blocks : List ℕ} (names : List Named) (around : Around blocks n w names) (e : Expression) → Takes w names e
+      → IsTarget (static_shape w names e)
   value_target {blocks = blocks} names around e h = taken_target (static_shape w names e) (shape_taken w names around.plain around.words e h)
 
   mutual
@@ -184,7 +185,8 @@ module _ (own n : ℕ) (w : World) (plain : IsPlainWorld w) where
     expression_names {blocks = blocks} names around _ d next h f = absurd h
 
     -- suffixes on a primary expression
-    primary_names : {blocks : List ℕ} (names : List Named) (around : Around blocks n w names) (suffixes : Suffixes) (s : Shape) (value pointer : ℕ → List Statement)
+    primary_names : {blocks : List ℕ} (names : List Named) (around : Around blocks n w names) (suffixes : Suffixes) (s : Shape) (value pointer : ℕ
+        → List Statement)
         (primary : Expression) (next : ℕ)
         → TakesSuffixes w names suffixes s (Takes w names primary) (TakesPlace w names primary) → next + length (suffix_values w names suffixes) ≤ own
         → (Takes w names primary → IsTarget s) → (Takes w names primary → (d : ℕ) → CodeNames blocks own n (value d))
@@ -226,7 +228,8 @@ module _ (own n : ℕ) (w : World) (plain : IsPlainWorld w) where
         suffixes_names names around others (member_behind w left field.text) next takes.1.1 f
         (behind_left blocks own n w plain left field.text h.target takes.1.0 h.value)
 
-    arguments_name : {blocks : List ℕ} (names : List Named) (around : Around blocks n w names) (shapes : List Shape) (es : Expressions) (d next : ℕ) → AllValues shapes
+    arguments_name : {blocks : List ℕ} (names : List Named) (around : Around blocks n w names) (shapes : List Shape) (es : Expressions) (d next : ℕ)
+        → AllValues shapes
         → TakesAll w names es
         → next + length (all_values w names es) ≤ own → CodeNames blocks own n (arguments_code w names shapes es d next)
     arguments_name {blocks = blocks} names around [] es d next values h f = tt
@@ -237,7 +240,8 @@ module _ (own n : ℕ) (w : World) (plain : IsPlainWorld w) where
         (both_name blocks own n _ _ (conversion_names blocks own n w plain s (static_shape w names e) d (taken_target s (value_taken s values.0)))
         (arguments_name names around ss es (d + words_in s) (next + length (expression_values w names e)) values.1 h.1 (omega (arith, f, many))))
 
-    links_name : {blocks : List ℕ} (names : List Named) (around : Around blocks n w names) (links : Links) (left : Shape) (d next : ℕ) → TakesLinks w names links
+    links_name : {blocks : List ℕ} (names : List Named) (around : Around blocks n w names) (links : Links) (left : Shape) (d next : ℕ)
+        → TakesLinks w names links
         → next + length (link_values w names links) ≤ own
         → CodeNames blocks own n (links_code w names links left d next)
     links_name {blocks = blocks} names around NoLinks left d next h f = tt
@@ -336,7 +340,8 @@ module _ (own n : ℕ) (w : World) (plain : IsPlainWorld w) where
         (Takes w names operand) h.0 (λ k. value_target names around operand k) (λ k. expression_names names around operand d (suc next) k (omega (arith, f))))
     whole_names {blocks = blocks} names around _ d next h f = absurd h
 
-    members_names : {blocks : List ℕ} (names : List Named) (around : Around blocks n w names) (ps : List Part) (arguments : Expressions) (d cells bytes next : ℕ)
+    members_names : {blocks : List ℕ} (names : List Named) (around : Around blocks n w names) (ps : List Part) (arguments : Expressions)
+        (d cells bytes next : ℕ)
         → AreObjects w.unions w.structs (part_shapes ps)
         → TakesMade w names ps arguments → next + length (made_values w names ps arguments) ≤ own
         → CodeNames blocks own n (members_code w names ps arguments d cells bytes next)
@@ -356,7 +361,8 @@ module _ (own n : ℕ) (w : World) (plain : IsPlainWorld w) where
         (omega (arith, f, many)))
 
   -- a value is stored to its place, be it given away or not
-  pub assign_names : {blocks : List ℕ} (names : List Named) (around : Around blocks n w names) (place value : Expression) (d next : ℕ) → TakesPlace w names place
+  pub assign_names : {blocks : List ℕ} (names : List Named) (around : Around blocks n w names) (place value : Expression) (d next : ℕ)
+      → TakesPlace w names place
       → Takes w names value → next + length (expression_values w names (Expression.Assign place value)) ≤ own
       → CodeNames blocks own n (expression_code w names (Expression.Assign place value) d next)
   assign_names {blocks = blocks} names around place value d next h g f =

@@ -16,7 +16,8 @@ use Rattle.source_lowering.specs.Programs.{local_shape, names_behind, block_shap
 use Rattle.source_lowering.specs.Programs.{declaration_code, ending_code, leaving_code, declaration_values, statement_values, item_values, case_values}
 use Rattle.source_lowering.specs.Programs.{default_values, RegionsAround, in_loop, in_switch, regions_with, side_of, statement_code, items_code, cases_code}
 use Rattle.source_lowering.specs.Programs.{default_code, initial_values}
-use Rattle.source_lowering.specs.Lowerable.{IsTarget, IsObject, IsVariable, IsWordShape, AreObjects, AreValues, Takes, TakesValue, TakesDeclaration, TakesStatement, TakesItems, TakesClauses}
+use Rattle.source_lowering.specs.Lowerable.{IsTarget, IsObject, IsVariable, IsWordShape, AreObjects, AreValues, Takes, TakesValue, TakesDeclaration}
+use Rattle.source_lowering.specs.Lowerable.{TakesStatement, TakesItems, TakesClauses}
 use Rattle.source_lowering.proofs.values.Integers.{value_object, object_target}
 use Rattle.source_lowering.proofs.expressions.Names.{IsPlainWorld}
 use Rattle.source_lowering.proofs.memory.ObjectShapes.{object_named}

@@ -1,4 +1,4 @@
--- What holds of the Core of all programs that lowering takes.
+-- Believed, for this crate's laws: what holds of the Core of all programs that lowering takes.
 use Rattle.cyc_tree.specs.Tree.{Program}
 use Rattle.core_meaning.specs.Selectable.{IsSelectable}
 use Rattle.source_lowering.specs.Lowerable.{IsLowerable}

@@ -1,5 +1,5 @@
--- What code of Core names beside its temporaries: locals of the blocks around it, unnamed values, and objects of the data; layouts are in order, and elements
--- have no more bytes than a word says.
+-- Believed, for this crate's laws: what code of Core names beside its temporaries: locals of the blocks around it, unnamed values, and objects of the data;
+-- layouts are in order, and elements have no more bytes than a word says.
 use Rattle.std.specs.Prelude.{ℕ, ◌≤◌, ◌<◌, ◌^◌, List, [], ◌∷◌, length}
 use Rattle.core_meaning.specs.Core.{
   Operation,

@@ -6,7 +6,8 @@ use Rattle.cyc_tree.specs.Tree.{RegionName, Member, Bound, Initial}
 use Rattle.source_grammar.specs.Phrases.{Tokens, IsRegion, Each, Behind}
 use Rattle.source_grammar.specs.TypeGrammar.{IsTyped}
 use Rattle.source_grammar.specs.StatementGrammar.{AreItems}
-use Rattle.source_grammar.specs.Grammar.{IsMember, AreMembers, IsStructure, IsConstant, IsInitial, AreParameters, MayBeListed, IsEffect, IsBound, AreBounds, IsItem}
+use Rattle.source_grammar.specs.Grammar.{IsMember, AreMembers, IsStructure, IsConstant, IsInitial, AreParameters, MayBeListed, IsEffect, IsBound, AreBounds}
+use Rattle.source_grammar.specs.Grammar.{IsItem}
 use Rattle.source_grammar.proofs.Shorter.{one_taken, keyword_taken, sign_taken, name_taken, string_taken, none_taken, region_shorter}
 use Rattle.source_grammar.proofs.Shorter.{listed_shorter, regions_shorter, type_shorter, count_shorter, Takes}
 

@@ -102,7 +102,17 @@ mutual
   statement_operands (tree.While at condition body) from to (a, b, word, (c, d, opened, tests, closed), is) =
       (expression_operands condition c d tests, statement_operands body b to is)
   statement_operands (tree.Switch at place NoClauses) from to is = absurd is
-  statement_operands (tree.Switch at place (MoreClauses first pattern body others)) from to (a, b, c, d, word, (e, f, opened, chooses, closed), brace, are, shut) =
+  statement_operands (tree.Switch at place (MoreClauses first pattern body others)) from to (
+    a,
+    b,
+    c,
+    d,
+    word,
+    (e, f, opened, chooses, closed),
+    brace,
+    are,
+    shut,
+  ) =
       (expression_operands place e f chooses, clauses_operands (MoreClauses first pattern body others) c d are)
   statement_operands (tree.Break at) from to is = tt
   statement_operands (tree.Continue at) from to is = tt
@@ -134,7 +144,8 @@ all_operands (tree.StructItem s ∷ items) from to (a, (b, word, (c, d, named, u
 all_operands (tree.UnionItem u ∷ items) from to (a, (b, c, sign, word, (d, e, named, under, has)), are) =
     (some_members u.members e a has, all_operands items a to are)
 all_operands (tree.GlobalItem g ∷ items) from to (a, is, are) = (tt, all_operands items a to are)
-all_operands (tree.FunctionItem f ∷ items) from to (a, (b, c, typed, named, (d, e, g, h, i, j, k, opened, takes, has, within, closed, begins, does, ends)), are) =
+all_operands (tree.FunctionItem f ∷ items) from to
+    (a, (b, c, typed, named, (d, e, g, h, i, j, k, opened, takes, has, within, closed, begins, does, ends)), are) =
     (items_operands f.body j k does, all_operands items a to are)
 
 pub has_operands : (p : Program) (tokens : Tokens) → IsProgram p tokens → HasOperands p

@@ -1,5 +1,5 @@
--- The grammar of expressions. A line in quotes is the production that the definition restates.
--- A phrase of one production may stand where one of another is asked for: what it binds as tells where.
+-- Believed: the grammar of expressions. A line in quotes is the production that the definition restates. A phrase of one production may stand where one of
+-- another is asked for: what it binds as tells where.
 use Rattle.std.specs.Prelude.{◌≡◌, ℕ, ◌≤◌, ◌<◌}
 use Rattle.cyc_lexer.specs.declared.token.Keyword.TheVariants as word
 use Rattle.cyc_lexer.specs.declared.token.Sign.{Sign}
@@ -9,7 +9,9 @@ use Rattle.cyc_tree.specs.declared.expression.Operator.{Operator}
 use Rattle.cyc_tree.specs.declared.expression.Operator.TheVariants as operator
 use Rattle.cyc_tree.specs.declared.expression.Prefix.{Prefix}
 use Rattle.cyc_tree.specs.declared.expression.Prefix.TheVariants as prefix
-use Rattle.cyc_tree.specs.Tree.{Expression, Number, Character, Text, Null, HeapRegion, UniqueRegion, Variable, Call, MakeUnion, NumElts, Grouped, Suffixed, Prefixed, New, NewIn, Chain, AllOf, AnyOf, Assign, Expressions, NoExpressions, MoreExpressions, Links, NoLinks, MoreLinks, Suffixes, NoSuffixes, Index, Dot, Arrow, Made, One, Array}
+use Rattle.cyc_tree.specs.Tree.{Expression, Number, Character, Text, Null, HeapRegion, UniqueRegion, Variable, Call, MakeUnion, NumElts, Grouped, Suffixed}
+use Rattle.cyc_tree.specs.Tree.{Prefixed, New, NewIn, Chain, AllOf, AnyOf, Assign, Expressions, NoExpressions, MoreExpressions, Links, NoLinks, MoreLinks}
+use Rattle.cyc_tree.specs.Tree.{Suffixes, NoSuffixes, Index, Dot, Arrow, Made, One, Array}
 use Rattle.source_grammar.specs.Phrases.{Tokens, IsOne, KeywordAt, SignAt, IsKeyword, IsSign, IsName, IsString, InParentheses}
 
 -- ---- what binds more
@@ -162,13 +164,15 @@ abbrev mutual
   pub AreLinks : ℕ → Links → Tokens → Tokens → Type 0
   AreLinks level NoLinks from to = from ≡ to
   AreLinks level (MoreLinks o operand others) from to =
-      (a : Tokens) × (b : Tokens) × (level_of o ≡ level) × (level < binds operand) × IsSign (operator_sign o) from a × IsExpression operand a b × AreLinks level others b to
+      (a : Tokens) × (b : Tokens) × (level_of o ≡ level) × (level < binds operand) × IsSign (operator_sign o) from a × IsExpression operand a b
+      × AreLinks level others b to
 
   -- { "[" expr "]" | "." Id | "->" Id }
   pub AreSuffixes : Suffixes → Tokens → Tokens → Type 0
   AreSuffixes NoSuffixes from to = from ≡ to
   AreSuffixes (Index index others) from to =
-      (a : Tokens) × (b : Tokens) × (c : Tokens) × IsSign sign.LeftBracket from a × IsExpression index a b × IsSign sign.RightBracket b c × AreSuffixes others c to
+      (a : Tokens) × (b : Tokens) × (c : Tokens) × IsSign sign.LeftBracket from a × IsExpression index a b × IsSign sign.RightBracket b c
+      × AreSuffixes others c to
   AreSuffixes (Dot member others) from to = (a : Tokens) × (b : Tokens) × IsSign sign.Dot from a × IsName member a b × AreSuffixes others b to
   AreSuffixes (Arrow member others) from to = (a : Tokens) × (b : Tokens) × IsSign sign.Arrow from a × IsName member a b × AreSuffixes others b to
 
@@ -176,5 +180,6 @@ abbrev mutual
   pub IsMade : Made → Tokens → Tokens → Type 0
   IsMade (One value) from to = (unary_level ≤ binds value) × IsExpression value from to
   IsMade (Array index count element) from to =
-      (a : Tokens) × (b : Tokens) × (c : Tokens) × (d : Tokens) × (e : Tokens) × (f : Tokens) × (g : Tokens) × IsSign sign.LeftBrace from a × IsKeyword word.For a b
+      (a : Tokens) × (b : Tokens) × (c : Tokens) × (d : Tokens) × (e : Tokens) × (f : Tokens) × (g : Tokens) × IsSign sign.LeftBrace from a
+      × IsKeyword word.For a b
       × IsName index b c × IsSign sign.Less c d × IsExpression count d e × IsSign sign.Colon e f × IsExpression element f g × IsSign sign.RightBrace g to

@@ -1,10 +1,11 @@
--- The grammar of programs. A line in quotes is the production that the definition restates.
+-- Believed: the grammar of programs. A line in quotes is the production that the definition restates.
 use Rattle.std.specs.Prelude.{◌≡◌, ◌⊎◌, ℕ, List, [], ◌∷◌, Option, Some, None}
 use Rattle.cyc_lexer.specs.declared.token.Keyword.TheVariants as word
 use Rattle.cyc_lexer.specs.declared.token.Sign.TheVariants as sign
 use Rattle.cyc_lexer.specs.declared.token.TokenKind.TheVariants as kind
 use Rattle.cyc_tree.specs.Tree as tree
-use Rattle.cyc_tree.specs.Tree.{RegionName, Member, Structure, Initial, Given, Global, Bound, Function, Item, StructItem, UnionItem, GlobalItem, FunctionItem, Program}
+use Rattle.cyc_tree.specs.Tree.{RegionName, Member, Structure, Initial, Given, Global, Bound, Function, Item, StructItem, UnionItem, GlobalItem, FunctionItem}
+use Rattle.cyc_tree.specs.Tree.{Program}
 use Rattle.source_grammar.specs.Phrases.{Tokens, IsOne, KeywordAt, SignAt, IsKeyword, IsSign, IsName, IsString, IsRegion, Each, Listed}
 use Rattle.source_grammar.specs.TypeGrammar.{AreRegions, IsType, IsTyped}
 use Rattle.source_grammar.specs.StatementGrammar.{IsCount, AreItems}
@@ -19,7 +20,8 @@ IsMember m from to = (a : Tokens) × IsTyped m from a × IsSign sign.Semicolon a
 abbrev pub AreMembers : List Member → Tokens → Tokens → Type 0
 AreMembers [] from to = ⊥
 AreMembers (m ∷ ms) from to =
-    (a : Tokens) × (b : Tokens) × (c : Tokens) × IsSign sign.LeftBrace from a × Each IsMember (m ∷ ms) a b × IsSign sign.RightBrace b c × IsSign sign.Semicolon c to
+    (a : Tokens) × (b : Tokens) × (c : Tokens) × IsSign sign.LeftBrace from a × Each IsMember (m ∷ ms) a b × IsSign sign.RightBrace b c
+    × IsSign sign.Semicolon c to
 
 -- Id [regs] "{" member { member } "}" ";"
 abbrev pub IsStructure : Structure → Tokens → Tokens → Type 0
@@ -58,7 +60,8 @@ MayBeListed (r ∷ rs) from to = Listed IsRegion (r ∷ rs) from to
 abbrev pub IsEffect : Option (List RegionName) → Tokens → Tokens → Type 0
 IsEffect None from to = from ≡ to
 IsEffect (Some regions) from to =
-    (a : Tokens) × (b : Tokens) × (c : Tokens) × IsSign sign.Semicolon from a × IsSign sign.LeftBrace a b × MayBeListed regions b c × IsSign sign.RightBrace c to
+    (a : Tokens) × (b : Tokens) × (c : Tokens) × IsSign sign.Semicolon from a × IsSign sign.LeftBrace a b × MayBeListed regions b c
+    × IsSign sign.RightBrace c to
 
 -- bound = Rg ">" Rg
 abbrev pub IsBound : Bound → Tokens → Tokens → Type 0
@@ -72,8 +75,10 @@ AreBounds (bound ∷ bounds) from to = (a : Tokens) × IsSign sign.Colon from a 
 -- "(" [ "void" | param { "," param } ] [ ";" "{" [ Rg { "," Rg } ] "}" ] [ ":" bound { "," bound } ] ")" "{" { decl | stmt } "}"
 abbrev pub IsFunctionRest : Function → Tokens → Tokens → Type 0
 IsFunctionRest f from to =
-    (a : Tokens) × (b : Tokens) × (c : Tokens) × (d : Tokens) × (e : Tokens) × (g : Tokens) × (h : Tokens) × IsSign sign.LeftParenthesis from a × AreParameters f.parameters a b
-    × IsEffect f.effect b c × AreBounds f.bounds c d × IsSign sign.RightParenthesis d e × IsSign sign.LeftBrace e g × AreItems f.body g h × SignAt sign.RightBrace f.end h to
+    (a : Tokens) × (b : Tokens) × (c : Tokens) × (d : Tokens) × (e : Tokens) × (g : Tokens) × (h : Tokens) × IsSign sign.LeftParenthesis from a
+    × AreParameters f.parameters a b
+    × IsEffect f.effect b c × AreBounds f.bounds c d × IsSign sign.RightParenthesis d e × IsSign sign.LeftBrace e g × AreItems f.body g h
+    × SignAt sign.RightBrace f.end h to
 
 -- ---- items
 

@@ -1,4 +1,4 @@
--- Tokens of phrases. A phrase relates the tokens from its first one on, `from`, to those behind it, `to`.
+-- Believed: tokens of phrases. A phrase relates the tokens from its first one on, `from`, to those behind it, `to`.
 use Rattle.std.specs.Prelude.{◌≡◌, ◌≢◌, ℕ, List, [], ◌∷◌, codes, nat_eq, if◌then◌else◌}
 use Rattle.cyc_lexer.specs.Lexing.{Token}
 use Rattle.cyc_lexer.specs.Spelling.{text_bytes}
@@ -50,7 +50,8 @@ abbrev pub IsRegion : RegionName → Tokens → Tokens → Type 0
 IsRegion (Heap at) from to = from ≡ record { kind = kind.Region; at = at; text = codes "`H" } ∷ to
 IsRegion (Unique at) from to = from ≡ record { kind = kind.Region; at = at; text = codes "`U" } ∷ to
 IsRegion (Named n) from to =
-    (text : List ℕ) × (from ≡ record { kind = kind.Region; at = n.at; text = text } ∷ to) × (n.text ≡ after_backquote text) × (text ≢ codes "`H") × (text ≢ codes "`U")
+    (text : List ℕ) × (from ≡ record { kind = kind.Region; at = n.at; text = text } ∷ to) × (n.text ≡ after_backquote text) × (text ≢ codes "`H")
+    × (text ≢ codes "`U")
 
 -- a phrase's first token stands here
 abbrev pub StartsAt : ℕ → Tokens → Type 0

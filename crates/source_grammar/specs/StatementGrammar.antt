@@ -1,10 +1,12 @@
--- The grammar of declarations and statements. A line in quotes is the production that the definition restates.
+-- Believed: the grammar of declarations and statements. A line in quotes is the production that the definition restates.
 use Rattle.std.specs.Prelude.{◌≡◌, ℕ, Bool, true, false, Option, Some, None}
 use Rattle.cyc_lexer.specs.declared.token.Keyword.TheVariants as word
 use Rattle.cyc_lexer.specs.declared.token.Sign.TheVariants as sign
 use Rattle.cyc_lexer.specs.declared.token.TokenKind.TheVariants as kind
 use Rattle.cyc_tree.specs.Tree as tree
-use Rattle.cyc_tree.specs.Tree.{Name, Expression, Declaration, Local, Open, Alias, NewKey, Pattern, Case, Default, Statement, Empty, Block, Run, Exchange, If, IfElse, While, Switch, Break, Continue, Return, FreeUnique, FreeKey, BlockItems, NoItems, Declare, Execute, Clauses, NoClauses, MoreClauses}
+use Rattle.cyc_tree.specs.Tree.{Name, Expression, Declaration, Local, Open, Alias, NewKey, Pattern, Case, Default, Statement, Empty, Block, Run, Exchange, If}
+use Rattle.cyc_tree.specs.Tree.{IfElse, While, Switch, Break, Continue, Return, FreeUnique, FreeKey, BlockItems, NoItems, Declare, Execute, Clauses, NoClauses}
+use Rattle.cyc_tree.specs.Tree.{MoreClauses}
 use Rattle.source_grammar.specs.Phrases.{Tokens, IsOne, KeywordAt, SignAt, IsKeyword, IsSign, IsName, InParentheses}
 use Rattle.source_grammar.specs.TypeGrammar.{IsOneRegion, IsType}
 use Rattle.source_grammar.specs.ExpressionGrammar.{IsExpression}
@@ -14,7 +16,8 @@ use Rattle.source_grammar.specs.ExpressionGrammar.{IsExpression}
 -- "[" Num "]"
 abbrev pub IsCount : ℕ → Tokens → Tokens → Type 0
 IsCount count from to =
-    (a : Tokens) × (b : Tokens) × (at : ℕ) × (suffix : Bool) × IsSign sign.LeftBracket from a × IsOne (kind.Number count suffix) at a b × IsSign sign.RightBracket b to
+    (a : Tokens) × (b : Tokens) × (at : ℕ) × (suffix : Bool) × IsSign sign.LeftBracket from a × IsOne (kind.Number count suffix) at a b
+    × IsSign sign.RightBracket b to
 
 -- [ "[" Num "]" | "=" expr ]
 abbrev pub IsInitializer : tree.Initializer → Tokens → Tokens → Type 0
@@ -39,7 +42,8 @@ IsDeclaration (Open at region handle key) from to =
     × IsName handle b c × IsSign sign.Assign c d × IsKeyword word.Open d e × IsNameInParentheses key e f × IsSign sign.Semicolon f to
 -- | "let" "alias" "<" Rg ">" type Id "=" Id ";"
 IsDeclaration (Alias at region of alias pointer) from to =
-    (a : Tokens) × (b : Tokens) × (c : Tokens) × (d : Tokens) × (e : Tokens) × (f : Tokens) × (g : Tokens) × KeywordAt word.Let at from a × IsKeyword word.Alias a b
+    (a : Tokens) × (b : Tokens) × (c : Tokens) × (d : Tokens) × (e : Tokens) × (f : Tokens) × (g : Tokens) × KeywordAt word.Let at from a
+    × IsKeyword word.Alias a b
     × IsOneRegion region b c × IsType of c d × IsName alias d e × IsSign sign.Assign e f × IsName pointer f g × IsSign sign.Semicolon g to
 -- | "let" "NewDynamicRegion" "{" "<" Rg ">" Id "}" "=" "new_ukey" "(" ")" ";"
 IsDeclaration (NewKey at region key) from to =
@@ -91,14 +95,16 @@ abbrev mutual
   IsStatement (If at condition body) from to =
       (a : Tokens) × (b : Tokens) × KeywordAt word.If at from a × InParentheses (IsExpression condition) a b × IsStatement body b to
   IsStatement (IfElse at condition body otherwise) from to =
-      (a : Tokens) × (b : Tokens) × (c : Tokens) × (d : Tokens) × KeywordAt word.If at from a × InParentheses (IsExpression condition) a b × IsStatement body b c
+      (a : Tokens) × (b : Tokens) × (c : Tokens) × (d : Tokens) × KeywordAt word.If at from a × InParentheses (IsExpression condition) a b
+      × IsStatement body b c
       × (ends_open body ≡ false) × IsKeyword word.Else c d × IsStatement otherwise d to
   IsStatement (While at condition body) from to =
       (a : Tokens) × (b : Tokens) × KeywordAt word.While at from a × InParentheses (IsExpression condition) a b × IsStatement body b to
   -- | "switch" "(" expr ")" "{" clause { clause } "}"
   IsStatement (Switch at place NoClauses) from to = ⊥
   IsStatement (Switch at place (MoreClauses first pattern body others)) from to =
-      (a : Tokens) × (b : Tokens) × (c : Tokens) × (d : Tokens) × KeywordAt word.Switch at from a × InParentheses (IsExpression place) a b × IsSign sign.LeftBrace b c
+      (a : Tokens) × (b : Tokens) × (c : Tokens) × (d : Tokens) × KeywordAt word.Switch at from a × InParentheses (IsExpression place) a b
+      × IsSign sign.LeftBrace b c
       × AreClauses (MoreClauses first pattern body others) c d × IsSign sign.RightBrace d to
   -- | "break" ";" | "continue" ";" | "return" [expr] ";"
   IsStatement (Break at) from to = (a : Tokens) × KeywordAt word.Break at from a × IsSign sign.Semicolon a to

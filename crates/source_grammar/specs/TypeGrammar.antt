@@ -1,4 +1,4 @@
--- The grammar of types. A line in quotes is the production that the definition restates.
+-- Believed: the grammar of types. A line in quotes is the production that the definition restates.
 use Rattle.std.specs.Prelude.{◌≡◌, ◌⊎◌, ℕ, Bool, List, [], ◌∷◌, Option, Some, None}
 use Rattle.cyc_lexer.specs.declared.token.Keyword.TheVariants as word
 use Rattle.cyc_lexer.specs.declared.token.Sign.{Sign}

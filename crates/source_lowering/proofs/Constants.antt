@@ -297,7 +297,8 @@ one_stored : (w : World) (fs : Program) (n : ℕ) (initial : Initial) (shape : S
     (s : Unit {0} → source.Memory → steps.Step) (k : core_steps.Step) → AreStructs w.unions w.structs → TakesGlobal shape initial
     → IsObject w.unions w.structs shape
     → SameMemory w m c → AreTexts w m c w.strings → VariableLeads w m c (global_shape initial shape) (heap_spot i) → IsStored w c initial shape i
-    → ((m' : source.Memory) → SameMemory w m' c → Grown nothing m c m' c → Same w fs n (s tt m') k) → Same w fs n (global_stored w initial shape (heap_spot i) s m) k
+    → ((m' : source.Memory) → SameMemory w m' c → Grown nothing m c m' c → Same w fs n (s tt m') k)
+    → Same w fs n (global_stored w initial shape (heap_spot i) s m) k
 one_stored w fs n Initial.Unset shape i m c s k structs h object agree texts leads part go = go m agree (later_self nothing m c)
 one_stored w fs n (Initial.Elements count) shape i m c s k structs h object agree texts leads part go = go m agree (later_self nothing m c)
 one_stored w fs n (Initial.Given constant) shape i m c s k structs h object agree texts leads part go =
@@ -322,7 +323,8 @@ one_stored w fs n (Initial.Given constant) shape i m c s k structs h object agre
         (source_later nothing m (m_written m (heap_spot i) shape o.value) c _ (y.later nothing))))
 
 pub globals_same : (w : World) (fs : Program) (n : ℕ) (items : List Item) (i : ℕ) (m : source.Memory) (c : core.Memory)
-    (s : Unit {0} → source.Memory → steps.Step) (k : core_steps.Step) → AreStructs w.unions w.structs → TakesProgram w items → SameMemory w m c → HasStatics w m c
+    (s : Unit {0} → source.Memory → steps.Step) (k : core_steps.Step) → AreStructs w.unions w.structs → TakesProgram w items → SameMemory w m c
+    → HasStatics w m c
     → AreLed w m c (globals_from items i) → AreStored w c items i
     → Begins w fs n c (s tt) k → Same w fs n (globals_stored w items i s m) k
 globals_same w fs n [] i m c s k structs h agree statics here stored begins = begins.go m agree statics

@@ -1,4 +1,5 @@
--- When a program and its Core show the same and end alike, and the laws of lowering: that they do, and how large frames and code are.
+-- View of two runs side by side: when a program and its Core show the same and end alike, and the laws of lowering: that they do, and how large frames and code
+-- are.
 use Rattle.std.specs.Prelude.{◌≡◌, ℕ, ◌≤◌, ◌⊎◌, List, [], ◌∷◌, Some, slice_get}
 use Rattle.cyc_words.specs.Events as events
 use Rattle.cyc_words.specs.Events.{AreBytes, SourceEnding}

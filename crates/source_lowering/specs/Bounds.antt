@@ -1,4 +1,4 @@
--- How large a function's frame may be, and how many operations a program may have, by its source; the same of Core stands below.
+-- Believed: how large a function's frame may be, and how many operations a program may have, by its source; the same of Core stands below.
 use Rattle.std.specs.Prelude.{◌≤◌, ℕ, suc, ◌+◌, ◌*◌, max, Some, List, [], ◌∷◌, length}
 use Rattle.cyc_tree.specs.Tree as tree
 use Rattle.cyc_tree.specs.Tree.{
@@ -30,14 +30,16 @@ use Rattle.cyc_tree.specs.Tree.{
   Case,
   Default,
 }
-use Rattle.source_meaning.specs.Shapes.{Alone, Shared, Shape, IntShape, UnsignedShape, VoidShape, ThinShape, KeyShape, StructShape, UnionShape, Part, part_shape, part_shapes, pointee}
+use Rattle.source_meaning.specs.Shapes.{Alone, Shared, Shape, IntShape, UnsignedShape, VoidShape, ThinShape, KeyShape, StructShape, UnionShape, Part}
+use Rattle.source_meaning.specs.Shapes.{part_shape, part_shapes, pointee}
 use Rattle.source_meaning.specs.Steps.{World, Routine}
 use Rattle.source_meaning.specs.Operators.{operator_shape}
 use Rattle.source_meaning.specs.Expressions.{is_unique_region}
 use Rattle.source_lowering.specs.Layouts.{extent_of}
 use Rattle.source_lowering.specs.Members.{all_words, member_shape}
 use Rattle.source_lowering.specs.Pieces.{Named, element_names, call_shape, prefix_shape, owner_in, new_shape, static_shape, union_parts}
-use Rattle.source_lowering.specs.Programs.{RegionsAround, no_regions, in_loop, in_switch, regions_with, local_shape, named_here, names_behind, function_code, outward, parameter_names}
+use Rattle.source_lowering.specs.Programs.{RegionsAround, no_regions, in_loop, in_switch, regions_with, local_shape, named_here, names_behind, function_code}
+use Rattle.source_lowering.specs.Programs.{outward, parameter_names}
 use Rattle.core_meaning.specs.Bounds.{words_of, core_bound}
 
 -- ---- the source: nodes of expressions

@@ -1,4 +1,4 @@
--- What globals and strings are lowered to: data objects.
+-- Believed: what globals and strings are lowered to: data objects.
 use Rattle.std.specs.Prelude.{ℕ, zero, suc, ◌+◌, ◌%◌, Option, ◌^◌, Some, None, List, [], ◌∷◌, ◌++◌, slice_get, length, unwrap_or}
 use Rattle.cyc_tree.specs.Tree as tree
 use Rattle.cyc_tree.specs.Tree.{Initial, Item}

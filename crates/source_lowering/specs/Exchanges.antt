@@ -1,4 +1,4 @@
--- The code of `a :=: b`: how each side is reached, and how the values of both are exchanged.
+-- Believed: the code of `a :=: b`: how each side is reached, and how the values of both are exchanged.
 use Rattle.std.specs.Prelude.{ℕ, zero, suc, ◌+◌, Option, Some, None, List, [], ◌∷◌, ◌++◌, length}
 use Rattle.cyc_tree.specs.Tree.{Expression}
 use Rattle.source_meaning.specs.Shapes.{Shape, FatShape, StructShape, UnionShape, ArrayShape}
@@ -10,7 +10,8 @@ use Rattle.source_lowering.specs.Naming.{Home, InBlock, Named, local_named}
 
 -- ---- sides
 
--- How code reaches a side of an exchange. A local of one word is reached by its name, so that nothing takes its address: how many blocks out it is, its number and
+-- How code reaches a side of an exchange. A local of one word is reached by its name, so that nothing takes its address: how many blocks out it is, its number
+-- and
 -- its bytes. All else is reached by a pointer to its place.
 pub data Side : Type 0 where
   ByName : (out index width : ℕ) → Side

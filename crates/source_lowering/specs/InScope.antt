@@ -1,4 +1,4 @@
--- What the names in a scope stand for, as lowering knows them.
+-- View of two runs side by side: what the names in a scope stand for, as lowering knows them.
 use Rattle.std.proofs.Common.{◌≡◌, ℕ, List, [], ◌∷◌, Some}
 use Rattle.std.specs.Prelude.{slice_get}
 use Rattle.source_meaning.specs.Shapes.{Shape}

@@ -1,4 +1,4 @@
--- What a region that was born is in Core, until it is dead: one of a scope, a unique block's own, or one of a key.
+-- View of two runs side by side: what a region that was born is in Core, until it is dead: one of a scope, a unique block's own, or one of a key.
 use Rattle.core_meaning.specs.Memory as core
 
 -- the heap is one of these too

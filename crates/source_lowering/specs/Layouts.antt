@@ -1,4 +1,4 @@
--- Where the cells of a shape lie in bytes, and the parts of a cell.
+-- Believed: where the cells of a shape lie in bytes, and the parts of a cell.
 use Rattle.std.specs.Prelude.{ℕ, zero, suc, ◌+◌, ◌-◌, Bool, true, false, ◌||◌, List, [], ◌∷◌, ◌++◌, map, bytes_eq, if◌then◌else◌}
 use Rattle.source_meaning.specs.Shapes.{Shape, IntShape, UnsignedShape, CharShape, ThinShape, FatShape, UnionShape, ArrayShape, Part, Layout, parts_of}
 use Rattle.source_meaning.specs.Placing.{Placed, placed_by, struct_placed}

@@ -1,4 +1,4 @@
--- The regions in scope, and how they are left: freed, or closed where keys opened them.
+-- Believed: the regions in scope, and how they are left: freed, or closed where keys opened them.
 use Rattle.std.specs.Prelude.{ℕ, zero, suc, Bool, true, false, List, [], ◌∷◌}
 use Rattle.cyc_tree.specs.Tree as tree
 use Rattle.cyc_tree.specs.Tree.{Declaration}

@@ -1,4 +1,4 @@
--- Of which programs lowering is proved, by the forms of the tree and by shapes. Each accepted program is one.
+-- Believed: of which programs lowering is proved, by the forms of the tree and by shapes. Each accepted program is one.
 use Rattle.std.specs.Prelude.{◌≡◌, ◌<◌, ◌^◌, ℕ, suc, ◌+◌, Bool, true, false, Some, None, List, [], ◌∷◌, length}
 use Rattle.cyc_tree.specs.declared.expression.Prefix.{Prefix}
 use Rattle.cyc_tree.specs.declared.expression.Prefix.TheVariants as prefix

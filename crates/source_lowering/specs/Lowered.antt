@@ -1,6 +1,7 @@
--- What an expression is lowered to. It leaves its value in the temporaries from a number on, a word in one and a fat pointer in three, and uses no earlier
--- ones. A struct or a tagged union that is made, or read whole, is an unnamed value of its function, and its code leaves a pointer to it in the first. Unnamed
--- values are numbered in the order of the evaluation: from the left, but for an assigned value, which comes before its place, and each before those of its parts.
+-- Believed: what an expression is lowered to. It leaves its value in the temporaries from a number on, a word in one and a fat pointer in three, and uses no
+-- earlier ones. A struct or a tagged union that is made, or read whole, is an unnamed value of its function, and its code leaves a pointer to it in the first.
+-- Unnamed values are numbered in the order of the evaluation: from the left, but for an assigned value, which comes before its place, and each before those of
+-- its parts.
 use Rattle.std.specs.Prelude.{ℕ, suc, ◌+◌, ◌%◌, Bool, true, false, List, [], ◌∷◌, ◌++◌, length}
 use Rattle.cyc_tree.specs.Tree.{Expression, Expressions, NoExpressions, MoreExpressions, Links, NoLinks, MoreLinks, Suffixes, NoSuffixes, Index, Dot, Arrow}
 use Rattle.cyc_tree.specs.Tree.{Made, One, Array}
@@ -200,7 +201,8 @@ new_code_by w unique (UnionShape tag) d whole word =
     whole ++ (request_code w unique (UnionShape tag) d (d + 2) ++ (Do (Copy d (d + 1) (layout_of w (UnionShape tag))) ∷ []))
 new_code_by w unique s d whole word = word ++ (request_code w unique s d (d + 1 + words_in s) ++ stores_code s d (d + 1) 0 0)
 
--- An element's value comes into the temporaries behind the array's pointer, its count and the element's number, or a pointer to it does. Then it is stored where
+-- An element's value comes into the temporaries behind the array's pointer, its count and the element's number, or a pointer to it does. Then it is stored
+-- where
 -- the element lies.
 abbrev pub element_by : World → Shape → ℕ → (whole word : List Statement) → List Statement
 element_by w (StructShape tag) d whole word =

@@ -1,4 +1,4 @@
--- Code, fat pointers and their elements, and the members of structs: their shapes, where they are, and how they are reached.
+-- Believed: code, fat pointers and their elements, and the members of structs: their shapes, where they are, and how they are reached.
 use Rattle.std.specs.Prelude.{ℕ, zero, ◌+◌, ◌*◌, List, [], ◌∷◌, ◌++◌, length}
 use Rattle.cyc_words.specs.declared.faults.Kind.{Kind}
 use Rattle.cyc_words.specs.declared.faults.Kind.TheVariants.{NullException, ArrayBounds}

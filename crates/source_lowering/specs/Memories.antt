@@ -1,4 +1,4 @@
--- The relation between a source's memory and Core's, and how both grow.
+-- View of two runs side by side: the relation between a source's memory and Core's, and how both grow.
 use Rattle.std.proofs.Common.{◌≡◌, ℕ, suc, ◌+◌, ◌*◌, ◌^◌, ◌<◌, ◌≤◌, ◌⊎◌, List, [], ◌∷◌, length, true, Option, Some, None}
 use Rattle.std.specs.Prelude.{slice_get}
 use Rattle.source_meaning.specs.Shapes.{

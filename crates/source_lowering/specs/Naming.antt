@@ -1,4 +1,4 @@
--- Where the variables are for which names stand.
+-- Believed: where the variables are for which names stand.
 use Rattle.std.specs.Prelude.{ℕ, suc, Option, Some, None, List, [], ◌∷◌, map, bytes_eq, if◌then◌else◌}
 use Rattle.source_meaning.specs.Shapes.{Shape, UnsignedShape}
 

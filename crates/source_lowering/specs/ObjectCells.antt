@@ -1,4 +1,4 @@
--- What an object is made of, by the structs that are declared: its cells, where they are placed, and how large it is.
+-- View of two runs side by side: what an object is made of, by the structs that are declared: its cells, where they are placed, and how large it is.
 use Rattle.std.specs.Prelude.{◌≡◌, true, List, [], ◌∷◌}
 use Rattle.source_meaning.specs.Shapes.{Shape, UnionShape, Layout, has_tag}
 use Rattle.source_meaning.specs.Sizes.{Extent, cells_by, struct_cells, extent_by, union_extent, struct_extent}

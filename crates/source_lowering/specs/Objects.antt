@@ -1,4 +1,4 @@
--- The shapes that lowering takes, and the unions, structs and types that are written for them.
+-- Believed: the shapes that lowering takes, and the unions, structs and types that are written for them.
 use Rattle.std.specs.Prelude.{◌≡◌, ◌<◌, ◌≤◌, ◌^◌, true, false, List, [], ◌∷◌, length}
 use Rattle.cyc_tree.specs.Tree as tree
 use Rattle.cyc_tree.specs.Tree.{Base, TypeName}
@@ -127,7 +127,8 @@ abbrev pub AreUnions : List Layout → Type 0
 AreUnions [] = Unit {0}
 AreUnions (l ∷ ls) = IsUnion l × AreUnions ls
 
--- a struct after earlier ones: its tag is new, it has a member, each of its members is a word, a fat pointer, a union or an earlier struct, and it takes at most
+-- a struct after earlier ones: its tag is new, it has a member, each of its members is a word, a fat pointer, a union or an earlier struct, and it takes at
+-- most
 -- 4,096 bytes
 pub record IsStruct (unions earlier : List Layout) (l : Layout) : Type 0 where
   pub new : has_tag earlier l.tag ≡ false

@@ -1,4 +1,4 @@
--- What expressions are lowered by, beside conversions and operators: names, shapes that are known without a run, variables, strings, calls.
+-- Believed: what expressions are lowered by, beside conversions and operators: names, shapes that are known without a run, variables, strings, calls.
 use Rattle.std.specs.Prelude.{ℕ, zero, suc, ◌+◌, Bool, true, false, Option, Some, None, List, [], ◌∷◌, bytes_eq, codes, unwrap_or, if◌then◌else◌}
 use Rattle.cyc_tree.specs.declared.expression.Operator.TheVariants as operator
 use Rattle.cyc_tree.specs.declared.expression.Prefix.{Prefix}

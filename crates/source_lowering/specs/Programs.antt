@@ -1,4 +1,4 @@
--- What statements, functions and programs are lowered to.
+-- Believed: what statements, functions and programs are lowered to.
 use Rattle.std.specs.Prelude.{ℕ, suc, ◌+◌, Bool, true, false, if◌then◌else◌, Some, None, List, [], ◌∷◌, ◌++◌, map, length, max, codes}
 use Rattle.cyc_tree.specs.Tree as tree
 use Rattle.cyc_tree.specs.Tree.{Expression, Initializer, Declaration, Statement, BlockItems, NoItems, Declare, Execute, Clauses, NoClauses, MoreClauses, Case}
@@ -213,7 +213,8 @@ abbrev mutual
       declaration_values w names d ++ item_values w (names_behind w names index d) (suc index) others
   item_values w names index (Execute s others) = statement_values w names s ++ item_values w names index others
 
-  -- of the clauses of a `switch` on a union of these members, and behind them those of the first `default`; the copy of a member is the first local of its clause
+  -- of the clauses of a `switch` on a union of these members, and behind them those of the first `default`; the copy of a member is the first local of its
+  -- clause
   pub case_values : World → List Named → List Part → Clauses → List Shape
   case_values w names parts NoClauses = []
   case_values w names parts (MoreClauses at (Case f x) body others) =
@@ -228,7 +229,8 @@ abbrev mutual
 -- ---- statements
 
 abbrev mutual
-  -- The first of its unnamed values has this number. `break` and `continue` leave the regions in scope within what they leave, and `return` those of the function,
+  -- The first of its unnamed values has this number. `break` and `continue` leave the regions in scope within what they leave, and `return` those of the
+  -- function,
   -- when the result is there.
   pub statement_code : World → Shape → List Named → RegionsAround → (own : ℕ) → Statement → List core.Statement
   statement_code w result names h own (Statement.Empty at) = []
@@ -288,7 +290,8 @@ abbrev mutual
       let inner = named_here x.text s 0 ∷ outward names in
       Do (Constant (h.all + 2) (member_number parts f.text)) ∷ Do (Apply Equal (h.all + 2) (h.all + 1) (h.all + 2)) ∷
       If (h.all + 2)
-      (all_of (Block (locals_of w (s ∷ block_shapes w inner 1 body)) (all_of (held_loads s h.all ++ (put_local s h.all 0 0 ++ items_code w result inner h 1 own body))) ∷
+      (all_of (Block (locals_of w (s ∷ block_shapes w inner 1 body))
+      (all_of (held_loads s h.all ++ (put_local s h.all 0 0 ++ items_code w result inner h 1 own body))) ∷
       Break ∷ [])) NoStatements ∷
       cases_code w result names h parts (own + length (item_values w inner 1 body)) others
   cases_code w result names h parts own (MoreClauses at Default body others) = cases_code w result names h parts own others

@@ -1,4 +1,4 @@
--- When a source and its Core do the same from a point of both runs on.
+-- View of two runs side by side: when a source and its Core do the same from a point of both runs on.
 use Rattle.std.proofs.Common.{◌≡◌, ℕ, suc, ◌+◌, ◌^◌, ◌<◌, ◌≤◌, ◌⊎◌, List, [], ◌∷◌, true, Option, Some, None}
 use Rattle.cyc_words.specs.Events.{AreBytes, SourceEnding}
 pub use Rattle.source_lowering.specs.Agreeing.{SameEvent, BothVisible, BothCalled, BothReturned, SameEvents, SameOutcome}

@@ -1,4 +1,4 @@
--- Types and constants that lowering takes, by the forms of the tree alone.
+-- Believed: types and constants that lowering takes, by the forms of the tree alone.
 use Rattle.std.specs.Prelude.{◌≡◌, ◌≤◌, ℕ, ◌+◌, ◌%◌, ◌^◌, List, [], length}
 use Rattle.cyc_tree.specs.Tree as tree
 use Rattle.cyc_tree.specs.Tree.{Base, TypeName}

@@ -1,4 +1,4 @@
--- How many temporaries code uses, and how many words it passes.
+-- Believed: how many temporaries code uses, and how many words it passes.
 use Rattle.std.specs.Prelude.{ℕ, suc, List, [], ◌∷◌, length, max}
 use Rattle.core_meaning.specs.Core as core
 use Rattle.core_meaning.specs.Core.{

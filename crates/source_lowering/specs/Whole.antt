@@ -1,4 +1,4 @@
--- Expressions that are statements, whose values are dropped: structs and tagged unions that are assigned, made or read, and what is neither.
+-- Believed: expressions that are statements, whose values are dropped: structs and tagged unions that are assigned, made or read, and what is neither.
 use Rattle.std.specs.Prelude.{ℕ, ◌+◌, List, [], ◌∷◌, ◌++◌, length, if◌then◌else◌}
 use Rattle.cyc_tree.specs.Tree.{Expression}
 use Rattle.source_meaning.specs.Shapes.{Shape, StructShape, UnionShape}

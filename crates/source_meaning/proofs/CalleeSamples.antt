@@ -5,7 +5,8 @@ use Prim.Native.String.{String}
 use Rattle.cyc_tree.specs.declared.expression.Operator.TheVariants.{Add}
 use Rattle.cyc_tree.specs.declared.expression.Prefix.TheVariants.{Negate}
 use Rattle.cyc_tree.specs.Tree as tree
-use Rattle.cyc_tree.specs.Tree.{BlockItems, Expression, NoExpressions, MoreExpressions, NoLinks, MoreLinks, NoSuffixes, Index, Arrow, One, Array, Initializer, Statement, NoItems, NoClauses, MoreClauses, Case, Default}
+use Rattle.cyc_tree.specs.Tree.{BlockItems, Expression, NoExpressions, MoreExpressions, NoLinks, MoreLinks, NoSuffixes, Index, Arrow, One, Array, Initializer}
+use Rattle.cyc_tree.specs.Tree.{Statement, NoItems, NoClauses, MoreClauses, Case, Default}
 use Rattle.source_meaning.specs.Callees.{items_callees}
 use Rattle.source_meaning.proofs.Trees.{named, variable, number, typed, ◌▸◌, ◌▹◌}
 

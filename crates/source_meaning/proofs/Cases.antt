@@ -2,7 +2,8 @@
 use Rattle.std.proofs.Common.{◌≡◌, ℕ, true, false, Some, None, refl, ap, arith}
 use Rattle.std.specs.Prelude.{nat_eq, ◌&&◌, if◌then◌else◌}
 use Rattle.std.proofs.lemmas.Bool.{and_parts, eqb-true, eq-eqb, false≢true}
-use Rattle.source_meaning.specs.Memory.{Region, Frame, Born, Spot, Cell, Object, State, Memory, same_region, same_spot, is_live, cell_at, with_state, with_cell, next_spot, with_object, beyond}
+use Rattle.source_meaning.specs.Memory.{Region, Frame, Born, Spot, Cell, Object, State, Memory, same_region, same_spot, is_live, cell_at, with_state, with_cell}
+use Rattle.source_meaning.specs.Memory.{next_spot, with_object, beyond}
 
 -- ---- the same region, the same spot
 
@@ -42,7 +43,9 @@ pub made_is_seen : (m : Memory) (r : Region) (o : Object) (k : ℕ) → is_live 
 made_is_seen m r o k live = rw (live, region_itself r, eq-eqb (m.objects r) (m.objects r) refl) (ap o (omega arith))
 
 pub older_is_kept : (m : Memory) (r : Region) (o : Object) (t : Spot) → nat_eq t.object (m.objects r) ≡ false → cell_at (with_object m r o) t ≡ cell_at m t
-older_is_kept m r o t older = elim (same_region t.region r) as (λ b. (if is_live m t.region then (if b && nat_eq t.object (m.objects r) then o t.cell else m.cells t) else None) ≡ cell_at m t) [ true ↦ rw older refl | false ↦ refl ]
+older_is_kept m r o t older = elim (same_region t.region r) as
+    (λ b. (if is_live m t.region then (if b && nat_eq t.object (m.objects r) then o t.cell else m.cells t) else None) ≡ cell_at m t)
+    [ true ↦ rw older refl | false ↦ refl ]
 
 pub elsewhere_is_kept : (m : Memory) (r : Region) (o : Object) (t : Spot) → same_region t.region r ≡ false → cell_at (with_object m r o) t ≡ cell_at m t
 elsewhere_is_kept m r o t elsewhere = rw elsewhere refl
@@ -55,5 +58,6 @@ state_is_set m r state = rw (region_itself r) refl
 pub other_state_is_kept : (m : Memory) (q r : Region) (state : State) → same_region q r ≡ false → (with_state m r state).state q ≡ m.state q
 other_state_is_kept m q r state other = rw other refl
 
-pub cells_elsewhere_are_kept : (m : Memory) (r : Region) (state : State) (t : Spot) → same_region t.region r ≡ false → cell_at (with_state m r state) t ≡ cell_at m t
+pub cells_elsewhere_are_kept : (m : Memory) (r : Region) (state : State) (t : Spot) → same_region t.region r ≡ false
+    → cell_at (with_state m r state) t ≡ cell_at m t
 cells_elsewhere_are_kept m r state t elsewhere = rw elsewhere refl

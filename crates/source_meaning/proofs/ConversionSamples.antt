@@ -5,7 +5,8 @@ use Rattle.cyc_tree.specs.declared.name.Sign.TheVariants.{Nullable, NotNull, Fat
 use Rattle.cyc_tree.specs.declared.expression.Operator.TheVariants.{Equal, NotEqual, Add, Subtract, Multiply}
 use Rattle.cyc_tree.specs.declared.expression.Prefix.TheVariants.{Dereference, AddressOf}
 use Rattle.cyc_tree.specs.Tree as tree
-use Rattle.cyc_tree.specs.Tree.{Expression, NoExpressions, MoreExpressions, NoLinks, MoreLinks, NoSuffixes, Index, One, Initializer, Statement, NoItems, Program}
+use Rattle.cyc_tree.specs.Tree.{Expression, NoExpressions, MoreExpressions, NoLinks, MoreLinks, NoSuffixes, Index, One, Initializer, Statement, NoItems}
+use Rattle.cyc_tree.specs.Tree.{Program}
 use Rattle.cyc_words.specs.declared.faults.Kind.TheVariants.{NullException, ArrayBounds}
 use Rattle.cyc_words.specs.Events.{ByteWritten, RegionAlloc, Visible, Called, Returned, SourceEnding}
 use Rattle.source_meaning.specs.Programs.{source}
@@ -16,7 +17,8 @@ abbrev address_of_null : Program
 address_of_null =
     tree.FunctionItem (function (typed tree.Int []) (named "main") [] (
     (tree.Local (typed tree.Int ((pointer (Nullable 1) None) ∷ [])) (named "p") (Initializer.Value (Expression.Null 0))) ▹
-    (tree.Local (typed tree.Int ((pointer (Nullable 1) None) ∷ [])) (named "q") (Initializer.Value (Expression.Prefixed 0 AddressOf (Expression.Prefixed 0 Dereference (variable "p"))))) ▹
+    (tree.Local (typed tree.Int ((pointer (Nullable 1) None) ∷ [])) (named "q")
+    (Initializer.Value (Expression.Prefixed 0 AddressOf (Expression.Prefixed 0 Dereference (variable "p"))))) ▹
     (Statement.Return 0 (Some (number 0))) ▸
     NoItems)) ∷ []
 
@@ -28,7 +30,8 @@ abbrev address_past_the_end : Program
 address_past_the_end =
     tree.FunctionItem (function (typed tree.Int []) (named "main") [] (
     (tree.Local (typed tree.Int []) (named "a") (Initializer.Elements 3)) ▹
-    (tree.Local (typed tree.Int ((pointer (Nullable 1) None) ∷ [])) (named "p") (Initializer.Value (Expression.Prefixed 0 AddressOf (Expression.Suffixed (variable "a") (Index (number 2) NoSuffixes))))) ▹
+    (tree.Local (typed tree.Int ((pointer (Nullable 1) None) ∷ [])) (named "p")
+    (Initializer.Value (Expression.Prefixed 0 AddressOf (Expression.Suffixed (variable "a") (Index (number 2) NoSuffixes))))) ▹
     (Statement.Run (Expression.Call (named "putchar") (MoreExpressions (number 65) NoExpressions))) ▸
     (Statement.Run (Expression.Assign (variable "p") (Expression.Prefixed 0 AddressOf (Expression.Suffixed (variable "a") (Index (number 3) NoSuffixes))))) ▸
     (Statement.Return 0 (Some (number 0))) ▸
@@ -44,7 +47,8 @@ fat_to_never_null =
     (tree.Local (typed tree.Int []) (named "a") (Initializer.Elements 2)) ▹
     (Statement.Run (Expression.Assign (Expression.Suffixed (variable "a") (Index (number 1) NoSuffixes)) (number 4))) ▸
     (tree.Local (typed tree.Int ((pointer Fat None) ∷ [])) (named "p") (Initializer.Value (variable "a"))) ▹
-    (tree.Local (typed tree.Int ((pointer (NotNull 1) None) ∷ [])) (named "q") (Initializer.Value (Expression.Chain (variable "p") (MoreLinks Add (number 1) NoLinks)))) ▹
+    (tree.Local (typed tree.Int ((pointer (NotNull 1) None) ∷ [])) (named "q")
+    (Initializer.Value (Expression.Chain (variable "p") (MoreLinks Add (number 1) NoLinks)))) ▹
     (Statement.Return 0 (Some (Expression.Prefixed 0 Dereference (variable "q")))) ▸
     NoItems)) ∷ []
 
@@ -69,7 +73,8 @@ fat_end_to_never_null =
     tree.FunctionItem (function (typed tree.Int []) (named "main") [] (
     (tree.Local (typed tree.Int []) (named "a") (Initializer.Elements 2)) ▹
     (tree.Local (typed tree.Int ((pointer Fat None) ∷ [])) (named "p") (Initializer.Value (variable "a"))) ▹
-    (tree.Local (typed tree.Int ((pointer (NotNull 1) None) ∷ [])) (named "q") (Initializer.Value (Expression.Chain (variable "p") (MoreLinks Add (number 2) NoLinks)))) ▹
+    (tree.Local (typed tree.Int ((pointer (NotNull 1) None) ∷ [])) (named "q")
+    (Initializer.Value (Expression.Chain (variable "p") (MoreLinks Add (number 2) NoLinks)))) ▹
     (Statement.Return 0 (Some (number 0))) ▸
     NoItems)) ∷ []
 
@@ -82,7 +87,8 @@ null_to_fat =
     tree.FunctionItem (function (typed tree.Int []) (named "main") [] (
     (tree.Local (typed tree.Int ((pointer (Nullable 1) None) ∷ [])) (named "p") (Initializer.Value (Expression.Null 0))) ▹
     (tree.Local (typed tree.Int ((pointer Fat None) ∷ [])) (named "q") (Initializer.Value (variable "p"))) ▹
-    (Statement.If 0 (Expression.Chain (variable "q") (MoreLinks Equal (Expression.Null 0) NoLinks)) (Statement.Return 0 (Some (Expression.Chain (Expression.NumElts 0 (variable "q")) (MoreLinks Add (number 7) NoLinks))))) ▸
+    (Statement.If 0 (Expression.Chain (variable "q") (MoreLinks Equal (Expression.Null 0) NoLinks))
+    (Statement.Return 0 (Some (Expression.Chain (Expression.NumElts 0 (variable "q")) (MoreLinks Add (number 7) NoLinks))))) ▸
     (Statement.Return 0 (Some (number 0))) ▸
     NoItems)) ∷ []
 
@@ -109,7 +115,9 @@ array_dereferenced =
     (tree.Local (typed tree.Int []) (named "a") (Initializer.Elements 2)) ▹
     (Statement.Run (Expression.Assign (Expression.Prefixed 0 Dereference (variable "a")) (number 5))) ▸
     (Statement.Run (Expression.Assign (Expression.Suffixed (variable "a") (Index (number 1) NoSuffixes)) (number 6))) ▸
-    (Statement.Return 0 (Some (Expression.Chain (Expression.Chain (Expression.Prefixed 0 Dereference (variable "a")) (MoreLinks Multiply (number 10) NoLinks)) (MoreLinks Add (Expression.Prefixed 0 Dereference (Expression.Grouped 0 (Expression.Chain (variable "a") (MoreLinks Add (number 1) NoLinks)))) NoLinks)))) ▸
+    (Statement.Return 0 (Some (Expression.Chain (Expression.Chain (Expression.Prefixed 0 Dereference (variable "a")) (MoreLinks Multiply (number 10) NoLinks))
+    (MoreLinks Add (Expression.Prefixed 0 Dereference (Expression.Grouped 0 (Expression.Chain (variable "a") (MoreLinks Add (number 1) NoLinks))))
+    NoLinks)))) ▸
     NoItems)) ∷ []
 
 array_dereferenced_runs : source array_dereferenced [] 0 ≡ gives (Called (codes "main") ∷ Returned (codes "main") ∷ []) (SourceEnding.Ended 56)
@@ -131,11 +139,14 @@ abbrev fat_null_indexed : Program
 fat_null_indexed =
     tree.FunctionItem (function (typed tree.Int []) (named "main") [] (
     (tree.Local (typed tree.Int ((pointer Fat None) ∷ [])) (named "p") (Initializer.Value (Expression.Null 0))) ▹
-    (Statement.Run (Expression.Assign (Expression.Suffixed (variable "p") (Index (Expression.Call (named "putchar") (MoreExpressions (number 1) NoExpressions)) NoSuffixes)) (Expression.Call (named "putchar") (MoreExpressions (number 2) NoExpressions)))) ▸
+    (Statement.Run (Expression.Assign
+    (Expression.Suffixed (variable "p") (Index (Expression.Call (named "putchar") (MoreExpressions (number 1) NoExpressions)) NoSuffixes))
+    (Expression.Call (named "putchar") (MoreExpressions (number 2) NoExpressions)))) ▸
     (Statement.Return 0 (Some (number 0))) ▸
     NoItems)) ∷ []
 
-fat_null_indexed_runs : source fat_null_indexed [] 2 ≡ gives (Called (codes "main") ∷ Visible (ByteWritten 2) ∷ Visible (ByteWritten 1) ∷ []) (SourceEnding.Raised NullException)
+fat_null_indexed_runs : source fat_null_indexed [] 2 ≡ gives (Called (codes "main") ∷ Visible (ByteWritten 2) ∷ Visible (ByteWritten 1) ∷ [])
+    (SourceEnding.Raised NullException)
 fat_null_indexed_runs = refl
 
 -- int main() { int ? p = NULL; p = p + 1 - 2; if (p == NULL) return numelts(p) + 3; return 0; }
@@ -144,7 +155,8 @@ null_moved =
     tree.FunctionItem (function (typed tree.Int []) (named "main") [] (
     (tree.Local (typed tree.Int ((pointer Fat None) ∷ [])) (named "p") (Initializer.Value (Expression.Null 0))) ▹
     (Statement.Run (Expression.Assign (variable "p") (Expression.Chain (variable "p") (MoreLinks Add (number 1) (MoreLinks Subtract (number 2) NoLinks))))) ▸
-    (Statement.If 0 (Expression.Chain (variable "p") (MoreLinks Equal (Expression.Null 0) NoLinks)) (Statement.Return 0 (Some (Expression.Chain (Expression.NumElts 0 (variable "p")) (MoreLinks Add (number 3) NoLinks))))) ▸
+    (Statement.If 0 (Expression.Chain (variable "p") (MoreLinks Equal (Expression.Null 0) NoLinks))
+    (Statement.Return 0 (Some (Expression.Chain (Expression.NumElts 0 (variable "p")) (MoreLinks Add (number 3) NoLinks))))) ▸
     (Statement.Return 0 (Some (number 0))) ▸
     NoItems)) ∷ []
 
@@ -157,9 +169,11 @@ moved_back =
     tree.FunctionItem (function (typed tree.Int []) (named "main") [] (
     (tree.Local (typed tree.Int []) (named "a") (Initializer.Elements 3)) ▹
     (Statement.Run (Expression.Assign (Expression.Suffixed (variable "a") (Index (number 1) NoSuffixes)) (number 7))) ▸
-    (tree.Local (typed tree.Int ((pointer Fat None) ∷ [])) (named "p") (Initializer.Value (Expression.Chain (variable "a") (MoreLinks Add (number 2) NoLinks)))) ▹
+    (tree.Local (typed tree.Int ((pointer Fat None) ∷ [])) (named "p")
+    (Initializer.Value (Expression.Chain (variable "a") (MoreLinks Add (number 2) NoLinks)))) ▹
     (Statement.Run (Expression.Assign (variable "p") (Expression.Chain (variable "p") (MoreLinks Subtract (number 1) NoLinks)))) ▸
-    (Statement.Return 0 (Some (Expression.Chain (Expression.Chain (Expression.Prefixed 0 Dereference (variable "p")) (MoreLinks Multiply (number 10) NoLinks)) (MoreLinks Add (Expression.NumElts 0 (variable "p")) NoLinks)))) ▸
+    (Statement.Return 0 (Some (Expression.Chain (Expression.Chain (Expression.Prefixed 0 Dereference (variable "p")) (MoreLinks Multiply (number 10) NoLinks))
+    (MoreLinks Add (Expression.NumElts 0 (variable "p")) NoLinks)))) ▸
     NoItems)) ∷ []
 
 moved_back_runs : source moved_back [] 0 ≡ gives (Called (codes "main") ∷ Returned (codes "main") ∷ []) (SourceEnding.Ended 72)
@@ -173,7 +187,8 @@ index_wraps =
     (Statement.Run (Expression.Assign (Expression.Suffixed (variable "a") (Index (number 0) NoSuffixes)) (number 7))) ▸
     (tree.Local (typed tree.Int ((pointer Fat None) ∷ [])) (named "p") (Initializer.Value (variable "a"))) ▹
     (Statement.Run (Expression.Assign (variable "p") (Expression.Chain (variable "p") (MoreLinks Subtract (number 1) NoLinks)))) ▸
-    (Statement.Run (Expression.Call (named "putchar") (MoreExpressions (Expression.Chain (Expression.Character 0 48) (MoreLinks Add (Expression.NumElts 0 (variable "p")) NoLinks)) NoExpressions))) ▸
+    (Statement.Run (Expression.Call (named "putchar")
+    (MoreExpressions (Expression.Chain (Expression.Character 0 48) (MoreLinks Add (Expression.NumElts 0 (variable "p")) NoLinks)) NoExpressions))) ▸
     (Statement.Return 0 (Some (Expression.Suffixed (variable "p") (Index (number 1) NoSuffixes)))) ▸
     NoItems)) ∷ []
 
@@ -193,7 +208,8 @@ index_below_the_start =
 index_below_the_start_runs : source index_below_the_start [] 0 ≡ gives (Called (codes "main") ∷ []) (SourceEnding.Raised ArrayBounds)
 index_below_the_start_runs = refl
 
--- int main() { int x; int y; int a[2]; int *p = &x; int *q = &y; int *h = new 0; return (p == q) + (p != q) * 2 + (p == &x) * 4 + (&a[0] != &a[1]) * 8 + (p != &x) * 16 + (p != h) * 32; }
+-- int main() { int x; int y; int a[2]; int *p = &x; int *q = &y; int *h = new 0; return (p == q) + (p != q) * 2 + (p == &x) * 4 + (&a[0] != &a[1]) * 8 + (p !=
+-- &x) * 16 + (p != h) * 32; }
 abbrev different_pointers : Program
 different_pointers =
     tree.FunctionItem (function (typed tree.Int []) (named "main") [] (
@@ -203,10 +219,25 @@ different_pointers =
     (tree.Local (typed tree.Int ((pointer (Nullable 1) None) ∷ [])) (named "p") (Initializer.Value (Expression.Prefixed 0 AddressOf (variable "x")))) ▹
     (tree.Local (typed tree.Int ((pointer (Nullable 1) None) ∷ [])) (named "q") (Initializer.Value (Expression.Prefixed 0 AddressOf (variable "y")))) ▹
     (tree.Local (typed tree.Int ((pointer (Nullable 1) None) ∷ [])) (named "h") (Initializer.Value (Expression.New 0 (One (number 0))))) ▹
-    (Statement.Return 0 (Some (Expression.Chain (Expression.Grouped 0 (Expression.Chain (variable "p") (MoreLinks Equal (variable "q") NoLinks))) (MoreLinks Add (Expression.Chain (Expression.Grouped 0 (Expression.Chain (variable "p") (MoreLinks NotEqual (variable "q") NoLinks))) (MoreLinks Multiply (number 2) NoLinks)) (MoreLinks Add (Expression.Chain (Expression.Grouped 0 (Expression.Chain (variable "p") (MoreLinks Equal (Expression.Prefixed 0 AddressOf (variable "x")) NoLinks))) (MoreLinks Multiply (number 4) NoLinks)) (MoreLinks Add (Expression.Chain (Expression.Grouped 0 (Expression.Chain (Expression.Prefixed 0 AddressOf (Expression.Suffixed (variable "a") (Index (number 0) NoSuffixes))) (MoreLinks NotEqual (Expression.Prefixed 0 AddressOf (Expression.Suffixed (variable "a") (Index (number 1) NoSuffixes))) NoLinks))) (MoreLinks Multiply (number 8) NoLinks)) (MoreLinks Add (Expression.Chain (Expression.Grouped 0 (Expression.Chain (variable "p") (MoreLinks NotEqual (Expression.Prefixed 0 AddressOf (variable "x")) NoLinks))) (MoreLinks Multiply (number 16) NoLinks)) (MoreLinks Add (Expression.Chain (Expression.Grouped 0 (Expression.Chain (variable "p") (MoreLinks NotEqual (variable "h") NoLinks))) (MoreLinks Multiply (number 32) NoLinks)) NoLinks)))))))) ▸
+    (Statement.Return 0 (Some (Expression.Chain (Expression.Grouped 0 (Expression.Chain (variable "p") (MoreLinks Equal (variable "q") NoLinks)))
+    (MoreLinks Add (Expression.Chain (Expression.Grouped 0 (Expression.Chain (variable "p") (MoreLinks NotEqual (variable "q") NoLinks)))
+    (MoreLinks Multiply (number 2) NoLinks))
+    (MoreLinks Add (Expression.Chain
+    (Expression.Grouped 0 (Expression.Chain (variable "p") (MoreLinks Equal (Expression.Prefixed 0 AddressOf (variable "x")) NoLinks)))
+    (MoreLinks Multiply (number 4) NoLinks))
+    (MoreLinks Add (Expression.Chain
+    (Expression.Grouped 0 (Expression.Chain (Expression.Prefixed 0 AddressOf (Expression.Suffixed (variable "a") (Index (number 0) NoSuffixes)))
+    (MoreLinks NotEqual (Expression.Prefixed 0 AddressOf (Expression.Suffixed (variable "a") (Index (number 1) NoSuffixes))) NoLinks)))
+    (MoreLinks Multiply (number 8) NoLinks))
+    (MoreLinks Add (Expression.Chain
+    (Expression.Grouped 0 (Expression.Chain (variable "p") (MoreLinks NotEqual (Expression.Prefixed 0 AddressOf (variable "x")) NoLinks)))
+    (MoreLinks Multiply (number 16) NoLinks))
+    (MoreLinks Add (Expression.Chain (Expression.Grouped 0 (Expression.Chain (variable "p") (MoreLinks NotEqual (variable "h") NoLinks)))
+    (MoreLinks Multiply (number 32) NoLinks)) NoLinks)))))))) ▸
     NoItems)) ∷ []
 
-different_pointers_runs : source different_pointers [] 0 ≡ gives (Called (codes "main") ∷ Visible (RegionAlloc 0 4) ∷ Returned (codes "main") ∷ []) (SourceEnding.Ended 46)
+different_pointers_runs : source different_pointers [] 0 ≡ gives (Called (codes "main") ∷ Visible (RegionAlloc 0 4) ∷ Returned (codes "main") ∷ [])
+    (SourceEnding.Ended 46)
 different_pointers_runs = refl
 
 -- int main() { int *n = NULL; int *p = n; { int x = 2; p = &x; } return (p == n) + (n != p) * 2; }
@@ -219,13 +250,16 @@ null_and_dead =
     (tree.Local (typed tree.Int []) (named "x") (Initializer.Value (number 2))) ▹
     (Statement.Run (Expression.Assign (variable "p") (Expression.Prefixed 0 AddressOf (variable "x")))) ▸
     NoItems)) ▸
-    (Statement.Return 0 (Some (Expression.Chain (Expression.Grouped 0 (Expression.Chain (variable "p") (MoreLinks Equal (variable "n") NoLinks))) (MoreLinks Add (Expression.Chain (Expression.Grouped 0 (Expression.Chain (variable "n") (MoreLinks NotEqual (variable "p") NoLinks))) (MoreLinks Multiply (number 2) NoLinks)) NoLinks)))) ▸
+    (Statement.Return 0 (Some (Expression.Chain (Expression.Grouped 0 (Expression.Chain (variable "p") (MoreLinks Equal (variable "n") NoLinks)))
+    (MoreLinks Add (Expression.Chain (Expression.Grouped 0 (Expression.Chain (variable "n") (MoreLinks NotEqual (variable "p") NoLinks)))
+    (MoreLinks Multiply (number 2) NoLinks)) NoLinks)))) ▸
     NoItems)) ∷ []
 
 null_and_dead_runs : source null_and_dead [] 0 ≡ gives (Called (codes "main") ∷ Returned (codes "main") ∷ []) (SourceEnding.Ended 2)
 null_and_dead_runs = refl
 
--- int main() { int x; int ? p = &x; int ? q = NULL; int *r = NULL; return (NULL == q) + (NULL != p) * 2 + (NULL == r) * 4 + (NULL == p) * 8 + (NULL == &x) * 16; }
+-- int main() { int x; int ? p = &x; int ? q = NULL; int *r = NULL; return (NULL == q) + (NULL != p) * 2 + (NULL == r) * 4 + (NULL == p) * 8 + (NULL == &x) *
+-- 16; }
 abbrev null_first : Program
 null_first =
     tree.FunctionItem (function (typed tree.Int []) (named "main") [] (
@@ -233,7 +267,16 @@ null_first =
     (tree.Local (typed tree.Int ((pointer Fat None) ∷ [])) (named "p") (Initializer.Value (Expression.Prefixed 0 AddressOf (variable "x")))) ▹
     (tree.Local (typed tree.Int ((pointer Fat None) ∷ [])) (named "q") (Initializer.Value (Expression.Null 0))) ▹
     (tree.Local (typed tree.Int ((pointer (Nullable 1) None) ∷ [])) (named "r") (Initializer.Value (Expression.Null 0))) ▹
-    (Statement.Return 0 (Some (Expression.Chain (Expression.Grouped 0 (Expression.Chain (Expression.Null 0) (MoreLinks Equal (variable "q") NoLinks))) (MoreLinks Add (Expression.Chain (Expression.Grouped 0 (Expression.Chain (Expression.Null 0) (MoreLinks NotEqual (variable "p") NoLinks))) (MoreLinks Multiply (number 2) NoLinks)) (MoreLinks Add (Expression.Chain (Expression.Grouped 0 (Expression.Chain (Expression.Null 0) (MoreLinks Equal (variable "r") NoLinks))) (MoreLinks Multiply (number 4) NoLinks)) (MoreLinks Add (Expression.Chain (Expression.Grouped 0 (Expression.Chain (Expression.Null 0) (MoreLinks Equal (variable "p") NoLinks))) (MoreLinks Multiply (number 8) NoLinks)) (MoreLinks Add (Expression.Chain (Expression.Grouped 0 (Expression.Chain (Expression.Null 0) (MoreLinks Equal (Expression.Prefixed 0 AddressOf (variable "x")) NoLinks))) (MoreLinks Multiply (number 16) NoLinks)) NoLinks))))))) ▸
+    (Statement.Return 0 (Some (Expression.Chain (Expression.Grouped 0 (Expression.Chain (Expression.Null 0) (MoreLinks Equal (variable "q") NoLinks)))
+    (MoreLinks Add (Expression.Chain (Expression.Grouped 0 (Expression.Chain (Expression.Null 0) (MoreLinks NotEqual (variable "p") NoLinks)))
+    (MoreLinks Multiply (number 2) NoLinks))
+    (MoreLinks Add (Expression.Chain (Expression.Grouped 0 (Expression.Chain (Expression.Null 0) (MoreLinks Equal (variable "r") NoLinks)))
+    (MoreLinks Multiply (number 4) NoLinks))
+    (MoreLinks Add (Expression.Chain (Expression.Grouped 0 (Expression.Chain (Expression.Null 0) (MoreLinks Equal (variable "p") NoLinks)))
+    (MoreLinks Multiply (number 8) NoLinks))
+    (MoreLinks Add (Expression.Chain
+    (Expression.Grouped 0 (Expression.Chain (Expression.Null 0) (MoreLinks Equal (Expression.Prefixed 0 AddressOf (variable "x")) NoLinks)))
+    (MoreLinks Multiply (number 16) NoLinks)) NoLinks))))))) ▸
     NoItems)) ∷ []
 
 null_first_runs : source null_first [] 0 ≡ gives (Called (codes "main") ∷ Returned (codes "main") ∷ []) (SourceEnding.Ended 7)

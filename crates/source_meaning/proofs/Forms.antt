@@ -1,24 +1,39 @@
--- A property of steps that the steps of every act have where what comes after it has, provided that calls are of names that it may have. Here: expressions, regions,
+-- A property of steps that the steps of every act have where what comes after it has, provided that calls are of names that it may have. Here: expressions,
+-- regions,
 -- statements and functions.
 use Rattle.std.proofs.Common.{ℕ, suc, ◌+◌, Bool, true, false, Option, Some, None, List, [], ◌∷◌, ◌++◌}
 use Rattle.std.specs.List.{AllByRecursion}
 use Rattle.std.specs.Prelude.{if◌then◌else◌}
 use Rattle.cyc_tree.specs.Tree as tree
-use Rattle.cyc_tree.specs.Tree.{Expression, Expressions, NoExpressions, MoreExpressions, Links, NoLinks, MoreLinks, Suffixes, NoSuffixes, Index, Dot, Arrow, Made, One, Array, Initializer, Declaration, Statement, BlockItems, NoItems, Clauses, NoClauses, MoreClauses, Case, Default, Constant, Initial, Item}
-use Rattle.source_meaning.specs.Shapes.{Shared, Shape, VoidShape, UnionShape, HandleShape, KeyShape, Part, part_position, part_shape, written, settled, settled_by, same_shape}
-use Rattle.source_meaning.specs.Memory.{Region, Frame, Born, Spot, Scalar, AsInt, AsChar, Integer, Thin, HandleOf, KeyOf, Tagged, Holds, Gone, Lent, Object, Closed, is_live, is_closed, with_state, blank_object, is_moved}
-use Rattle.source_meaning.specs.Steps.{Entity, Variable, Routine, World, Scope, Flow, Falls, Breaks, Continues, Returns, Act, give, ◌>>=◌, stuck, take_turn, need}
+use Rattle.cyc_tree.specs.Tree.{Expression, Expressions, NoExpressions, MoreExpressions, Links, NoLinks, MoreLinks, Suffixes, NoSuffixes, Index, Dot, Arrow}
+use Rattle.cyc_tree.specs.Tree.{Made, One, Array, Initializer, Declaration, Statement, BlockItems, NoItems, Clauses, NoClauses, MoreClauses, Case, Default}
+use Rattle.cyc_tree.specs.Tree.{Constant, Initial, Item}
+use Rattle.source_meaning.specs.Shapes.{Shared, Shape, VoidShape, UnionShape, HandleShape, KeyShape, Part, part_position, part_shape, written, settled}
+use Rattle.source_meaning.specs.Shapes.{settled_by, same_shape}
+use Rattle.source_meaning.specs.Memory.{Region, Frame, Born, Spot, Scalar, AsInt, AsChar, Integer, Thin, HandleOf, KeyOf, Tagged, Holds, Gone, Lent, Object}
+use Rattle.source_meaning.specs.Memory.{Closed, is_live, is_closed, with_state, blank_object, is_moved}
+use Rattle.source_meaning.specs.Steps.{Entity, Variable, Routine, World, Scope, Flow, Falls, Breaks, Continues, Returns, Act, give, ◌>>=◌, stuck, take_turn}
+use Rattle.source_meaning.specs.Steps.{need}
 use Rattle.source_meaning.specs.Conversions.{cells_of, element}
 use Rattle.source_meaning.specs.Values.{put_content}
 use Rattle.source_meaning.specs.Making.{heap_maker}
 use Rattle.source_meaning.specs.Places.{Sense, entity_of, with_binding, string_at, literal_string, contents, indexed, member, or_else}
 use Rattle.source_meaning.specs.Calls.{number_type, applied, handle_maker}
 use Rattle.source_meaning.specs.Expressions.{is_unique_region, element_scope, sense, senses, linked, suffixed, new_sense, new_in_sense}
-use Rattle.source_meaning.specs.Regions.{in_block, declared, local_with, initialised, operand_of, operand, lending, region_born, region_freed, lexical_region, key_of, new_key, key_opened, key_closed, open_key, key_freed, unique_freed, pointer_freed, local_freed, aliased}
-use Rattle.source_meaning.specs.Statements.{falls_to, after_turn, loop, exchanged, after_switch, local, declaration, Held, held_by, is_position, statement, block_items, case_for, default_for}
-use Rattle.source_meaning.specs.Programs.{is_main, result_at_end, result_of, with_arguments, turned, constant_value, constant_shape, global_stored, globals_stored, heap_spot}
-use Rattle.source_meaning.proofs.Kept.{Property, SensesKeep, SenseKeeps, Keeps, both_parts, all_true_keeps, any_true_keeps, applied_keeps, array_keeps, assigned_keeps, block_keeps, call_keeps, check_keeps, choose_keeps, constant_keeps, contents_keeps, converted_keeps, counted_keeps, entity_keeps, finally_keeps, give_keeps, handle_keeps, if_keeps, in_region_keeps, indexed_keeps, looked, made_in_keeps, made_keeps, member_keeps, need_keeps, no_sense_keeps, object_keeps, prefixed_keeps, put_keeps, read_cell_keeps, read_cells_keeps, scalar_keeps, stuck_keeps, tested_keeps, truth_keeps, union_keeps, value_is_keeps, write_cells_keeps}
-use Rattle.source_meaning.specs.Callees.{expression_callees, expressions_callees, links_callees, suffixes_callees, made_callees, initializer_callees, declaration_callees, statement_callees, items_callees, clauses_callees}
+use Rattle.source_meaning.specs.Regions.{in_block, declared, local_with, initialised, operand_of, operand, lending, region_born, region_freed, lexical_region}
+use Rattle.source_meaning.specs.Regions.{key_of, new_key, key_opened, key_closed, open_key, key_freed, unique_freed, pointer_freed, local_freed, aliased}
+use Rattle.source_meaning.specs.Statements.{falls_to, after_turn, loop, exchanged, after_switch, local, declaration, Held, held_by, is_position, statement}
+use Rattle.source_meaning.specs.Statements.{block_items, case_for, default_for}
+use Rattle.source_meaning.specs.Programs.{is_main, result_at_end, result_of, with_arguments, turned, constant_value, constant_shape, global_stored}
+use Rattle.source_meaning.specs.Programs.{globals_stored, heap_spot}
+use Rattle.source_meaning.proofs.Kept.{Property, SensesKeep, SenseKeeps, Keeps, both_parts, all_true_keeps, any_true_keeps, applied_keeps, array_keeps}
+use Rattle.source_meaning.proofs.Kept.{assigned_keeps, block_keeps, call_keeps, check_keeps, choose_keeps, constant_keeps, contents_keeps, converted_keeps}
+use Rattle.source_meaning.proofs.Kept.{counted_keeps, entity_keeps, finally_keeps, give_keeps, handle_keeps, if_keeps, in_region_keeps, indexed_keeps, looked}
+use Rattle.source_meaning.proofs.Kept.{made_in_keeps, made_keeps, member_keeps, need_keeps, no_sense_keeps, object_keeps, prefixed_keeps, put_keeps}
+use Rattle.source_meaning.proofs.Kept.{read_cell_keeps, read_cells_keeps, scalar_keeps, stuck_keeps, tested_keeps, truth_keeps, union_keeps, value_is_keeps}
+use Rattle.source_meaning.proofs.Kept.{write_cells_keeps}
+use Rattle.source_meaning.specs.Callees.{expression_callees, expressions_callees, links_callees, suffixes_callees, made_callees, initializer_callees}
+use Rattle.source_meaning.specs.Callees.{declaration_callees, statement_callees, items_callees, clauses_callees}
 
 -- a scope's program may have calls of all these names
 abbrev pub MayCallAll : Property → Scope → List (List ℕ) → Type 0
@@ -129,7 +144,8 @@ module _ (P : Property) where
         (write_cells_keeps P at vs).go _ m1 (λ a m2. (x name (Variable s at)).go next m2 h));
   }
 
-  initialised_keeps : (scope : Scope) (name : List ℕ) (s : Shape) (e : Sense) (rest : Scope → Act Flow) → SenseKeeps P e → KeepsWithin P scope rest → Keeps P (initialised scope name s e rest)
+  initialised_keeps : (scope : Scope) (name : List ℕ) (s : Shape) (e : Sense) (rest : Scope → Act Flow) → SenseKeeps P e → KeepsWithin P scope rest
+      → Keeps P (initialised scope name s e rest)
   initialised_keeps scope name s e rest x y = record {
     go = λ next m h. x.value.go _ m (λ us m1. (converted_keeps P scope.world s _ us).go _ m1 (λ vs m2. (local_with_keeps scope name s vs rest y).go next m2 h));
   }
@@ -177,7 +193,10 @@ module _ (P : Property) where
   }
 
   key_freed_keeps : (v : Scalar) → Keeps P (key_freed v)
-  key_freed_keeps v = record { go = λ next m h. (key_keeps v).go _ m (λ r m1. (check_keeps P (is_closed m1 (Born r))).go _ m1 (λ a m2. P.says _ tt _ (h tt _))) }
+  key_freed_keeps v = record {
+    go = λ next m h.
+        (key_keeps v).go _ m (λ r m1. (check_keeps P (is_closed m1 (Born r))).go _ m1 (λ a m2. P.says _ tt _ (h tt _)));
+  }
 
   unique_freed_keeps : (r : Region) → Keeps P (unique_freed r)
   unique_freed_keeps (Frame k) = stuck_keeps P
@@ -188,16 +207,19 @@ module _ (P : Property) where
   pointer_freed_keeps (Thin (Some s)) = unique_freed_keeps s.region
   pointer_freed_keeps v = stuck_keeps P
 
-  local_freed_keeps : (scope : Scope) (name : List ℕ) (freed : Scalar → Act (Unit {0})) → ((v : Scalar) → Keeps P (freed v)) → Keeps P (local_freed scope name freed)
+  local_freed_keeps : (scope : Scope) (name : List ℕ) (freed : Scalar → Act (Unit {0})) → ((v : Scalar) → Keeps P (freed v))
+      → Keeps P (local_freed scope name freed)
   local_freed_keeps scope name freed x = record {
-    go = λ next m h. (operand_of_keeps (entity_of scope name)).go _ m (λ o m1. (read_cell_keeps P o.at).go _ m1 (λ v m2. (put_keeps P o.at Gone).go _ m2 (λ a m3.
+    go = λ next m h. (operand_of_keeps (entity_of scope name)).go _ m
+        (λ o m1. (read_cell_keeps P o.at).go _ m1 (λ v m2. (put_keeps P o.at Gone).go _ m2 (λ a m3.
         (x v).go next m3 h)));
   }
 
   aliased_keeps : (scope : Scope) (s : Shape) (alias pointer : List ℕ) (rest : Scope → Act Flow) → KeepsWithin P scope rest
       → Keeps P (aliased scope s alias pointer rest)
   aliased_keeps scope s alias pointer rest x = record {
-    go = λ next m h. (operand_of_keeps (entity_of scope pointer)).go _ m (λ o m1. (read_cell_keeps P o.at).go _ m1 (λ v m2. (scalar_keeps P scope.world (settled_by s o.shape) o.shape v).go _ m2 (λ c m3.
+    go = λ next m h. (operand_of_keeps (entity_of scope pointer)).go _ m
+        (λ o m1. (read_cell_keeps P o.at).go _ m1 (λ v m2. (scalar_keeps P scope.world (settled_by s o.shape) o.shape v).go _ m2 (λ c m3.
         (lending_keeps o.at v _ (local_with_keeps scope alias (settled_by s o.shape) (c ∷ []) rest x)).go next m3 h)));
   }
 
@@ -225,7 +247,8 @@ module _ (P : Property) where
   exchanged_keeps : (a b : Sense) → SenseKeeps P a → SenseKeeps P b → Keeps P (exchanged a b)
   exchanged_keeps a b x y = record {
     go = λ next m h. (check_keeps P (same_shape a.shape b.shape)).go _ m (λ u m0. x.place.go _ m0 (λ s m1. y.place.go _ m1 (λ t m2.
-        (read_cells_keeps P 1 s).go _ m2 (λ vs m3. (read_cells_keeps P 1 t).go _ m3 (λ us m4. (write_cells_keeps P s us).go _ m4 (λ c m5. (write_cells_keeps P t vs).go next m5 h))))));
+        (read_cells_keeps P 1 s).go _ m2
+        (λ vs m3. (read_cells_keeps P 1 t).go _ m3 (λ us m4. (write_cells_keeps P s us).go _ m4 (λ c m5. (write_cells_keeps P t vs).go next m5 h))))));
   }
 
   pub local_keeps : (scope : Scope) (of : Shape) (name : List ℕ) (i : Initializer) (rest : Scope → Act Flow) → MayCallAll P scope (initializer_callees i)
@@ -234,7 +257,8 @@ module _ (P : Property) where
   local_keeps scope of name (Initializer.Elements count) rest c x = declared_keeps scope name _ _ rest x
   local_keeps scope of name (Initializer.Value e) rest c x = initialised_keeps scope name _ (sense e scope) rest (sense_keeps e scope c) x
 
-  declaration_keeps : (d : Declaration) (scope : Scope) (rest : Scope → Act Flow) → MayCallAll P scope (declaration_callees d) → KeepsWithin P scope rest → Keeps P (declaration d scope rest)
+  declaration_keeps : (d : Declaration) (scope : Scope) (rest : Scope → Act Flow) → MayCallAll P scope (declaration_callees d) → KeepsWithin P scope rest
+      → Keeps P (declaration d scope rest)
   declaration_keeps (tree.Local of name initializer) scope rest c x = local_keeps scope (written of) name.text initializer rest c x
   declaration_keeps (tree.Region at region handle) scope rest c x = lexical_keeps scope handle.text rest x
   declaration_keeps (tree.Open at region handle key) scope rest c x = open_keeps scope handle.text key.text rest x

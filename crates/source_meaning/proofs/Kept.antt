@@ -1,4 +1,5 @@
--- A property of steps that the steps of every act have where what comes after the act has it, provided that calls are of names that the property may have. Here:
+-- A property of steps that the steps of every act have where what comes after the act has it, provided that calls are of names that the property may have.
+-- Here:
 -- acts on cells, conversions, operators, calls and made values.
 use Rattle.std.proofs.Common.{◌≡◌, ℕ, zero, suc, ◌+◌, Bool, true, false, Option, Some, None, List, [], ◌∷◌, ◌++◌, length, refl, ◌*◌}
 use Rattle.std.specs.List.{AllByRecursion}
@@ -10,15 +11,22 @@ use Rattle.cyc_tree.specs.declared.expression.Prefix.TheVariants.{Negate, Not, C
 use Rattle.cyc_words.specs.declared.faults.Kind.{Kind}
 use Rattle.cyc_words.specs.Events.{Event, ByteRead, ByteWritten, SourceEvent, Visible, SourceEnding}
 use Rattle.step_trees.specs.Trees.{Calls, Turns, Stops, Says, Reads, Pays}
-use Rattle.source_meaning.specs.Shapes.{parts_of, Reach, MayBeNull, NeverNull, bound_in, Owner, Shared, Alone, Shape, IntShape, UnsignedShape, CharShape, ThinShape, FatShape, ArrayShape, part_shape, part_shapes, pointee, has_tag, same_shape}
-use Rattle.source_meaning.specs.Memory.{Region, Frame, Born, Spot, Span, Scalar, IntegerType, AsInt, AsUnsigned, AsChar, Integer, Thin, Wide, HandleOf, Content, Holds, Blank, Gone, Lent, Object, State, Live, Dead, Memory, beyond, any_moved, cell_at, is_live, is_of, with_state}
-use Rattle.source_meaning.specs.Steps.{Entity, Variable, Routine, World, LoopTurn, Flow, Step, Act, give, ◌>>=◌, ◌>>◌, stuck, raise, need, check, choose, finally}
+use Rattle.source_meaning.specs.Shapes.{parts_of, Reach, MayBeNull, NeverNull, bound_in, Owner, Shared, Alone, Shape, IntShape, UnsignedShape, CharShape}
+use Rattle.source_meaning.specs.Shapes.{ThinShape, FatShape, ArrayShape, part_shape, part_shapes, pointee, has_tag, same_shape}
+use Rattle.source_meaning.specs.Memory.{Region, Frame, Born, Spot, Span, Scalar, IntegerType, AsInt, AsUnsigned, AsChar, Integer, Thin, Wide, HandleOf, Content}
+use Rattle.source_meaning.specs.Memory.{Holds, Blank, Gone, Lent, Object, State, Live, Dead, Memory, beyond, any_moved, cell_at, is_live, is_of, with_state}
+use Rattle.source_meaning.specs.Steps.{Entity, Variable, Routine, World, LoopTurn, Flow, Step, Act, give, ◌>>=◌, ◌>>◌, stuck, raise, need, check, choose}
+use Rattle.source_meaning.specs.Steps.{finally}
 use Rattle.source_meaning.specs.Operators.{operated, is_true}
-use Rattle.source_meaning.specs.Conversions.{cells_of, element, elements_from, thin_to_thin, fat_to_thin, thin_leads, fat_leads, converted_scalar, converted, one, integer, accessed}
+use Rattle.source_meaning.specs.Conversions.{cells_of, element, elements_from, thin_to_thin, fat_to_thin, thin_leads, fat_leads, converted_scalar, converted}
+use Rattle.source_meaning.specs.Conversions.{one, integer, accessed}
 use Rattle.source_meaning.specs.Values.{value_held, read_cell, read_cells, put_content, write_cell, write_cells, put_contents, take_cells, is_lent}
 use Rattle.source_meaning.specs.Making.{Maker, AsUnique, InRegion, maker_of, ask, make_object, set_state}
-use Rattle.source_meaning.specs.Places.{Sense, value_sense, place_sense, no_sense, span_at, entity_sense, contents, indexed_span, indexed, member, address_of, given_by, assigned}
-use Rattle.source_meaning.specs.Calls.{constant, applied, truth, all_true, any_true, tested, inverted, prefixed, elements_left, counted, converted_all, flat, function_of, called, read_byte, write_byte, struct_made, call_sense, union_made, made, index_in, index_made, elements, array_made, handle_maker, made_in}
+use Rattle.source_meaning.specs.Places.{Sense, value_sense, place_sense, no_sense, span_at, entity_sense, contents, indexed_span, indexed, member, address_of}
+use Rattle.source_meaning.specs.Places.{given_by, assigned}
+use Rattle.source_meaning.specs.Calls.{constant, applied, truth, all_true, any_true, tested, inverted, prefixed, elements_left, counted, converted_all, flat}
+use Rattle.source_meaning.specs.Calls.{function_of, called, read_byte, write_byte, struct_made, call_sense, union_made, made, index_in, index_made, elements}
+use Rattle.source_meaning.specs.Calls.{array_made, handle_maker, made_in}
 use Rattle.source_meaning.specs.Regions.{in_region, enter_block, in_block}
 use Rattle.source_meaning.specs.Callees.{expression_callees, statement_callees}
 
@@ -28,8 +36,10 @@ IsSilent (Visible (ByteRead byte)) = ⊥
 IsSilent (Visible (ByteWritten byte)) = ⊥
 IsSilent _ = Unit {0}
 
--- A property of steps: which they are that have it, and which names may be called in a program. A run that is over has it. So has a run that goes on by a visible
--- event that is no byte, by a unit, or by a unit and then a byte that is read or written, if what follows has it; and so has a call of a function by a name that
+-- A property of steps: which they are that have it, and which names may be called in a program. A run that is over has it. So has a run that goes on by a
+-- visible
+-- event that is no byte, by a unit, or by a unit and then a byte that is read or written, if what follows has it; and so has a call of a function by a name
+-- that
 -- may be called, and a turn in which all calls are by such names.
 pub record Property : Type 1 where
   pub Has : Step → Type 0
@@ -147,7 +157,8 @@ module _ (P : Property) where
   enough_keeps : (cells count : ℕ) (p : Option Span) → Keeps P (elements_from cells count p)
   enough_keeps cells count None = raise_keeps _
   enough_keeps cells count (Some s) = record {
-    go = λ next m h. (element_keeps cells (Some s)).go _ m (λ at m1. (if_keeps (nat_le count (s.count - s.index)) _ _ (give_keeps at) (raise_keeps _)).go next m1 h);
+    go = λ next m h. (element_keeps cells (Some s)).go _ m
+        (λ at m1. (if_keeps (nat_le count (s.count - s.index)) _ _ (give_keeps at) (raise_keeps _)).go next m1 h);
   }
 
   fat_keeps : (b : Reach) (cells : ℕ) (p : Option Span) → Keeps P (fat_to_thin b cells p)
@@ -313,7 +324,8 @@ module _ (P : Property) where
   all_converted_keeps : (w : World) (shapes : List Shape) (es : List Sense) → SensesKeep P es → Keeps P (converted_all w shapes es)
   all_converted_keeps w [] [] x = give_keeps []
   all_converted_keeps w (s ∷ ss) (e ∷ es) x = record {
-    go = λ next m h. x.0.value.go _ m (λ us m1. (converted_keeps w s e.shape us).go _ m1 (λ vs m2. (all_converted_keeps w ss es x.1).go _ m2 (λ vss m3. h _ m3)));
+    go = λ next m h. x.0.value.go _ m
+        (λ us m1. (converted_keeps w s e.shape us).go _ m1 (λ vs m2. (all_converted_keeps w ss es x.1).go _ m2 (λ vss m3. h _ m3)));
   }
   all_converted_keeps w [] (e ∷ es) x = stuck_keeps
   all_converted_keeps w (s ∷ ss) [] x = stuck_keeps
@@ -348,20 +360,26 @@ module _ (P : Property) where
 
   pub union_keeps : (w : World) (tag f : List ℕ) (e : Sense) → SenseKeeps P e → SenseKeeps P (union_made w tag f e)
   union_keeps w tag f e x = value_is_keeps _ _ (record {
-    go = λ next m h. x.value.go _ m (λ us m1. (converted_keeps w (part_shape (parts_of w.unions tag) f) e.shape us).go _ m1 (λ vs m2. (one_keeps vs).go _ m2 (λ v m3. (need_keeps _).go _ m3 (λ k m4. h _ m4))));
+    go = λ next m h. x.value.go _ m (λ us m1. (converted_keeps w (part_shape (parts_of w.unions tag) f) e.shape us).go _ m1
+        (λ vs m2. (one_keeps vs).go _ m2 (λ v m3. (need_keeps _).go _ m3 (λ k m4. h _ m4))));
   })
 
   pub object_keeps : (r : Region) (o : Object) → Keeps P (make_object r o)
   object_keeps r o = record { go = λ next m h. (check_keeps (is_live m r)).go _ m (λ a m1. h _ _) }
 
   ask_keeps : (to : Maker) (bytes : ℕ) (o : Object) → Keeps P (ask to bytes o)
-  ask_keeps (InRegion r) bytes o = record { go = λ next m h. (check_keeps (is_live m (Born r))).go _ m (λ a m1. P.says _ tt _ ((object_keeps (Born r) o).go next m1 h)) }
+  ask_keeps (InRegion r) bytes o =
+      record { go = λ next m h. (check_keeps (is_live m (Born r))).go _ m (λ a m1. P.says _ tt _ ((object_keeps (Born r) o).go next m1 h)) }
   ask_keeps AsUnique bytes o =
-      record { go = λ next m h. P.says _ tt _ ((object_keeps (Born m.births) o).go next (with_state (record m { births = m.births + 1 }) (Born m.births) Live) h) }
+      record {
+        go = λ next m h. P.says _ tt _
+            ((object_keeps (Born m.births) o).go next (with_state (record m { births = m.births + 1 }) (Born m.births) Live) h);
+      }
 
   pub made_keeps : (w : World) (to : Act Maker) (owner : Owner) (e : Sense) → Keeps P to → SenseKeeps P e → SenseKeeps P (made w to owner e)
   made_keeps w to owner e x y = value_is_keeps _ _ (record {
-    go = λ next m h. x.go _ m (λ place m1. y.value.go _ m1 (λ vs m2. (ask_keeps place _ _).go _ m2 (λ s m3. (write_cells_keeps s vs).go _ m3 (λ a m4. h _ m4))));
+    go = λ next m h. x.go _ m (λ place m1.
+        y.value.go _ m1 (λ vs m2. (ask_keeps place _ _).go _ m2 (λ s m3. (write_cells_keeps s vs).go _ m3 (λ a m4. h _ m4))));
   })
 
   pub state_keeps : (r : Region) (state : State) → Keeps P (set_state r state)

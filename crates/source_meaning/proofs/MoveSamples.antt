@@ -5,7 +5,8 @@ use Rattle.cyc_tree.specs.declared.name.Sign.TheVariants.{Nullable, Fat}
 use Rattle.cyc_tree.specs.declared.expression.Operator.TheVariants.{Add, Subtract, Greater}
 use Rattle.cyc_tree.specs.declared.expression.Prefix.TheVariants.{Negate, Dereference, AddressOf}
 use Rattle.cyc_tree.specs.Tree as tree
-use Rattle.cyc_tree.specs.Tree.{Expression, NoLinks, MoreLinks, NoSuffixes, Index, One, Initializer, Case, Default, Statement, NoItems, NoClauses, MoreClauses, Program}
+use Rattle.cyc_tree.specs.Tree.{Expression, NoLinks, MoreLinks, NoSuffixes, Index, One, Initializer, Case, Default, Statement, NoItems, NoClauses, MoreClauses}
+use Rattle.cyc_tree.specs.Tree.{Program}
 use Rattle.cyc_words.specs.Events.{RegionNew, RegionAlloc, UniqueAlloc, KeyNew, Visible, Called, Returned, SourceEnding}
 use Rattle.source_meaning.specs.Programs.{source}
 use Rattle.source_meaning.proofs.Trees.{named, variable, number, pointer, typed, ◌▸◌, ◌▹◌, function, gives}
@@ -27,7 +28,8 @@ key_moved_runs = refl
 abbrev assigned_away : Program
 assigned_away =
     tree.FunctionItem (function (typed tree.Int []) (named "main") [] (
-    (tree.Local (typed tree.Int ((pointer (Nullable 1) (Some (tree.Unique 0))) ∷ [])) (named "p") (Initializer.Value (Expression.NewIn 0 (Expression.UniqueRegion 0) (One (number 3))))) ▹
+    (tree.Local (typed tree.Int ((pointer (Nullable 1) (Some (tree.Unique 0))) ∷ [])) (named "p")
+    (Initializer.Value (Expression.NewIn 0 (Expression.UniqueRegion 0) (One (number 3))))) ▹
     (tree.Local (typed tree.Int ((pointer (Nullable 1) (Some (tree.Unique 0))) ∷ [])) (named "q") (Initializer.Value (Expression.Null 0))) ▹
     (Statement.Run (Expression.Assign (variable "q") (variable "p"))) ▸
     (Statement.Return 0 (Some (Expression.Prefixed 0 Dereference (variable "p")))) ▸
@@ -40,8 +42,10 @@ assigned_away_runs = refl
 abbrev made_away : Program
 made_away =
     tree.FunctionItem (function (typed tree.Int []) (named "main") [] (
-    (tree.Local (typed tree.Int ((pointer (Nullable 1) (Some (tree.Unique 0))) ∷ [])) (named "p") (Initializer.Value (Expression.NewIn 0 (Expression.UniqueRegion 0) (One (number 3))))) ▹
-    (tree.Local (typed tree.Int ((pointer (Nullable 1) (Some (tree.Unique 0))) ∷ (pointer (Nullable 1) None) ∷ [])) (named "q") (Initializer.Value (Expression.New 0 (One (variable "p"))))) ▹
+    (tree.Local (typed tree.Int ((pointer (Nullable 1) (Some (tree.Unique 0))) ∷ [])) (named "p")
+    (Initializer.Value (Expression.NewIn 0 (Expression.UniqueRegion 0) (One (number 3))))) ▹
+    (tree.Local (typed tree.Int ((pointer (Nullable 1) (Some (tree.Unique 0))) ∷ (pointer (Nullable 1) None) ∷ [])) (named "q")
+    (Initializer.Value (Expression.New 0 (One (variable "p"))))) ▹
     (Statement.Return 0 (Some (Expression.Prefixed 0 Dereference (variable "p")))) ▸
     NoItems)) ∷ []
 
@@ -53,18 +57,27 @@ abbrev made_away_in_a_region : Program
 made_away_in_a_region =
     tree.FunctionItem (function (typed tree.Int []) (named "main") [] (
     (tree.Region 0 (tree.Named (named "r")) (named "h")) ▹
-    (tree.Local (typed tree.Int ((pointer (Nullable 1) (Some (tree.Unique 0))) ∷ [])) (named "p") (Initializer.Value (Expression.NewIn 0 (Expression.UniqueRegion 0) (One (number 3))))) ▹
-    (tree.Local (typed tree.Int ((pointer (Nullable 1) (Some (tree.Unique 0))) ∷ (pointer (Nullable 1) (Some (tree.Named (named "r")))) ∷ [])) (named "q") (Initializer.Value (Expression.NewIn 0 (variable "h") (One (variable "p"))))) ▹
+    (tree.Local (typed tree.Int ((pointer (Nullable 1) (Some (tree.Unique 0))) ∷ [])) (named "p")
+    (Initializer.Value (Expression.NewIn 0 (Expression.UniqueRegion 0) (One (number 3))))) ▹
+    (tree.Local (typed tree.Int ((pointer (Nullable 1) (Some (tree.Unique 0))) ∷ (pointer (Nullable 1) (Some (tree.Named (named "r")))) ∷ [])) (named "q")
+    (Initializer.Value (Expression.NewIn 0 (variable "h") (One (variable "p"))))) ▹
     (Statement.Return 0 (Some (Expression.Prefixed 0 Dereference (variable "p")))) ▸
     NoItems)) ∷ []
 
-made_away_in_a_region_runs : source made_away_in_a_region [] 0 ≡ gives (Called (codes "main") ∷ Visible (RegionNew 1) ∷ Visible (UniqueAlloc 2 4) ∷ Visible (RegionAlloc 1 4) ∷ []) SourceEnding.Stuck
+made_away_in_a_region_runs : source made_away_in_a_region [] 0
+    ≡ gives (Called (codes "main") ∷ Visible (RegionNew 1) ∷ Visible (UniqueAlloc 2 4) ∷ Visible (RegionAlloc 1 4) ∷ []) SourceEnding.Stuck
 made_away_in_a_region_runs = refl
 
--- @tagged union U { int a; char b; }; int main() { int y = 1; int *p = &y; union U x = U.a(4); switch (x) { case {.a = v}: int z = 2; p = &z; default: } return *p; }
+-- @tagged union U { int a; char b; }; int main() { int y = 1; int *p = &y; union U x = U.a(4); switch (x) { case {.a = v}: int z = 2; p = &z; default: } return
+-- *p; }
 abbrev left_case : Program
 left_case =
-    tree.UnionItem (record { at = 0; tag = (named "U"); regions = []; members = ((record { of = (typed tree.Int []); name = (named "a") }) ∷ (record { of = (typed tree.Char []); name = (named "b") }) ∷ []) }) ∷
+    tree.UnionItem (record {
+      at = 0;
+      tag = (named "U");
+      regions = [];
+      members = ((record { of = (typed tree.Int []); name = (named "a") }) ∷ (record { of = (typed tree.Char []); name = (named "b") }) ∷ []);
+    }) ∷
     tree.FunctionItem (function (typed tree.Int []) (named "main") [] (
     (tree.Local (typed tree.Int []) (named "y") (Initializer.Value (number 1))) ▹
     (tree.Local (typed tree.Int ((pointer (Nullable 1) None) ∷ [])) (named "p") (Initializer.Value (Expression.Prefixed 0 AddressOf (variable "y")))) ▹
@@ -84,7 +97,12 @@ left_case_runs = refl
 -- @tagged union U { int a; char b; }; int main() { int y = 1; int *p = &y; union U x = U.a(4); switch (x) { default: int z = 2; p = &z; } return *p; }
 abbrev left_default : Program
 left_default =
-    tree.UnionItem (record { at = 0; tag = (named "U"); regions = []; members = ((record { of = (typed tree.Int []); name = (named "a") }) ∷ (record { of = (typed tree.Char []); name = (named "b") }) ∷ []) }) ∷
+    tree.UnionItem (record {
+      at = 0;
+      tag = (named "U");
+      regions = [];
+      members = ((record { of = (typed tree.Int []); name = (named "a") }) ∷ (record { of = (typed tree.Char []); name = (named "b") }) ∷ []);
+    }) ∷
     tree.FunctionItem (function (typed tree.Int []) (named "main") [] (
     (tree.Local (typed tree.Int []) (named "y") (Initializer.Value (number 1))) ▹
     (tree.Local (typed tree.Int ((pointer (Nullable 1) None) ∷ [])) (named "p") (Initializer.Value (Expression.Prefixed 0 AddressOf (variable "y")))) ▹
@@ -129,7 +147,9 @@ there_and_back_runs = refl
 abbrev unsigned_made : Program
 unsigned_made =
     tree.FunctionItem (function (typed tree.Int []) (named "main") [] (
-    (Statement.Return 0 (Some (Expression.Chain (Expression.Prefixed 0 Dereference (Expression.New 0 (One (Expression.Prefixed 0 Negate (Expression.Number 0 1 true))))) (MoreLinks Greater (number 0) NoLinks)))) ▸
+    (Statement.Return 0 (Some (Expression.Chain
+    (Expression.Prefixed 0 Dereference (Expression.New 0 (One (Expression.Prefixed 0 Negate (Expression.Number 0 1 true)))))
+    (MoreLinks Greater (number 0) NoLinks)))) ▸
     NoItems)) ∷ []
 
 unsigned_made_runs : source unsigned_made [] 0 ≡ gives (Called (codes "main") ∷ Visible (RegionAlloc 0 4) ∷ Returned (codes "main") ∷ []) (SourceEnding.Ended 1)

@@ -19,7 +19,8 @@ pub record Safe (n : ℕ) (s : Step) : Type 0 where
 
 -- it gives an integer, whatever comes next
 pub record GivesInteger (e : Sense) : Type 0 where
-  pub look : (n : ℕ) (next : List Scalar → Memory → Step) (m : Memory) → ((t : IntegerType) (x : ℕ) → Safe n (next (Integer t x ∷ []) m)) → Safe n (e.look next m)
+  pub look : (n : ℕ) (next : List Scalar → Memory → Step) (m : Memory) → ((t : IntegerType) (x : ℕ) → Safe n (next (Integer t x ∷ []) m))
+      → Safe n (e.look next m)
 
 pub record IsInteger (v : Scalar) : Type 0 where
   pub type : IntegerType
@@ -74,4 +75,5 @@ mutual
   linked_gives : (links : Links) (scope : Scope) (left : Sense) → ArePlain links → GivesInteger left → GivesInteger (linked links scope left)
   linked_gives NoLinks scope left h g = g
   linked_gives (MoreLinks operator operand others) scope left h g =
-      linked_gives others scope (applied operator left (sense operand scope)) h.1 (applied_gives operator left (sense operand scope) g (plain_gives operand scope h.0))
+      linked_gives others scope (applied operator left (sense operand scope)) h.1
+      (applied_gives operator left (sense operand scope) g (plain_gives operand scope h.0))

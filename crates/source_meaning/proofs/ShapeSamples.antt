@@ -81,7 +81,8 @@ unique_assignment =
     tree.FunctionItem (function (typed tree.Int []) (named "main") [] (
     (tree.Local (typed tree.Int ((pointer (Nullable 1) (Some (tree.Unique 0))) ∷ [])) (named "p") (Initializer.Value (Expression.Null 0))) ▹
     (tree.Local (typed tree.Int ((pointer (Nullable 1) (Some (tree.Unique 0))) ∷ [])) (named "q") (Initializer.Value (Expression.Null 0))) ▹
-    (Statement.Return 0 (Some (Expression.Chain (Expression.Grouped 0 (Expression.Assign (variable "q") (variable "p"))) (MoreLinks Equal (Expression.Null 0) NoLinks)))) ▸
+    (Statement.Return 0 (Some (Expression.Chain (Expression.Grouped 0 (Expression.Assign (variable "q") (variable "p")))
+    (MoreLinks Equal (Expression.Null 0) NoLinks)))) ▸
     NoItems)) ∷ []
 
 unique_assignment_runs : source unique_assignment [] 0 ≡ gives (Called (codes "main") ∷ []) SourceEnding.Stuck

@@ -6,7 +6,8 @@ use Rattle.cyc_tree.specs.declared.expression.Operator.TheVariants.{Equal}
 use Rattle.cyc_tree.specs.declared.expression.Prefix.TheVariants.{Dereference, AddressOf}
 use Rattle.cyc_tree.specs.Tree as tree
 use Rattle.cyc_tree.specs.Tree.{Expression, NoExpressions, MoreExpressions, NoLinks, MoreLinks, NoSuffixes, Dot, One, Initializer, Statement, NoItems, Program}
-use Rattle.cyc_words.specs.Events.{RegionNew, RegionAlloc, RegionFree, UniqueAlloc, UniqueFree, KeyNew, KeyOpen, KeyClose, KeyFree, Visible, Called, SourceEnding}
+use Rattle.cyc_words.specs.Events.{RegionNew, RegionAlloc, RegionFree, UniqueAlloc, UniqueFree, KeyNew, KeyOpen, KeyClose, KeyFree, Visible, Called}
+use Rattle.cyc_words.specs.Events.{SourceEnding}
 use Rattle.source_meaning.specs.Memory.{Memory, Born, is_live}
 use Rattle.source_meaning.specs.Steps.{Step}
 use Rattle.step_trees.specs.Trees.{Stops}
@@ -43,7 +44,8 @@ blank_exchanged_runs = refl
 abbrev lent_exchanged : Program
 lent_exchanged =
     tree.FunctionItem (function (typed tree.Int []) (named "main") [] (
-    (tree.Local (typed tree.Int ((pointer (Nullable 1) (Some (tree.Unique 0))) ∷ [])) (named "p") (Initializer.Value (Expression.NewIn 0 (Expression.UniqueRegion 0) (One (number 3))))) ▹
+    (tree.Local (typed tree.Int ((pointer (Nullable 1) (Some (tree.Unique 0))) ∷ [])) (named "p")
+    (Initializer.Value (Expression.NewIn 0 (Expression.UniqueRegion 0) (One (number 3))))) ▹
     (tree.Local (typed tree.Int ((pointer (Nullable 1) (Some (tree.Unique 0))) ∷ [])) (named "q") (Initializer.Value (Expression.Null 0))) ▹
     (tree.Alias 0 (tree.Named (named "r")) (typed tree.Int ((pointer (Nullable 1) (Some (tree.Named (named "r")))) ∷ [])) (named "x") (named "p")) ▹
     (Statement.Exchange (variable "p") (variable "q")) ▸
@@ -57,7 +59,8 @@ lent_exchanged_runs = refl
 abbrev exchanged_with_lent : Program
 exchanged_with_lent =
     tree.FunctionItem (function (typed tree.Int []) (named "main") [] (
-    (tree.Local (typed tree.Int ((pointer (Nullable 1) (Some (tree.Unique 0))) ∷ [])) (named "p") (Initializer.Value (Expression.NewIn 0 (Expression.UniqueRegion 0) (One (number 3))))) ▹
+    (tree.Local (typed tree.Int ((pointer (Nullable 1) (Some (tree.Unique 0))) ∷ [])) (named "p")
+    (Initializer.Value (Expression.NewIn 0 (Expression.UniqueRegion 0) (One (number 3))))) ▹
     (tree.Local (typed tree.Int ((pointer (Nullable 1) (Some (tree.Unique 0))) ∷ [])) (named "q") (Initializer.Value (Expression.Null 0))) ▹
     (tree.Alias 0 (tree.Named (named "r")) (typed tree.Int ((pointer (Nullable 1) (Some (tree.Named (named "r")))) ∷ [])) (named "x") (named "p")) ▹
     (Statement.Exchange (variable "q") (variable "p")) ▸
@@ -71,7 +74,8 @@ exchanged_with_lent_runs = refl
 abbrev gone_exchanged : Program
 gone_exchanged =
     tree.FunctionItem (function (typed tree.Int []) (named "main") [] (
-    (tree.Local (typed tree.Int ((pointer (Nullable 1) (Some (tree.Unique 0))) ∷ [])) (named "p") (Initializer.Value (Expression.NewIn 0 (Expression.UniqueRegion 0) (One (number 3))))) ▹
+    (tree.Local (typed tree.Int ((pointer (Nullable 1) (Some (tree.Unique 0))) ∷ [])) (named "p")
+    (Initializer.Value (Expression.NewIn 0 (Expression.UniqueRegion 0) (One (number 3))))) ▹
     (tree.Local (typed tree.Int ((pointer (Nullable 1) (Some (tree.Unique 0))) ∷ [])) (named "q") (Initializer.Value (Expression.Null 0))) ▹
     (Statement.FreeUnique 0 (named "p")) ▸
     (Statement.Exchange (variable "p") (variable "q")) ▸
@@ -85,24 +89,34 @@ gone_exchanged_runs = refl
 abbrev exchanged_with_gone : Program
 exchanged_with_gone =
     tree.FunctionItem (function (typed tree.Int []) (named "main") [] (
-    (tree.Local (typed tree.Int ((pointer (Nullable 1) (Some (tree.Unique 0))) ∷ [])) (named "p") (Initializer.Value (Expression.NewIn 0 (Expression.UniqueRegion 0) (One (number 3))))) ▹
+    (tree.Local (typed tree.Int ((pointer (Nullable 1) (Some (tree.Unique 0))) ∷ [])) (named "p")
+    (Initializer.Value (Expression.NewIn 0 (Expression.UniqueRegion 0) (One (number 3))))) ▹
     (tree.Local (typed tree.Int ((pointer (Nullable 1) (Some (tree.Unique 0))) ∷ [])) (named "q") (Initializer.Value (Expression.Null 0))) ▹
     (Statement.FreeUnique 0 (named "p")) ▸
     (Statement.Exchange (variable "q") (variable "p")) ▸
     (Statement.Return 0 (Some (number 0))) ▸
     NoItems)) ∷ []
 
-exchanged_with_gone_runs : source exchanged_with_gone [] 0 ≡ gives (Called (codes "main") ∷ Visible (UniqueAlloc 1 4) ∷ Visible (UniqueFree 1) ∷ []) SourceEnding.Stuck
+exchanged_with_gone_runs : source exchanged_with_gone [] 0 ≡ gives (Called (codes "main") ∷ Visible (UniqueAlloc 1 4) ∷ Visible (UniqueFree 1) ∷ [])
+    SourceEnding.Stuck
 exchanged_with_gone_runs = refl
 
 -- struct B { int n; int *`U p; }; int main() { struct B a = B(1, NULL); struct B b = a; return a.p == NULL; }
 abbrev struct_gone : Program
 struct_gone =
-    tree.StructItem (record { at = 0; tag = (named "B"); regions = []; members = ((record { of = (typed tree.Int []); name = (named "n") }) ∷ (record { of = (typed tree.Int ((pointer (Nullable 1) (Some (tree.Unique 0))) ∷ [])); name = (named "p") }) ∷ []) }) ∷
+    tree.StructItem (record {
+      at = 0;
+      tag = (named "B");
+      regions = [];
+      members = ((record { of = (typed tree.Int []); name = (named "n") })
+          ∷ (record { of = (typed tree.Int ((pointer (Nullable 1) (Some (tree.Unique 0))) ∷ [])); name = (named "p") }) ∷ []);
+    }) ∷
     tree.FunctionItem (function (typed tree.Int []) (named "main") [] (
-    (tree.Local (typed (tree.Struct (named "B") []) []) (named "a") (Initializer.Value (Expression.Call (named "B") (MoreExpressions (number 1) (MoreExpressions (Expression.Null 0) NoExpressions))))) ▹
+    (tree.Local (typed (tree.Struct (named "B") []) []) (named "a")
+    (Initializer.Value (Expression.Call (named "B") (MoreExpressions (number 1) (MoreExpressions (Expression.Null 0) NoExpressions))))) ▹
     (tree.Local (typed (tree.Struct (named "B") []) []) (named "b") (Initializer.Value (variable "a"))) ▹
-    (Statement.Return 0 (Some (Expression.Chain (Expression.Suffixed (variable "a") (Dot (named "p") NoSuffixes)) (MoreLinks Equal (Expression.Null 0) NoLinks)))) ▸
+    (Statement.Return 0 (Some (Expression.Chain (Expression.Suffixed (variable "a") (Dot (named "p") NoSuffixes))
+    (MoreLinks Equal (Expression.Null 0) NoLinks)))) ▸
     NoItems)) ∷ []
 
 struct_gone_runs : source struct_gone [] 0 ≡ gives (Called (codes "main") ∷ []) SourceEnding.Stuck
@@ -139,7 +153,8 @@ abbrev address_of_unique_read : Program
 address_of_unique_read =
     tree.FunctionItem (function (typed tree.Int []) (named "main") [] (
     (tree.Local (typed tree.Int ((pointer (Nullable 1) (Some (tree.Unique 0))) ∷ [])) (named "u") Initializer.Unset) ▹
-    (tree.Local (typed tree.Int ((pointer (Nullable 1) None) ∷ (pointer Fat None) ∷ [])) (named "q") (Initializer.Value (Expression.Prefixed 0 AddressOf (variable "u")))) ▹
+    (tree.Local (typed tree.Int ((pointer (Nullable 1) None) ∷ (pointer Fat None) ∷ [])) (named "q")
+    (Initializer.Value (Expression.Prefixed 0 AddressOf (variable "u")))) ▹
     (tree.Local (typed tree.Int ((pointer (Nullable 1) None) ∷ [])) (named "x") (Initializer.Value (Expression.Prefixed 0 Dereference (variable "q")))) ▹
     (Statement.Return 0 (Some (Expression.Chain (Expression.Prefixed 0 Dereference (variable "q")) (MoreLinks Equal (Expression.Null 0) NoLinks)))) ▸
     NoItems)) ∷ []
@@ -216,7 +231,9 @@ dead_object_written =
     (Statement.Return 0 (Some (number 0))) ▸
     NoItems)) ∷ []
 
-dead_object_written_runs : source dead_object_written [] 0 ≡ gives (Called (codes "main") ∷ Visible (RegionAlloc 0 4) ∷ Visible (RegionNew 1) ∷ Visible (RegionAlloc 1 4) ∷ Visible (RegionFree 1) ∷ []) SourceEnding.Stuck
+dead_object_written_runs : source dead_object_written [] 0
+    ≡ gives (Called (codes "main") ∷ Visible (RegionAlloc 0 4) ∷ Visible (RegionNew 1) ∷ Visible (RegionAlloc 1 4) ∷ Visible (RegionFree 1) ∷ [])
+    SourceEnding.Stuck
 dead_object_written_runs = refl
 
 -- int main() { let NewDynamicRegion{<`r> k} = new_ukey(); region<`r> h = open(k); uregion_key_t<`r> j = k; return 0; }
@@ -264,7 +281,8 @@ freed_key_opened =
 freed_key_opened_runs : source freed_key_opened [] 0 ≡ gives (Called (codes "main") ∷ Visible (KeyNew 1) ∷ Visible (KeyFree 1) ∷ []) SourceEnding.Stuck
 freed_key_opened_runs = refl
 
--- int main() { let NewDynamicRegion{<`r> k} = new_ukey(); uregion_key_t<`r> j; { let alias<`s> uregion_key_t<`r> x = k; j = x; } region<`r> h = open(j); free_ukey(k); return 0; }
+-- int main() { let NewDynamicRegion{<`r> k} = new_ukey(); uregion_key_t<`r> j; { let alias<`s> uregion_key_t<`r> x = k; j = x; } region<`r> h = open(j);
+-- free_ukey(k); return 0; }
 abbrev open_key_freed : Program
 open_key_freed =
     tree.FunctionItem (function (typed tree.Int []) (named "main") [] (
@@ -282,7 +300,8 @@ open_key_freed =
 open_key_freed_runs : source open_key_freed [] 0 ≡ gives (Called (codes "main") ∷ Visible (KeyNew 1) ∷ Visible (KeyOpen 1) ∷ []) SourceEnding.Stuck
 open_key_freed_runs = refl
 
--- int main() { let NewDynamicRegion{<`r> k} = new_ukey(); uregion_key_t<`r> j; { let alias<`s> uregion_key_t<`r> x = k; j = x; } region<`r> h = open(j); region<`r> g = open(k); return 0; }
+-- int main() { let NewDynamicRegion{<`r> k} = new_ukey(); uregion_key_t<`r> j; { let alias<`s> uregion_key_t<`r> x = k; j = x; } region<`r> h = open(j);
+-- region<`r> g = open(k); return 0; }
 abbrev open_key_opened : Program
 open_key_opened =
     tree.FunctionItem (function (typed tree.Int []) (named "main") [] (
@@ -313,7 +332,8 @@ closed_region_asked =
     (Statement.Return 0 (Some (Expression.Prefixed 0 Dereference (Expression.NewIn 0 (variable "x") (One (number 5)))))) ▸
     NoItems)) ∷ []
 
-closed_region_asked_runs : source closed_region_asked [] 0 ≡ gives (Called (codes "main") ∷ Visible (KeyNew 1) ∷ Visible (KeyOpen 1) ∷ Visible (KeyClose 1) ∷ []) SourceEnding.Stuck
+closed_region_asked_runs : source closed_region_asked [] 0 ≡ gives (Called (codes "main") ∷ Visible (KeyNew 1) ∷ Visible (KeyOpen 1) ∷ Visible (KeyClose 1)
+    ∷ []) SourceEnding.Stuck
 closed_region_asked_runs = refl
 
 -- int main() { region<`r> h; int *`r p = rnew(h) 5; ufree(p); return 0; }
@@ -321,7 +341,8 @@ abbrev shared_freed : Program
 shared_freed =
     tree.FunctionItem (function (typed tree.Int []) (named "main") [] (
     (tree.Region 0 (tree.Named (named "r")) (named "h")) ▹
-    (tree.Local (typed tree.Int ((pointer (Nullable 1) (Some (tree.Named (named "r")))) ∷ [])) (named "p") (Initializer.Value (Expression.NewIn 0 (variable "h") (One (number 5))))) ▹
+    (tree.Local (typed tree.Int ((pointer (Nullable 1) (Some (tree.Named (named "r")))) ∷ [])) (named "p")
+    (Initializer.Value (Expression.NewIn 0 (variable "h") (One (number 5))))) ▹
     (Statement.FreeUnique 0 (named "p")) ▸
     (Statement.Return 0 (Some (number 0))) ▸
     NoItems)) ∷ []
@@ -336,13 +357,15 @@ shared_freed_opened =
     (tree.NewKey 0 (tree.Named (named "r")) (named "k")) ▹
     (Statement.Block 0 (
     (tree.Open 0 (tree.Named (named "r")) (named "h") (named "k")) ▹
-    (tree.Local (typed tree.Int ((pointer (Nullable 1) (Some (tree.Named (named "r")))) ∷ [])) (named "p") (Initializer.Value (Expression.NewIn 0 (variable "h") (One (number 5))))) ▹
+    (tree.Local (typed tree.Int ((pointer (Nullable 1) (Some (tree.Named (named "r")))) ∷ [])) (named "p")
+    (Initializer.Value (Expression.NewIn 0 (variable "h") (One (number 5))))) ▹
     (Statement.FreeUnique 0 (named "p")) ▸
     NoItems)) ▸
     (Statement.Return 0 (Some (number 0))) ▸
     NoItems)) ∷ []
 
-shared_freed_opened_runs : source shared_freed_opened [] 0 ≡ gives (Called (codes "main") ∷ Visible (KeyNew 1) ∷ Visible (KeyOpen 1) ∷ Visible (RegionAlloc 1 4) ∷ []) SourceEnding.Stuck
+shared_freed_opened_runs : source shared_freed_opened [] 0 ≡ gives (Called (codes "main") ∷ Visible (KeyNew 1) ∷ Visible (KeyOpen 1) ∷ Visible (RegionAlloc 1 4)
+    ∷ []) SourceEnding.Stuck
 shared_freed_opened_runs = refl
 
 -- int main() { region<`r> h; int *`r p = rnew(h) 5; { let alias<`s> int *`s q = p; } return 0; }
@@ -350,7 +373,8 @@ abbrev shared_aliased : Program
 shared_aliased =
     tree.FunctionItem (function (typed tree.Int []) (named "main") [] (
     (tree.Region 0 (tree.Named (named "r")) (named "h")) ▹
-    (tree.Local (typed tree.Int ((pointer (Nullable 1) (Some (tree.Named (named "r")))) ∷ [])) (named "p") (Initializer.Value (Expression.NewIn 0 (variable "h") (One (number 5))))) ▹
+    (tree.Local (typed tree.Int ((pointer (Nullable 1) (Some (tree.Named (named "r")))) ∷ [])) (named "p")
+    (Initializer.Value (Expression.NewIn 0 (variable "h") (One (number 5))))) ▹
     (Statement.Block 0 (
     (tree.Alias 0 (tree.Named (named "s")) (typed tree.Int ((pointer (Nullable 1) (Some (tree.Named (named "s")))) ∷ [])) (named "q") (named "p")) ▹
     NoItems)) ▸

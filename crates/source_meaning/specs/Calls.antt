@@ -1,12 +1,15 @@
--- What operators, calls and makings denote, from what their parts do.
-use Rattle.std.specs.Prelude.{ℕ, zero, suc, ◌+◌, ◌-◌, ◌*◌, ◌%◌, ◌^◌, Bool, true, false, Option, Some, None, List, [], ◌∷◌, ◌++◌, map, length, nat_lt, bytes_eq, codes, if◌then◌else◌}
+-- Believed: what operators, calls and makings denote, from what their parts do.
+use Rattle.std.specs.Prelude.{ℕ, zero, suc, ◌+◌, ◌-◌, ◌*◌, ◌%◌, ◌^◌, Bool, true, false, Option, Some, None, List, [], ◌∷◌, ◌++◌, map, length, nat_lt, bytes_eq}
+use Rattle.std.specs.Prelude.{codes, if◌then◌else◌}
 use Rattle.cyc_tree.specs.declared.expression.Operator.{Operator}
 use Rattle.cyc_tree.specs.declared.expression.Operator.TheVariants.{Subtract, BitXor}
 use Rattle.cyc_tree.specs.declared.expression.Prefix.{Prefix}
 use Rattle.cyc_tree.specs.declared.expression.Prefix.TheVariants.{Negate, Not, Complement, Dereference, AddressOf}
 use Rattle.cyc_words.specs.Events.{ByteWritten}
-use Rattle.source_meaning.specs.Shapes.{Owner, Shared, Alone, Shape, IntShape, UnsignedShape, CharShape, NeverNull, ThinShape, FatShape, StructShape, UnionShape, parts_of, has_tag, part_position, part_shape, part_shapes}
-use Rattle.source_meaning.specs.Memory.{IntegerType, AsInt, AsUnsigned, AsChar, Frame, Spot, Scalar, Integer, Thin, Wide, Tagged, beyond, object_of, array_of, first_cell, blank_cell, blank_object}
+use Rattle.source_meaning.specs.Shapes.{Owner, Shared, Alone, Shape, IntShape, UnsignedShape, CharShape, NeverNull, ThinShape, FatShape, StructShape}
+use Rattle.source_meaning.specs.Shapes.{UnionShape, parts_of, has_tag, part_position, part_shape, part_shapes}
+use Rattle.source_meaning.specs.Memory.{IntegerType, AsInt, AsUnsigned, AsChar, Frame, Spot, Scalar, Integer, Thin, Wide, Tagged, beyond, object_of, array_of}
+use Rattle.source_meaning.specs.Memory.{first_cell, blank_cell, blank_object}
 use Rattle.source_meaning.specs.Steps.{Routine, World, Act, give, ◌>>=◌, ◌>>◌, stuck, show, pay, invoke, memory, need, choose}
 use Rattle.step_trees.specs.Trees.{Reads}
 use Rattle.source_meaning.specs.Operators.{truth_value, operated, is_true, operator_shape}

@@ -1,7 +1,8 @@
--- Conversions: what a value becomes where it is stored, passed or returned.
+-- Believed: conversions: what a value becomes where it is stored, passed or returned.
 use Rattle.std.specs.Prelude.{ℕ, ◌^◌, ◌-◌, nat_le, ◌*◌, ◌%◌, ◌&&◌, Option, Some, None, List, [], ◌∷◌, length, nat_lt, if◌then◌else◌}
 use Rattle.cyc_words.specs.declared.faults.Kind.TheVariants.{NullException, ArrayBounds}
-use Rattle.source_meaning.specs.Shapes.{Reach, MayBeNull, NeverNull, bound_in, Owner, Shared, Shape, IntShape, UnsignedShape, CharShape, ThinShape, FatShape, same_shape, goes_to, pointee}
+use Rattle.source_meaning.specs.Shapes.{Reach, MayBeNull, NeverNull, bound_in, Owner, Shared, Shape, IntShape, UnsignedShape, CharShape, ThinShape, FatShape}
+use Rattle.source_meaning.specs.Shapes.{same_shape, goes_to, pointee}
 use Rattle.source_meaning.specs.Sizes.{cells_by, struct_cells, extent_by, struct_extent, union_extent}
 use Rattle.source_meaning.specs.Memory.{AsInt, AsUnsigned, AsChar, Spot, Span, Scalar, Integer, Thin, Wide, beyond}
 use Rattle.source_meaning.specs.Steps.{World, Act, give, ◌>>=◌, ◌>>◌, stuck, raise, check}

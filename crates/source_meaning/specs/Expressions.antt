@@ -1,12 +1,14 @@
--- What an expression denotes in a scope.
+-- Believed: what an expression denotes in a scope.
 use Rattle.std.specs.Prelude.{ℕ, Bool, true, false, None, List, [], ◌∷◌}
-use Rattle.cyc_tree.specs.Tree.{Expression, Expressions, NoExpressions, MoreExpressions, Links, NoLinks, MoreLinks, Suffixes, NoSuffixes, Index, Dot, Arrow, Made, One, Array}
+use Rattle.cyc_tree.specs.Tree.{Expression, Expressions, NoExpressions, MoreExpressions, Links, NoLinks, MoreLinks, Suffixes, NoSuffixes, Index, Dot, Arrow}
+use Rattle.cyc_tree.specs.Tree.{Made, One, Array}
 use Rattle.source_meaning.specs.Shapes.{Shared, CharShape, UnsignedShape, VoidShape, MayBeNull, ThinShape, FatShape, HandleShape}
 use Rattle.source_meaning.specs.Memory.{AsChar, Thin, HandleOf}
 use Rattle.source_meaning.specs.Steps.{Variable, Scope, give, ◌>>=◌, need}
 use Rattle.source_meaning.specs.Making.{heap_maker}
 use Rattle.source_meaning.specs.Places.{Sense, value_sense, no_sense, entity_of, with_binding, entity_sense, string_at, contents, indexed, member, assigned}
-use Rattle.source_meaning.specs.Calls.{constant, number_type, applied, all_true, any_true, tested, prefixed, counted, call_sense, union_made, made, index_in, array_made, handle_maker, made_in}
+use Rattle.source_meaning.specs.Calls.{constant, number_type, applied, all_true, any_true, tested, prefixed, counted, call_sense, union_made, made, index_in}
+use Rattle.source_meaning.specs.Calls.{array_made, handle_maker, made_in}
 
 -- `unique_region` is no value, and stands as the handle of `rnew` alone, in parentheses too
 abbrev pub is_unique_region : Expression → Bool

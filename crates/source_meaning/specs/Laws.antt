@@ -1,4 +1,4 @@
--- What holds of all runs.
+-- Believed: what holds of all runs.
 use Rattle.std.specs.Prelude.{◌≡◌, ℕ, ◌≤◌, List, []}
 use Rattle.cyc_tree.specs.Tree.{Program}
 use Rattle.cyc_words.specs.declared.faults.Kind.{Kind}

@@ -1,4 +1,4 @@
--- New objects and new regions.
+-- Believed: new objects and new regions.
 use Rattle.std.specs.Prelude.{ℕ, ◌+◌, ◌-◌, ◌^◌, min}
 use Rattle.cyc_words.specs.Events.{RegionAlloc, UniqueAlloc}
 use Rattle.source_meaning.specs.Memory.{Region, Born, Spot, Scalar, HandleOf, Object, State, Live, is_live, with_state, next_spot, with_object}
@@ -14,8 +14,8 @@ make_object r o =
     memory >>= λ m. check (is_live m r) >> (set_memory (with_object m r o) >> give (next_spot m r))
 
 -- a new region in a state: its number is the count of births before it
-abbrev pub bear : State → Act ℕ
-bear state = memory >>= λ m. set_memory (with_state (record m { births = m.births + 1 }) (Born m.births) state) >> give m.births
+abbrev pub new_region : State → Act ℕ
+new_region state = memory >>= λ m. set_memory (with_state (record m { births = m.births + 1 }) (Born m.births) state) >> give m.births
 
 -- the bytes asked for: those of all elements, or the greatest word where they are more
 abbrev pub saturated : ℕ → ℕ
@@ -40,4 +40,4 @@ abbrev pub ask : Maker → ℕ → Object → Act Spot
 ask (InRegion r) bytes o =
     memory >>= λ m. check (is_live m (Born r)) >> (show (RegionAlloc r bytes) >> make_object (Born r) o)
 ask AsUnique bytes o =
-    bear Live >>= λ r. show (UniqueAlloc r bytes) >> make_object (Born r) o
+    new_region Live >>= λ r. show (UniqueAlloc r bytes) >> make_object (Born r) o

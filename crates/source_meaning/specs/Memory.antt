@@ -1,6 +1,8 @@
--- Values, cells, and memory by regions.
-use Rattle.std.specs.Prelude.{ℕ, ◌+◌, Bool, true, false, ◌&&◌, Option, Some, None, List, [], ◌∷◌, map, slice_get, nat_eq, nat_lt, ◌*◌, ◌%◌, length, if◌then◌else◌}
-use Rattle.source_meaning.specs.Shapes.{Owner, Shared, Alone, Unsaid, Shape, IntShape, UnsignedShape, CharShape, MayBeNull, NeverNull, ThinShape, FatShape, HandleShape, KeyShape, UnionShape}
+-- Believed: values, cells, and memory by regions.
+use Rattle.std.specs.Prelude.{ℕ, ◌+◌, Bool, true, false, ◌&&◌, Option, Some, None, List, [], ◌∷◌, map, slice_get, nat_eq, nat_lt, ◌*◌, ◌%◌, length}
+use Rattle.std.specs.Prelude.{if◌then◌else◌}
+use Rattle.source_meaning.specs.Shapes.{Owner, Shared, Alone, Unsaid, Shape, IntShape, UnsignedShape, CharShape, MayBeNull, NeverNull, ThinShape, FatShape}
+use Rattle.source_meaning.specs.Shapes.{HandleShape, KeyShape, UnionShape}
 
 -- ---- values
 

@@ -1,8 +1,11 @@
--- What operators give. A char operand becomes int, and if one operand is unsigned, both are.
-use Rattle.std.specs.Prelude.{ℕ, Bool, true, false, not, ◌&&◌, Option, Some, None, nat_eq, nat_lt, int_lt, bit_and, bit_or, bit_xor, is_some, option_and_then, if◌then◌else◌}
+-- Believed: what operators give. A char operand becomes int, and if one operand is unsigned, both are.
+use Rattle.std.specs.Prelude.{ℕ, Bool, true, false, not, ◌&&◌, Option, Some, None, nat_eq, nat_lt, int_lt, bit_and, bit_or, bit_xor, is_some, option_and_then}
+use Rattle.std.specs.Prelude.{if◌then◌else◌}
 use Rattle.cyc_tree.specs.declared.expression.Operator.{Operator}
-use Rattle.cyc_tree.specs.declared.expression.Operator.TheVariants.{BitOr, BitXor, BitAnd, Equal, NotEqual, Less, LessEqual, Greater, GreaterEqual, ShiftLeft, ShiftRight, Add, Subtract, Multiply, Divide, Remainder}
-use Rattle.cyc_words.specs.Words.{signed, sum_of, difference_of, product_of, quotient, unsigned_quotient, remainder, unsigned_remainder, shifted_left, shifted_right, shifted_right_signed}
+use Rattle.cyc_tree.specs.declared.expression.Operator.TheVariants.{BitOr, BitXor, BitAnd, Equal, NotEqual, Less, LessEqual, Greater, GreaterEqual, ShiftLeft}
+use Rattle.cyc_tree.specs.declared.expression.Operator.TheVariants.{ShiftRight, Add, Subtract, Multiply, Divide, Remainder}
+use Rattle.cyc_words.specs.Words.{signed, sum_of, difference_of, product_of, quotient, unsigned_quotient, remainder, unsigned_remainder, shifted_left}
+use Rattle.cyc_words.specs.Words.{shifted_right, shifted_right_signed}
 use Rattle.source_meaning.specs.Shapes.{Shape, IntShape, UnsignedShape, FatShape}
 use Rattle.source_meaning.specs.Memory.{IntegerType, AsInt, AsUnsigned, AsChar, Spot, Span, Scalar, Integer, Thin, Wide, Memory, is_live, same_spot}
 

@@ -1,7 +1,8 @@
--- What an expression denotes, and the expressions that name places.
+-- Believed: what an expression denotes, and the expressions that name places.
 use Rattle.std.specs.Prelude.{ℕ, ◌+◌, Option, Some, None, List, [], ◌∷◌, length, nat_eq, bytes_eq, if◌then◌else◌, option_map}
 use Rattle.cyc_words.specs.Words.{sum_of}
-use Rattle.source_meaning.specs.Shapes.{Shared, Alone, Shape, VoidShape, NeverNull, ThinShape, FatShape, KeyShape, StructShape, UnionShape, ArrayShape, Part, bound_in, parts_of, part_shape, pointee}
+use Rattle.source_meaning.specs.Shapes.{Shared, Alone, Shape, VoidShape, NeverNull, ThinShape, FatShape, KeyShape, StructShape, UnionShape, ArrayShape, Part}
+use Rattle.source_meaning.specs.Shapes.{bound_in, parts_of, part_shape, pointee}
 use Rattle.source_meaning.specs.Sizes.{cells_before}
 use Rattle.source_meaning.specs.Memory.{Spot, Scalar, Thin, Wide, beyond}
 use Rattle.source_meaning.specs.Steps.{Entity, Variable, Binding, World, Scope, Act, give, ◌>>=◌, ◌>>◌, stuck}

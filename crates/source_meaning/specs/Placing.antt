@@ -1,4 +1,4 @@
--- Where the cells of a shape lie in bytes.
+-- Believed: where the cells of a shape lie in bytes.
 use Rattle.std.specs.Prelude.{ℕ, ◌+◌, List, [], ◌∷◌, ◌++◌, map, bytes_eq, if◌then◌else◌}
 use Rattle.source_meaning.specs.Shapes.{Shape, VoidShape, StructShape, ArrayShape, Part, Layout}
 use Rattle.source_meaning.specs.Sizes.{Extent, rounded_up, extent_by, struct_extent, union_extent}

@@ -1,12 +1,15 @@
--- What a program does on an input, with n units of fuel.
+-- Believed: what a program does on an input, with n units of fuel.
 use Rattle.std.specs.Prelude.{ℕ, suc, ◌+◌, ◌%◌, ◌^◌, Bool, None, List, [], ◌∷◌, ◌++◌, map, length, slice_get, option_and_then, bytes_eq, codes, if◌then◌else◌}
 use Rattle.cyc_tree.specs.Tree as tree
 use Rattle.cyc_tree.specs.Tree.{Expression, Statement, Constant, Initial, Function, Item, Program, Structure}
 use Rattle.cyc_words.specs.Words.{difference_of}
 use Rattle.cyc_words.specs.Events.{ByteRead, SourceEvent, Visible, Called, Returned, SourceEnding}
-use Rattle.source_meaning.specs.Shapes.{Shared, Shape, IntShape, UnsignedShape, VoidShape, CharShape, MayBeNull, ThinShape, FatShape, ArrayShape, Layout, Part, part_of, written, settled}
-use Rattle.source_meaning.specs.Memory.{IntegerType, AsInt, AsUnsigned, AsChar, Born, Spot, Scalar, Integer, Thin, Holds, Cell, Object, object_of, Live, Dead, Memory, same_region, blank_object}
-use Rattle.source_meaning.specs.Steps.{Variable, Binding, Routine, World, Scope, Flow, Falls, Breaks, Continues, Returns, Step, SourceBodies, Act, give, ◌>>=◌, ◌>>◌, stuck, need, say}
+use Rattle.source_meaning.specs.Shapes.{Shared, Shape, IntShape, UnsignedShape, VoidShape, CharShape, MayBeNull, ThinShape, FatShape, ArrayShape, Layout, Part}
+use Rattle.source_meaning.specs.Shapes.{part_of, written, settled}
+use Rattle.source_meaning.specs.Memory.{IntegerType, AsInt, AsUnsigned, AsChar, Born, Spot, Scalar, Integer, Thin, Holds, Cell, Object, object_of, Live, Dead}
+use Rattle.source_meaning.specs.Memory.{Memory, same_region, blank_object}
+use Rattle.source_meaning.specs.Steps.{Variable, Binding, Routine, World, Scope, Flow, Falls, Breaks, Continues, Returns, Step, SourceBodies, Act, give, ◌>>=◌}
+use Rattle.source_meaning.specs.Steps.{◌>>◌, stuck, need, say}
 use Rattle.step_trees.specs.Trees.{Stops, Outcome, run}
 use Rattle.source_meaning.specs.Conversions.{cells_of, converted, one, integer}
 use Rattle.source_meaning.specs.Values.{write_cells}

@@ -1,12 +1,13 @@
--- Blocks, regions, keys and unique pointers: how they are entered, left and freed.
+-- Believed: blocks, regions, keys and unique pointers: how they are entered, left and freed.
 use Rattle.std.specs.Prelude.{ℕ, ◌+◌, Option, Some, None, List, [], ◌∷◌}
 use Rattle.cyc_words.specs.Events.{RegionNew, RegionFree, UniqueFree, KeyNew, KeyOpen, KeyClose, KeyFree}
 use Rattle.source_meaning.specs.Shapes.{Shape, HandleShape, KeyShape, settled_by}
-use Rattle.source_meaning.specs.Memory.{Region, Frame, Born, Spot, Scalar, Thin, HandleOf, KeyOf, Holds, Gone, Lent, Object, blank_object, Live, Closed, Dead, is_live, is_closed, is_moved, with_state}
+use Rattle.source_meaning.specs.Memory.{Region, Frame, Born, Spot, Scalar, Thin, HandleOf, KeyOf, Holds, Gone, Lent, Object, blank_object, Live, Closed, Dead}
+use Rattle.source_meaning.specs.Memory.{is_live, is_closed, is_moved, with_state}
 use Rattle.source_meaning.specs.Steps.{Entity, Variable, Scope, Flow, Act, give, ◌>>=◌, ◌>>◌, stuck, show, memory, set_memory, check, finally}
 use Rattle.source_meaning.specs.Conversions.{cells_of, converted, converted_scalar}
 use Rattle.source_meaning.specs.Values.{read_cell, write_cells, put_content}
-use Rattle.source_meaning.specs.Making.{set_state, make_object, bear}
+use Rattle.source_meaning.specs.Making.{set_state, make_object, new_region}
 use Rattle.source_meaning.specs.Places.{Sense, entity_of, with_binding}
 
 -- A scoped region: it is entered, then comes what is done in it, and then it is left, however that ends. A raise leaves nothing.
@@ -62,7 +63,7 @@ lending at v act = put_content at (Lent v) >> finally act (put_content at (Holds
 
 -- a region for the rest of its block; when that is left, all its objects are freed together
 abbrev pub region_born : Act ℕ
-region_born = bear Live >>= λ r. show (RegionNew r) >> give r
+region_born = new_region Live >>= λ r. show (RegionNew r) >> give r
 
 -- all objects of a region are freed together; what isn't live can't be freed
 abbrev pub region_freed : ℕ → Act (Unit {0})
@@ -83,7 +84,7 @@ key_of v = stuck
 -- a dynamic region is born closed, with its key; it isn't freed when the key goes out of scope
 abbrev pub new_key : Scope → List ℕ → (Scope → Act Flow) → Act Flow
 new_key scope key rest =
-    bear Closed >>= λ r. show (KeyNew r) >> local_with scope key KeyShape (KeyOf r ∷ []) rest
+    new_region Closed >>= λ r. show (KeyNew r) >> local_with scope key KeyShape (KeyOf r ∷ []) rest
 
 -- only a closed region is opened
 abbrev pub key_opened : ℕ → Act ℕ

@@ -1,4 +1,4 @@
--- What a type means at run time: a shape. A shape is a type without its region names, except that it says which pointers are unique.
+-- Believed: what a type means at run time: a shape. A shape is a type without its region names, except that it says which pointers are unique.
 use Rattle.std.specs.Prelude.{ℕ, ◌%◌, ◌^◌, ◌+◌, Bool, true, false, ◌&&◌, nat_eq, Option, Some, None, List, [], ◌∷◌, bytes_eq, if◌then◌else◌, option_map}
 use Rattle.cyc_tree.specs.declared.name.Sign.{Sign}
 use Rattle.cyc_tree.specs.declared.name.Sign.TheVariants.{Nullable, NotNull, Fat}

@@ -1,4 +1,4 @@
--- The scalar cells of a shape, and its bytes.
+-- Believed: the scalar cells of a shape, and its bytes.
 use Rattle.std.specs.Prelude.{ℕ, zero, suc, ◌+◌, ◌*◌, ◌/◌, List, [], ◌∷◌, ◌++◌, length, max, bytes_eq, if◌then◌else◌}
 use Rattle.source_meaning.specs.Shapes.{Shape, CharShape, VoidShape, FatShape, StructShape, UnionShape, ArrayShape, Part, Layout, parts_of}
 

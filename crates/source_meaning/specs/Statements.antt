@@ -1,7 +1,8 @@
--- What a statement means: how it runs in a scope, and how it is left.
+-- Believed: what a statement means: how it runs in a scope, and how it is left.
 use Rattle.std.specs.Prelude.{ℕ, Bool, false, Option, Some, None, List, [], ◌∷◌, map, nat_eq, if◌then◌else◌}
 use Rattle.cyc_tree.specs.Tree as tree
-use Rattle.cyc_tree.specs.Tree.{Expression, Initializer, Declaration, Statement, BlockItems, NoItems, Declare, Execute, Clauses, NoClauses, MoreClauses, Case, Default}
+use Rattle.cyc_tree.specs.Tree.{Expression, Initializer, Declaration, Statement, BlockItems, NoItems, Declare, Execute, Clauses, NoClauses, MoreClauses, Case}
+use Rattle.cyc_tree.specs.Tree.{Default}
 use Rattle.source_meaning.specs.Shapes.{ArrayShape, UnionShape, Shape, Part, parts_of, part_position, part_shape, written, settled, settled_by, same_shape}
 use Rattle.source_meaning.specs.Memory.{Scalar, Tagged, Object, object_of, array_of, first_cell}
 use Rattle.source_meaning.specs.Steps.{Scope, World, Flow, Falls, Breaks, Continues, Returns, Act, give, ◌>>=◌, ◌>>◌, stuck, take_turn, need, choose, check}
@@ -10,7 +11,8 @@ use Rattle.source_meaning.specs.Values.{read_cells, write_cells}
 use Rattle.source_meaning.specs.Places.{Sense, or_else}
 use Rattle.source_meaning.specs.Calls.{truth}
 use Rattle.source_meaning.specs.Expressions.{sense}
-use Rattle.source_meaning.specs.Regions.{in_block, declared, local_with, initialised, lexical_region, new_key, open_key, key_freed, pointer_freed, local_freed, aliased}
+use Rattle.source_meaning.specs.Regions.{in_block, declared, local_with, initialised, lexical_region, new_key, open_key, key_freed, pointer_freed, local_freed}
+use Rattle.source_meaning.specs.Regions.{aliased}
 
 -- ---- ways on
 

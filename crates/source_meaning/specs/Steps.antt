@@ -1,4 +1,4 @@
--- What is declared and what is in scope; the steps of a source's run, which are a tree; and acts, which make the steps.
+-- Believed: what is declared and what is in scope; the steps of a source's run, which are a tree; and acts, which make the steps.
 use Rattle.std.specs.Prelude.{ℕ, Bool, true, false, Option, Some, None, List}
 use Rattle.cyc_tree.specs.Tree.{Expression, Statement, BlockItems}
 use Rattle.cyc_words.specs.declared.faults.Kind.{Kind}

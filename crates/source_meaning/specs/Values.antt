@@ -1,4 +1,4 @@
--- Reads and writes of cells.
+-- Believed: reads and writes of cells.
 use Rattle.std.specs.Prelude.{ℕ, zero, suc, Bool, true, false, not, List, [], ◌∷◌, length, if◌then◌else◌}
 use Rattle.source_meaning.specs.Shapes.{Shape}
 use Rattle.source_meaning.specs.Memory.{Spot, Scalar, Content, Holds, Blank, Gone, Lent, cell_at, with_cell, beyond, any_moved, is_of}

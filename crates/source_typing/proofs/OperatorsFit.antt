@@ -29,7 +29,7 @@ pub data Operates (g : Env) (o : Operator) : StaticType → StaticType → Stati
 
 -- ---- helpers
 
-null_is : (t : StaticType) → is_null t ≡ true → t ≡ Null
+pub null_is : (t : StaticType) → is_null t ≡ true → t ≡ Null
 null_is Int e = absurd cc
 null_is Unsigned e = absurd cc
 null_is Char e = absurd cc
@@ -77,7 +77,8 @@ same_is Equals e = refl
 same_is ByRegions e = absurd cc
 same_is Differs e = absurd cc
 
-thin_compared : (g : Env) (o : Operator) (at : ℕ) (n m : Reach) (c : Bool) (r q : Region) (t u : StaticType) (w : Value) → is_equality o ≡ true → is_same t u ≡ c
+thin_compared : (g : Env) (o : Operator) (at : ℕ) (n m : Reach) (c : Bool) (r q : Region) (t u : StaticType) (w : Value) → is_equality o ≡ true
+    → is_same t u ≡ c
     → compared_thin g at c r q ≡ Of w → Operates g o (Thin n r t) (Thin m q u) w.type
 thin_compared g o at n m false r q t u w k c e = absurd cc
 thin_compared g o at n m true r q t u w k c e = by_tests (unless_is (ordered ++ both_live) (value at Int) w e)

@@ -9,7 +9,8 @@ use Rattle.source_typing.specs.Tables.{Tables, Tag, find, tag_in}
 use Rattle.source_typing.specs.Tags.{settled_alone}
 use Rattle.source_typing.specs.Types.{PartialType}
 use Rattle.source_typing.specs.Verdicts.{Verdict, after}
-use Rattle.source_typing.specs.Written.{Found, RegionNamed, Spot, all_found, argument_spots, base_of, base_spots, regions_of_tag, spot, spots_of, tag_of, written}
+use Rattle.source_typing.specs.Written.{Found, RegionNamed, Spot, all_found, argument_spots, base_of, base_spots, regions_of_tag, spot, spots_of, tag_of}
+use Rattle.source_typing.specs.Written.{written}
 use Rattle.source_typing.specs.Written.{written_on, written_with}
 
 -- tables in which each name in a type means the same

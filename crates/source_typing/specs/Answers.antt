@@ -1,4 +1,4 @@
--- All faults of a program, and the one that is answered.
+-- Believed: all faults of a program, and the one that is answered.
 use Rattle.std.specs.Prelude.{List, Option, false, true, ◌++◌}
 use Rattle.cyc_tree.specs.Tree.{Program}
 use Rattle.source_typing.specs.Faults.{Fault, earliest}

@@ -1,4 +1,4 @@
--- Calls, and the making of structs and union values.
+-- Believed: calls, and the making of structs and union values.
 use Rattle.std.specs.Prelude.{Bool, List, None, Option, Some, false, length, map, nat_eq, replicate, true, ℕ, ◌&&◌, if◌then◌else◌, [], ◌∷◌, ◌++◌}
 use Rattle.source_typing.specs.Conversions.{converts}
 use Rattle.source_typing.specs.Faults.{Fault, effect_rule, name_rule, outlives_rule, test, type_rule}

@@ -1,8 +1,6 @@
--- Conversions: of initializers, assigned values, arguments, results and members.
--- Integers convert to each other, and pointers to pointers into regions that theirs outlive, with equal pointees, thin ones to no more elements than theirs;
--- else the types are equal. Types that
--- differ in regions
--- alone, and regions that aren't in order, are Outlives; a unique pointer to or from another region is Region; any other pair is Type.
+-- Believed: conversions: of initializers, assigned values, arguments, results and members. Integers convert to each other, and pointers to pointers into
+-- regions that theirs outlive, with equal pointees, thin ones to no more elements than theirs; else the types are equal. Types that differ in regions alone,
+-- and regions that aren't in order, are Outlives; a unique pointer to or from another region is Region; any other pair is Type.
 use Rattle.std.specs.Prelude.{Bool, List, None, Option, Some, false, nat_le, true, ℕ, [], ◌∷◌}
 use Rattle.source_meaning.specs.Shapes.{count_of, may_be_null}
 use Rattle.source_typing.specs.Faults.{Fault, fault, outlives_rule, region_rule, type_rule}
@@ -48,7 +46,8 @@ conversion g Null (Thin n r t) = nullable (may_be_null n)
 conversion g Null (Fat r t) = None
 conversion g Null (Unique n t) = nullable n
 conversion g Null u = Some type_rule
-conversion g (Thin n r t) (Thin m q u) = if_enough (nat_le (count_of m) (count_of n)) (unless_differs (compare t u) (ordered (g.order r q)) (Some outlives_rule))
+conversion g (Thin n r t) (Thin m q u) = if_enough (nat_le (count_of m) (count_of n))
+    (unless_differs (compare t u) (ordered (g.order r q)) (Some outlives_rule))
 conversion g (Thin n r t) (Fat q u) = unless_differs (compare t u) (ordered (g.order r q)) (Some outlives_rule)
 conversion g (Thin n r t) (Unique m u) = unless_differs (compare t u) (Some region_rule) (Some region_rule)
 conversion g (Thin n r t) u = Some type_rule

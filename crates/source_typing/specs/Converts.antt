@@ -1,4 +1,4 @@
--- What converts to what, as a relation: what the rule on conversions leaves where it finds no fault.
+-- Believed: what converts to what, as a relation: what the rule on conversions leaves where it finds no fault.
 use Rattle.std.specs.Prelude.{Bool, true, ◌≡◌, nat_le, ℕ}
 use Rattle.source_meaning.specs.Shapes.{Reach, MayBeNull, count_of}
 use Rattle.source_typing.specs.Regions.{Region, Regions}

@@ -1,4 +1,4 @@
--- How declarations are judged, and what is in scope after them.
+-- Believed: how declarations are judged, and what is in scope after them.
 use Rattle.std.specs.Prelude.{Bool, List, None, Option, Some, false, if◌then◌else◌, is_some, nat_lt, not, true, ℕ, ◌&&◌, ◌||◌, [], ◌∷◌, ◌++◌}
 use Rattle.cyc_tree.specs.Places.{region_place}
 use Rattle.cyc_tree.specs.Tree.{Initializer, TypeName}

@@ -1,4 +1,4 @@
--- Exchanges `a :=: b`.
+-- Believed: exchanges `a :=: b`.
 use Rattle.std.specs.Prelude.{Bool, List, not, ◌&&◌, [], ◌∷◌, ◌++◌}
 use Rattle.cyc_tree.specs.Places.{expression_place}
 use Rattle.cyc_tree.specs.Tree.{Array, Arrow, Dot, Expression, Expressions, Index, Links, Made, MoreExpressions, MoreLinks, NoExpressions, NoLinks}

@@ -1,4 +1,4 @@
--- How an expression is judged: one line a form.
+-- Believed: how an expression is judged: one line a form.
 use Rattle.std.specs.Prelude.{Bool, List, ℕ, []}
 use Rattle.cyc_tree.specs.Tree.{Array, Arrow, Dot, Expression, Expressions, Index, Links, Made, MoreExpressions, MoreLinks, NoExpressions, NoLinks}
 use Rattle.cyc_tree.specs.Tree.{NoSuffixes, One, Suffixes}

@@ -1,4 +1,4 @@
--- The bytes of a type, and of the variables and strings of a program.
+-- Believed: the bytes of a type, and of the variables and strings of a program.
 use Rattle.std.specs.Prelude.{Bool, List, None, Option, Some, bytes_eq, false, if◌then◌else◌, nat_le, true, ℕ, ◌*◌, ◌||◌, [], ◌∷◌}
 use Rattle.source_meaning.specs.Shapes.{Layout, Shape, VoidShape}
 use Rattle.source_meaning.specs.Sizes.{extent_by, struct_extent, union_extent}

@@ -1,4 +1,4 @@
--- Faults of a program, and which of them is answered.
+-- Believed: faults of a program, and which of them is answered.
 use Rattle.std.specs.Prelude.{Bool, List, None, Option, Some, false, nat_le, nat_lt, true, ℕ, ◌+◌, ◌*◌, ◌&&◌, if◌then◌else◌, [], ◌∷◌}
 
 -- a broken rule, by its number, and the place in the text

@@ -1,6 +1,5 @@
--- What the region variables of a call or constructor stand for: they are fixed by the arguments' types from the left, the leftmost occurrence first; `NULL`
--- fixes none.
--- One that isn't fixed is the region of the enclosing `rnew`'s handle, else the heap. None stands for the unique region.
+-- Believed: what the region variables of a call or constructor stand for: they are fixed by the arguments' types from the left, the leftmost occurrence first;
+-- `NULL` fixes none. One that isn't fixed is the region of the enclosing `rnew`'s handle, else the heap. None stands for the unique region.
 use Rattle.std.specs.Prelude.{Bool, List, None, Option, Some, false, is_some, slice_get, suc, true, zero, ℕ, ◌&&◌, if◌then◌else◌, [], ◌∷◌, ◌++◌}
 use Rattle.source_typing.specs.Faults.{region_rule}
 use Rattle.source_typing.specs.Missing.{arguments_of, outer_region, pointee_of}

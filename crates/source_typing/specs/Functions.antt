@@ -1,4 +1,4 @@
--- The heads of functions: region variables, parameters, results, effects and bounds.
+-- Believed: the heads of functions: region variables, parameters, results, effects and bounds.
 use Rattle.std.specs.Prelude.{Bool, List, None, Option, Some, bytes_eq, codes, false, map, not, suc, true, zero, ℕ, ◌&&◌, ◌||◌, if◌then◌else◌, [], ◌∷◌, ◌++◌}
 use Rattle.cyc_tree.specs.Places.{region_place}
 use Rattle.cyc_tree.specs.Tree.{TypeName}

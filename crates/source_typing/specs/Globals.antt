@@ -1,4 +1,4 @@
--- Globals: their types, constants and sizes.
+-- Believed: globals: their types, constants and sizes.
 use Rattle.std.specs.Prelude.{Bool, List, None, Option, Some, false, length, map, nat_le, not, true, ℕ, ◌+◌, ◌&&◌, [], ◌∷◌, ◌++◌}
 use Rattle.cyc_tree.specs.Tree.{Constant, Initial, Item}
 use Rattle.source_meaning.specs.Shapes.{count_of as elements_of}

@@ -1,4 +1,4 @@
--- How statements leave the states of locals that can't be copied.
+-- Believed: how statements leave the states of locals that can't be copied.
 use Rattle.std.specs.Prelude.{List, None, Option, Some, drop, false, length, map, option_map, suc, take, true, ℕ, ◌-◌, if◌then◌else◌, [], ◌∷◌, ◌++◌}
 use Rattle.cyc_tree.specs.Tree.{BlockItems, Clauses, Declare, Execute, Expression, Initializer, Item, MoreClauses, NoClauses, NoItems, Program, Statement}
 use Rattle.source_typing.specs.Declarations.{declare}

@@ -1,4 +1,4 @@
--- Making: `new` in the heap, and `rnew` in the region of a handle or in the unique region.
+-- Believed: making: `new` in the heap, and `rnew` in the region of a handle or in the unique region.
 use Rattle.std.specs.Prelude.{Bool, false, not, true, ℕ, ◌&&◌, ◌||◌, ◌∷◌}
 use Rattle.source_typing.specs.Faults.{region_rule, type_rule}
 use Rattle.source_typing.specs.Regions.{Region}

@@ -1,4 +1,4 @@
--- Missing regions of a type: each is the region at the same place of another type, from the outermost pointer inwards; where there is none, the heap.
+-- Believed: missing regions of a type: each is the region at the same place of another type, from the outermost pointer inwards; where there is none, the heap.
 use Rattle.std.specs.Prelude.{Bool, List, None, Option, Some, bytes_eq, false, nat_eq, true, ℕ, if◌then◌else◌, [], ◌∷◌}
 use Rattle.source_meaning.specs.Shapes.{Reach, may_be_null, number_of}
 use Rattle.source_typing.specs.Faults.{type_rule}

@@ -1,4 +1,4 @@
--- Which region names a type speaks of: the heap, and the names of the first levels.
+-- Believed: which region names a type speaks of: the heap, and the names of the first levels.
 use Rattle.std.specs.Prelude.{ℕ, ◌<◌, List, [], ◌∷◌}
 use Rattle.source_typing.specs.Regions.{Region, TheHeap, Level}
 use Rattle.source_typing.specs.Types.{StaticType, Int, Unsigned, Char, Void, Null, Thin, Fat, Unique, Handle, Key, Struct, Union}

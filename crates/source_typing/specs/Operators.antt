@@ -1,4 +1,4 @@
--- Operators. Arithmetic, bits, shifts and order take integers; `+` and `-` also a fat pointer and an integer. Else Type.
+-- Believed: operators. Arithmetic, bits, shifts and order take integers; `+` and `-` also a fat pointer and an integer. Else Type.
 use Rattle.std.specs.Prelude.{Bool, List, false, length, nat_lt, true, ℕ, ◌&&◌, ◌||◌, ◌++◌}
 use Rattle.cyc_tree.specs.declared.expression.Operator.{Operator}
 use Rattle.cyc_tree.specs.declared.expression.Operator.TheVariants.{Add, Equal, Greater, GreaterEqual, Less, LessEqual, NotEqual, ShiftLeft, ShiftRight}

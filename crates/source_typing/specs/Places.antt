@@ -1,4 +1,5 @@
--- Names and places. Places are variables other than arrays and the index of a `for`, `*e`, `e->f`, `e[e]`, and a member `.f` of a place; also in parentheses.
+-- Believed: names and places. Places are variables other than arrays and the index of a `for`, `*e`, `e->f`, `e[e]`, and a member `.f` of a place; also in
+-- parentheses.
 use Rattle.std.specs.Prelude.{Bool, List, None, Option, Some, false, true, ℕ}
 use Rattle.source_typing.specs.Conversions.{converts}
 use Rattle.source_typing.specs.Faults.{name_rule, region_rule, type_rule}

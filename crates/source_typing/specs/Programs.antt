@@ -1,4 +1,4 @@
--- How a program is judged: its tables, and each item.
+-- Believed: how a program is judged: its tables, and each item.
 use Rattle.std.specs.Prelude.{Bool, List, Option, bytes_eq, codes, false, not, suc, true, ℕ, ◌||◌, if◌then◌else◌, [], ◌∷◌, ◌++◌}
 use Rattle.cyc_tree.specs.Places.{end_of_text}
 use Rattle.cyc_tree.specs.Tree.{Item, Program}

@@ -1,4 +1,4 @@
--- Region names in scope: which are live, and which outlives which.
+-- Believed: region names in scope: which are live, and which outlives which.
 use Rattle.std.specs.Prelude.{Bool, List, false, length, nat_eq, suc, true, zero, ℕ, ◌+◌, ◌&&◌, ◌||◌, if◌then◌else◌, [], ◌∷◌}
 
 -- A region's name in a function: the heap, or the number of names that were declared before it. No name is declared where it is visible, so numbers say

@@ -1,4 +1,4 @@
--- What is in scope where a phrase is judged, and what an expression is.
+-- Believed: what is in scope where a phrase is judged, and what an expression is.
 use Rattle.std.specs.Prelude.{Bool, List, None, Option, Some, bytes_eq, false, nat_eq, not, true, ℕ, ◌+◌, ◌&&◌, ◌||◌, if◌then◌else◌, [], ◌∷◌}
 use Rattle.source_typing.specs.Faults.{Fault, name_rule, test}
 use Rattle.source_typing.specs.Regions.{Level, Region, Regions, TheHeap, no_regions, with_scope}

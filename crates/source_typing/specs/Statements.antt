@@ -1,4 +1,4 @@
--- How statements are judged.
+-- Believed: how statements are judged.
 use Rattle.std.specs.Prelude.{Bool, List, None, Option, Some, bytes_eq, false, is_some, nat_eq, nat_le, not, true, ℕ, ◌+◌, ◌&&◌, ◌||◌, [], ◌∷◌, ◌++◌}
 use Rattle.cyc_tree.specs.Places.{expression_place}
 use Rattle.cyc_tree.specs.Tree.{BlockItems, Case, Clauses, Declare, Default, Execute, Expression, MoreClauses, NoClauses, NoItems, Statement}

@@ -1,4 +1,4 @@
--- The states of locals that can't be copied, and how they change.
+-- Believed: the states of locals that can't be copied, and how they change.
 use Rattle.std.specs.Prelude.{List, None, Option, Some, bytes_eq, length, suc, zero, ℕ, if◌then◌else◌, [], ◌∷◌, ◌++◌}
 use Rattle.source_typing.specs.Faults.{Fault, consumed_rule, fault, lent_rule}
 use Rattle.source_typing.specs.Scope.{Local}

@@ -1,4 +1,4 @@
--- What the names of a program mean.
+-- Believed: what the names of a program mean.
 use Rattle.std.specs.Prelude.{Bool, List, None, Option, Some, bytes_eq, false, length, slice_get, suc, true, zero, ℕ, ◌&&◌, if◌then◌else◌, [], ◌∷◌}
 use Rattle.source_typing.specs.Regions.{Level, Region, TheHeap}
 use Rattle.source_meaning.specs.Shapes.{may_be_null}

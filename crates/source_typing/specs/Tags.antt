@@ -1,5 +1,5 @@
--- Structs and unions. Tags are judged in the order of the text: of a tag that stands later, or is being judged, only those faults count that hang on no
--- tag that is used by its members, be it another or itself.
+-- Believed: structs and unions. Tags are judged in the order of the text: of a tag that stands later, or is being judged, only those faults count that hang on
+-- no tag that is used by its members, be it another or itself.
 use Rattle.std.specs.Prelude.{Bool, List, None, Option, Some, bytes_eq, false, is_some, length, not, suc, true, ℕ, ◌&&◌, ◌||◌, [], ◌∷◌, ◌++◌}
 use Rattle.cyc_tree.specs.Tree.{TypeName}
 use Rattle.source_meaning.specs.Sizes.{struct_extent}

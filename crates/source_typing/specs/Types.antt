@@ -1,7 +1,8 @@
--- Types with their regions, and when two of them are equal.
+-- Believed: types with their regions, and when two of them are equal.
 use Rattle.std.specs.Prelude.{Bool, List, Option, bytes_eq, false, map, not, true, ℕ, ◌&&◌, ◌||◌, [], ◌∷◌}
 use Rattle.source_meaning.specs.Memory.{AsChar, AsInt, AsUnsigned, IntegerType}
-use Rattle.source_meaning.specs.Shapes.{Alone, Reach, MayBeNull, same_bound, single, CharShape, FatShape, HandleShape, IntShape, KeyShape, Shape, Shared, StructShape, ThinShape, UnionShape}
+use Rattle.source_meaning.specs.Shapes.{Alone, Reach, MayBeNull, same_bound, single, CharShape, FatShape, HandleShape, IntShape, KeyShape, Shape, Shared}
+use Rattle.source_meaning.specs.Shapes.{StructShape, ThinShape, UnionShape}
 use Rattle.source_meaning.specs.Shapes.{UnsignedShape, VoidShape}
 use Rattle.source_typing.specs.Regions.{Region, same_id}
 

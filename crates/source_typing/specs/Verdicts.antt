@@ -1,4 +1,4 @@
--- How a phrase is judged from its parts.
+-- Believed: how a phrase is judged from its parts.
 use Rattle.std.specs.Prelude.{Bool, List, None, Option, Some, false, true, ℕ, [], ◌∷◌, ◌++◌}
 use Rattle.source_typing.specs.Faults.{Fault, fault, type_rule}
 

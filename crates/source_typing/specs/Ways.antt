@@ -1,6 +1,5 @@
--- How a statement may be left, on the tree alone. What follows `return`, `break` or `continue` isn't reachable; the end of an `if` is where one of its ways
--- is; the end of
--- a `while` always is, if its start is; the end of a `switch` is where a reachable `break` leaves it.
+-- Believed: how a statement may be left, on the tree alone. What follows `return`, `break` or `continue` isn't reachable; the end of an `if` is where one of
+-- its ways is; the end of a `while` always is, if its start is; the end of a `switch` is where a reachable `break` leaves it.
 use Rattle.std.specs.Prelude.{Bool, false, true, ◌&&◌, ◌||◌}
 use Rattle.cyc_tree.specs.Tree.{BlockItems, Clauses, Declare, Execute, MoreClauses, NoClauses, NoItems, Statement}
 

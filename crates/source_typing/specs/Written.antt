@@ -1,4 +1,4 @@
--- Types as a text writes them: tags and region names are looked up, and missing regions are found.
+-- Believed: types as a text writes them: tags and region names are looked up, and missing regions are found.
 use Rattle.std.specs.Prelude.{Bool, List, None, Option, Some, bytes_eq, false, is_none, length, map, nat_eq, replicate, suc, true, zero, ℕ, ◌||◌}
 use Rattle.std.specs.Prelude.{if◌then◌else◌, [], ◌∷◌, ◌++◌}
 use Rattle.cyc_tree.specs.Tree.{TypeName}

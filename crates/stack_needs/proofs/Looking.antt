@@ -1,11 +1,13 @@
 -- What is known of needs while functions are looked at, one after another.
-use Rattle.std.proofs.Common.{◌≡◌, ◌≢◌, ◌<◌, ◌≤◌, ◌+◌, ◌∙◌, ℕ, zero, suc, Bool, true, false, Option, Some, None, List, [], ◌∷◌, ◌++◌, ◌⊎◌, inl, inr, length, get_or, reverse, refl, sym, ap, subst, arith, append_assoc}
+use Rattle.std.proofs.Common.{◌≡◌, ◌≢◌, ◌<◌, ◌≤◌, ◌+◌, ◌∙◌, ℕ, zero, suc, Bool, true, false, Option, Some, None, List, [], ◌∷◌, ◌++◌, ◌⊎◌, inl, inr, length}
+use Rattle.std.proofs.Common.{get_or, reverse, refl, sym, ap, subst, arith, append_assoc}
 use Rattle.std.specs.Prelude.{slice_set, nat_eq, if◌then◌else◌, replicate}
 use Rattle.std.specs.List.{All, Contains}
 use Rattle.std.proofs.lemmas.List.{get_or-set_same, get_or-set_other, length-set, length-append, length-replicate, append-nil, reverse-append, reverse-reverse}
 use Rattle.std.proofs.lemmas.List.Elements.{Contains-append_cases, Contains-append_left, Contains-append_right, Contains-get_or}
 use Rattle.std.proofs.lemmas.Bool.Decides.{Decides-eqb}
-use Rattle.stack_needs.specs.Graph.{FitsAt, LeavesAt, IsNeed, IsAnswer, Found, AreFound, AreLooked, AreStuck, AreNumbers, WaitsFor, WaitsFor, numbers_below, found, known, need_by, with_need, looked_at}
+use Rattle.stack_needs.specs.Graph.{FitsAt, LeavesAt, IsNeed, IsAnswer, Found, AreFound, AreLooked, AreStuck, AreNumbers, WaitsFor, WaitsFor, numbers_below}
+use Rattle.stack_needs.specs.Graph.{found, known, need_by, with_need, looked_at}
 use Rattle.stack_needs.proofs.Needs.{need_is, none_known, cases_of, first_of, later_of}
 
 pub either_is : (j k : ℕ) → (j ≡ k) ⊎ (j ≢ k)
@@ -43,7 +45,8 @@ module _ (frames : List ℕ) (calls : List (List ℕ)) (count : ℕ) where
           | inr other ↦ a.right j m (sym (get_or-set_other f.needs k j (Some n) None other) ∙ known_is)
         ];
         listed = λ j low unknown. elim (either_is j k) [
-          | inl same ↦ let it : known (slice_set f.needs k (Some n)) k ≡ None = ap (λ i. known (slice_set f.needs k (Some n)) i) (sym same) ∙ unknown in absurd (cc)
+          | inl same ↦ let it : known (slice_set f.needs k (Some n)) k ≡ None = ap (λ i. known (slice_set f.needs k (Some n)) i) (sym same)
+              ∙ unknown in absurd (cc)
           | inr other ↦ others_of f.waiting others k j (a.listed j low (sym (get_or-set_other f.needs k j (Some n) None other) ∙ unknown)) other
         ];
         within = λ j has. a.within j (among_more f.waiting others k j has);
@@ -180,7 +183,8 @@ pub one_more_round : (frames : List ℕ) (calls : List (List ℕ)) (needs : List
     → AreFound frames calls (length calls) (found needs waiting) [] → (r : Found) → r ≡ looked_at frames calls (found needs []) waiting
     → (is_last : Bool) → is_last ≡ nat_eq (length r.waiting) (length waiting) → AreLooked frames calls is_last r.needs r.waiting
 one_more_round frames calls needs waiting a r is is_last last = record {
-  found_so = subst (λ (f : Found). AreFound frames calls (length calls) f []) (sym is) (looked_found frames calls (length calls) (found needs []) waiting ready);
+  found_so = subst (λ (f : Found). AreFound frames calls (length calls) f []) (sym is)
+      (looked_found frames calls (length calls) (found needs []) waiting ready);
   stuck = λ so.
       let same : length r.waiting ≡ length waiting = (Decides-eqb (length r.waiting) (length waiting)).0 (sym last ∙ so) in
       subst (λ (f : Found). AreStuck frames calls f.needs f.waiting) (sym is)

@@ -1,5 +1,6 @@
 -- Functions by their names and by their numbers fit the same.
-use Rattle.std.proofs.Common.{◌≡◌, ◌<◌, ◌≤◌, ◌+◌, ◌∙◌, ℕ, zero, suc, Bool, true, false, Option, Some, None, List, [], ◌∷◌, inl, inr, length, refl, sym, ap, subst, arith, if◌then◌else◌}
+use Rattle.std.proofs.Common.{◌≡◌, ◌<◌, ◌≤◌, ◌+◌, ◌∙◌, ℕ, zero, suc, Bool, true, false, Option, Some, None, List, [], ◌∷◌, inl, inr, length, refl, sym, ap}
+use Rattle.std.proofs.Common.{subst, arith, if◌then◌else◌}
 use Rattle.std.specs.Prelude.{bytes_eq, codes, map, slice_index}
 use Rattle.std.specs.List.{Contains}
 use Rattle.std.specs.Cmp.Lexicographic.{bytes_decides}
@@ -62,7 +63,13 @@ stands all (f ∷ fs) j name k g of number = by (bytes_eq f.name name) of number
     by true is here rest =
         let same : f ≡ g = cc in
         let at : j ≡ k = cc in
-        record { place = 0; below = omega arith; is = omega arith; calls = ap (λ (r : Routine). numbers_among all (items_callees r.body)) same; frame = λ bytes. ap bytes same }
+        record {
+          place = 0;
+          below = omega arith;
+          is = omega arith;
+          calls = ap (λ (r : Routine). numbers_among all (items_callees r.body)) same;
+          frame = λ bytes. ap bytes same;
+        }
     by false is here rest =
         let s : StandsIn all fs (suc j) k g = rest is here in
         record { place = suc s.place; below = omega (arith, s.below); is = omega (arith, s.is); calls = s.calls; frame = s.frame }
@@ -181,7 +188,8 @@ pub each_needs : (p : Program) (frames : List ℕ) (needs : List (Option ℕ))
     → AreNeedsOf (frame_by (functions_of p) frames) p needs
 each_needs p frames needs answers name k number = by (known needs k) (answers k (number_is_below (functions_of p) name k number))
   where
-    by : (need : Option ℕ) → IsAnswer frames (calls_among (functions_of p) (functions_of p)) k need → IsNeedOf (frame_by (functions_of p) frames) (world_of p) name need
+    by : (need : Option ℕ) → IsAnswer frames (calls_among (functions_of p) (functions_of p)) k need
+        → IsNeedOf (frame_by (functions_of p) frames) (world_of p) name need
     by (Some n) need = need_by_name (world_of p) frames name k number n need
     by None none = none_by_name (world_of p) frames name k number none
 
@@ -196,7 +204,8 @@ main_needs p frames k number (Some n) need =
           its.1 m (subst (λ (g : Routine). Fits (frame_by (functions_of p) frames) (world_of p) g m) (one_main p fits.main main.0 fits.found main.1) fits.fits),
     )
   where
-    one_main : (q : Program) (f g : Routine) → function_of (functions_of q) (codes "main") ≡ Some f → function_of (functions_of q) (codes "main") ≡ Some g → f ≡ g
+    one_main : (q : Program) (f g : Routine) → function_of (functions_of q) (codes "main") ≡ Some f
+        → function_of (functions_of q) (codes "main") ≡ Some g → f ≡ g
     one_main q f g one other = cc
 main_needs p frames k number None none = λ n fits. none_by_name (world_of p) frames (codes "main") k number none fits.main fits.found n fits.fits
 

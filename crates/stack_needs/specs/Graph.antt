@@ -1,5 +1,6 @@
--- Functions by their numbers: how many bytes the frame of each may take, and which functions each calls.
-use Rattle.std.specs.Prelude.{◌≡◌, ℕ, zero, suc, Bool, true, false, ◌+◌, ◌-◌, ◌^◌, ◌<◌, ◌≤◌, max, min, Option, Some, None, List, [], ◌∷◌, ◌++◌, Vec, map, length, slice_index, slice_index_or, slice_set, option_and_then, option_map}
+-- Believed: functions by their numbers: how many bytes the frame of each may take, and which functions each calls.
+use Rattle.std.specs.Prelude.{◌≡◌, ℕ, zero, suc, Bool, true, false, ◌+◌, ◌-◌, ◌^◌, ◌<◌, ◌≤◌, max, min, Option, Some, None, List, [], ◌∷◌, ◌++◌, Vec, map}
+use Rattle.std.specs.Prelude.{length, slice_index, slice_index_or, slice_set, option_and_then, option_map}
 use Rattle.std.specs.List.{Contains}
 
 -- the numbers of functions, as they stand in code

@@ -1,4 +1,4 @@
--- What is promised of a machine whose stack has the bytes that were answered.
+-- Believed, for this crate's laws: what is promised of a machine whose stack has the bytes that were answered.
 use Rattle.std.specs.Prelude.{◌≢◌, ◌≡◌, ℕ, ◌<◌, ◌≤◌, Bool, List, Some, length}
 use Rattle.cyc_words.specs.Events.{AreBytes, MachineEnding}
 use Rattle.arena_laws.specs.Lawful.{Answer}
@@ -15,7 +15,8 @@ use Rattle.compile_proof.specs.Promise.{LowerableDoes, frame_size_of, meaning_of
 use Rattle.stack_needs.specs.Graph.{most_bytes}
 use Rattle.stack_needs.specs.Numbers.{IsStackNeed}
 
--- Where so many bytes were answered for a program that lowering takes, a machine that begins with lines of it and has so much stack is never out of stack, on any
+-- Where so many bytes were answered for a program that lowering takes, a machine that begins with lines of it and has so much stack is never out of stack, on
+-- any
 -- input of bytes on which the program is never stuck, whatever its store answers.
 abbrev pub AnsweredStackSuffices : Type 0
 AnsweredStackSuffices =

@@ -1,4 +1,4 @@
--- The numbers of a program's functions, in their order.
+-- Believed: the numbers of a program's functions, in their order.
 use Rattle.std.specs.Prelude.{◌≡◌, ◌<◌, ◌≤◌, ℕ, suc, List, [], ◌∷◌, Option, Some, None, bytes_eq, codes, slice_index, if◌then◌else◌}
 use Rattle.indexmap.specs.IndexMap.{get_by}
 use Rattle.cyc_tree.specs.Tree.{Program}

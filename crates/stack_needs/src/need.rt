@@ -69,7 +69,8 @@ fn needs_by(alloc: Global, items: &[Item], frames: &[u64]) -> Result<StackNeeds,
 
 /// What the functions of a program need of the stack, with the frames that their code has.
 ///
-/// `frames` has the bytes of each function's frame, as `frames` of `rv32_select` answers them of the program's Core. A call counts where the text has it, whether
+/// `frames` has the bytes of each function's frame, as `frames` of `rv32_select` answers them of the program's Core. A call counts where the text has it,
+/// whether
 /// or not it is ever made. Takes memory for each call in the text. Fails only where no host memory is left.
 pub fn stack_needs(alloc: Global, items: &[Item], frames: &[u64]) -> Result<StackNeeds, AllocError>
     requires { frames.now ≡ map frame_bytes (program_code (program_tree items.now)).functions }

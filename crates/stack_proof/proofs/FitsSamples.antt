@@ -84,7 +84,8 @@ largest_fits = record {
   main = main_routine main;
   found = refl;
   fits = Leaves 430 (omega arith) (λ name g has is.
-      all_at (λ (callee : List ℕ). (h : Routine) → function_of world.functions callee ≡ Some h → Fits frame world h 430) (codes "large" ∷ codes "leaf" ∷ []) name (
+      all_at (λ (callee : List ℕ). (h : Routine) → function_of world.functions callee ≡ Some h
+      → Fits frame world h 430) (codes "large" ∷ codes "leaf" ∷ []) name (
         named_fits (codes "large") (routine "large" large) 430 refl large_fits,
         (named_fits (codes "leaf") (routine "leaf" leaf) 430 refl (leaf_fits 430 (omega arith)), tt),
       ) has g is);

@@ -1,4 +1,4 @@
--- How many bytes of stack a function's calls may take, said without a run.
+-- Believed: how many bytes of stack a function's calls may take, said without a run.
 use Rattle.std.specs.Prelude.{◌≡◌, ℕ, ◌+◌, ◌≤◌, Some, List, codes}
 use Rattle.std.specs.List.{Contains}
 use Rattle.cyc_tree.specs.Tree.{Program}

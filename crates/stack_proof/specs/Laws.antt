@@ -1,4 +1,4 @@
--- What is promised of a program whose functions fit so many bytes of stack.
+-- Believed: what is promised of a program whose functions fit so many bytes of stack.
 use Rattle.std.specs.Prelude.{◌≡◌, ◌≢◌, ℕ, ◌≤◌, ◌⊎◌, List, ◌∷◌, ◌++◌, []}
 use Rattle.cyc_words.specs.Events.{Event, SourceEvent, Called, Request, MachineEnding}
 use Rattle.arena_laws.specs.Lawful.{Answer}
@@ -10,7 +10,8 @@ use Rattle.rv32_machine.specs.Implements.{Meaning, Implements, HasNoFrame, IsCut
 use Rattle.exhaustion_proof.specs.Room.{HasRoom, WantsPages}
 use Rattle.stack_proof.specs.Fits.{ProgramFits}
 
--- On each input and with each amount of fuel, at each call that is seen the frames of the active functions and of the called one fit the bytes that `main` fits.
+-- On each input and with each amount of fuel, at each call that is seen the frames of the active functions and of the called one fit the bytes that `main`
+-- fits.
 abbrev pub StackSuffices : Type 0
 StackSuffices =
     (bound : List ℕ → ℕ) (p : Program) (n : ℕ) → ProgramFits bound p n → (input : List ℕ) (fuel : ℕ)

@@ -1,5 +1,6 @@
--- A run as a tree of steps: what is seen of it, what it asks for, and where a unit of fuel is due. The tree has no say in what is seen (Event), in what is called
--- (Call) with which results over which memory (Result, Memory), nor in which turns of loops there are, how they are left and over which state (Turn, Flow, State).
+-- Believed: a run as a tree of steps: what is seen of it, what it asks for, and where a unit of fuel is due. The tree has no say in what is seen (Event), in
+-- what is called (Call) with which results over which memory (Result, Memory), nor in which turns of loops there are, how they are left and over which state
+-- (Turn, Flow, State).
 use Rattle.std.specs.Prelude.{◌≡◌, ℕ, zero, suc, Option, Some, None, List, [], ◌∷◌, ◌++◌}
 use Rattle.cyc_words.specs.Events.{SourceEnding}
 

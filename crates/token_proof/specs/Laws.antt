@@ -1,4 +1,4 @@
--- What holds of all programs that are spelled.
+-- Believed, for this crate's laws: what holds of all programs that are spelled.
 use Rattle.std.specs.Prelude.{◌≤◌, length}
 use Rattle.cyc_tree.specs.Operands.{HasOperands}
 use Rattle.cyc_tree.specs.Tree.{Program}

@@ -6,7 +6,8 @@ use Rattle.source_meaning.specs.Strings.{Literal, clauses_strings, expression_st
 use Rattle.cyc_tree.specs.Tree.{Expression}
 use Rattle.cyc_tree.specs.View.{OneClause, OneItem, OneSuffix, clauses_of, expressions_of, items_of, links_of, suffixes_of}
 use Rattle.cyc_tree.specs.declared.expression.Operator.{Operator}
-use Rattle.tree_walk.specs.Listing.{Adds, AddsTo, Lists, ListsTo, clause_callees, clause_strings, link_callees, link_strings, literal_of, name_of, one_item_callees, one_item_strings, suffix_callees, suffix_strings}
+use Rattle.tree_walk.specs.Listing.{Adds, AddsTo, Lists, ListsTo, clause_callees, clause_strings, link_callees, link_strings, literal_of, name_of}
+use Rattle.tree_walk.specs.Listing.{one_item_callees, one_item_strings, suffix_callees, suffix_strings}
 use Rattle.tree_walk.specs.declared.found.Found.{Found}
 
 -- ---- of one list

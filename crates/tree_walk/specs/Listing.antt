@@ -1,4 +1,4 @@
--- The string literals and the names that calls name, as far as they were listed, in the order of the text.
+-- Believed, for this crate's laws: the string literals and the names that calls name, as far as they were listed, in the order of the text.
 use Rattle.std.specs.Prelude.{ℕ, ◌≡◌, false, List, ◌++◌, drop, map, []}
 use Rattle.cyc_tree.specs.Tree as tree
 use Rattle.cyc_tree.specs.Tree.{Expression, Item}

@@ -1,4 +1,4 @@
--- Strings by their numbers and places.
+-- Believed, for this crate's laws: strings by their numbers and places.
 use Rattle.std.specs.Prelude.{ℕ, suc, ◌+◌, ◌≡◌, List, [], ◌∷◌, Option, Some, None, length, nat_eq, if◌then◌else◌}
 use Rattle.indexmap.specs.IndexMap.{get_by}
 use Rattle.source_meaning.specs.Strings.{Literal}

@@ -5,7 +5,8 @@ use Rattle.std.proofs.lemmas.Bool.{cases_Bool, false≢true, eqb-true, eq-eqb}
 use Rattle.std.proofs.lemmas.Slice.Eq.{bytes_eq-Decides}
 use Rattle.cyc_tree.specs.Tree as tree
 use Rattle.cyc_tree.specs.Tree.{Constant, Initial, Item}
-use Rattle.source_meaning.specs.Shapes.{Reach, MayBeNull, NeverNull, may_be_null, Shared, Alone, Shape, IntShape, UnsignedShape, CharShape, ThinShape, FatShape, StructShape, UnionShape}
+use Rattle.source_meaning.specs.Shapes.{Reach, MayBeNull, NeverNull, may_be_null, Shared, Alone, Shape, IntShape, UnsignedShape, CharShape, ThinShape, FatShape}
+use Rattle.source_meaning.specs.Shapes.{StructShape, UnionShape}
 use Rattle.source_meaning.specs.Steps.{World}
 use Rattle.source_typing.specs.Regions.{Region}
 use Rattle.source_typing.specs.Tables as typing

@@ -14,7 +14,8 @@ use Rattle.source_meaning.specs.Conversions.{one, integer}
 use Rattle.source_meaning.specs.Places.{bound_to}
 use Rattle.source_meaning.specs.Calls.{function_of}
 use Rattle.source_meaning.specs.Strings.{program_strings}
-use Rattle.source_meaning.specs.Programs.{heap_spot, heap_alone, globals_from, global_shape, global_object, global_objects, string_object, world_of, entered, start, source}
+use Rattle.source_meaning.specs.Programs.{heap_spot, heap_alone, globals_from, global_shape, global_object, global_objects, string_object, world_of, entered}
+use Rattle.source_meaning.specs.Programs.{start, source}
 use Rattle.source_typing.specs.Tables as typing
 use Rattle.source_typing.specs.Tables.{What, OfValue, Stored, Arrayed, Counter, Unknown, Signature, find}
 use Rattle.source_typing.specs.Types.{Int, Unsigned, Char, Void, Null, Thin, Fat, Unique, Handle, Key, Struct, Union, StaticType, shape_of}

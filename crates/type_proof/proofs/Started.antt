@@ -255,22 +255,30 @@ module _ {B : Type 0} (d : Tables) (n : ℕ) (world : World) (tables : typing.Ta
       text : (s : Shape) (at : ℕ) (bytes : List ℕ) → AreFound world.strings ((at, []) ∷ [])
           → ((v : Scalar) → HasType d w (Flying 0 0) v (Fat heap Char)
           → Runs n (converted world s (FatShape CharShape) (v ∷ []) >>= λ vs. write_cells (heap_spot k) vs >> rest) m Q)
-          → Runs n ((need (literal_string world.strings at bytes) >>= λ v. converted world s (FatShape CharShape) (v ∷ []) >>= λ vs. write_cells (heap_spot k) vs) >> rest)
+          → Runs n ((need (literal_string world.strings at bytes) >>= λ v. converted world s (FatShape CharShape) (v ∷ []) >>= λ vs.
+          write_cells (heap_spot k) vs) >> rest)
           m Q
       text s at bytes h go = by_value (string_at world.strings at) refl h.0
         where
           by_value : (o : Option Scalar) → string_at world.strings at ≡ o → is_some o ≡ true
-              → Runs n ((need (option_map (own_string (length bytes + 1)) o) >>= λ v. converted world s (FatShape CharShape) (v ∷ []) >>= λ vs. write_cells (heap_spot k) vs) >> rest) m Q
+              → Runs n ((need (option_map (own_string (length bytes + 1)) o) >>= λ v. converted world s (FatShape CharShape) (v ∷ []) >>= λ vs.
+              write_cells (heap_spot k) vs) >> rest) m Q
           by_value None z y = absurd cc
-          by_value (Some v) z y = record { by = λ next q. (go (own_string (length bytes + 1) v) (own_string_typed d w m (Flying 0 0) (length bytes + 1) v i (strings at v z))).by next q }
+          by_value (Some v) z y = record {
+            by = λ next q.
+                (go (own_string (length bytes + 1) v) (own_string_typed d w m (Flying 0 0) (length bytes + 1) v i (strings at v z))).by next q;
+          }
 
       text_thin : (b : ℕ) (r : NameOf) (t : StaticType) (at : ℕ) (bytes : List ℕ) → t ≡ Char → AreFound world.strings ((at, []) ∷ [])
           → m.cells (heap_spot k) ≡ global_object world (Initial.Given c) (shape_of (Thin (MayBeNull b) r t)) 0 → Going (Thin (MayBeNull b) r t)
-          → Runs n ((need (literal_string world.strings at bytes) >>= λ v. converted world (shape_of (Thin (MayBeNull b) r t)) (FatShape CharShape) (v ∷ []) >>= λ vs.
+          → Runs n ((need (literal_string world.strings at bytes) >>= λ v. converted world (shape_of (Thin (MayBeNull b) r t)) (FatShape CharShape)
+          (v ∷ []) >>= λ vs.
           write_cells (heap_spot k) vs) >> rest) m Q
-      text_thin b r t at bytes is h = subst (λ (u : StaticType). m.cells (heap_spot k) ≡ global_object world (Initial.Given c) (shape_of (Thin (MayBeNull b) r u)) 0
+      text_thin b r t at bytes is h =
+          subst (λ (u : StaticType). m.cells (heap_spot k) ≡ global_object world (Initial.Given c) (shape_of (Thin (MayBeNull b) r u)) 0
           → Going (Thin (MayBeNull b) r u)
-          → Runs n ((need (literal_string world.strings at bytes) >>= λ v. converted world (shape_of (Thin (MayBeNull b) r u)) (FatShape CharShape) (v ∷ []) >>= λ vs.
+          → Runs n ((need (literal_string world.strings at bytes) >>= λ v. converted world (shape_of (Thin (MayBeNull b) r u)) (FatShape CharShape)
+          (v ∷ []) >>= λ vs.
           write_cells (heap_spot k) vs) >> rest) m Q) (sym is)
           (λ there go. text (shape_of (Thin (MayBeNull b) r Char)) at bytes h (λ v typed.
           fat_thin_goes n d world (λ a. heap) w m (λ j. Flying 0 0) i Q (λ vs. write_cells (heap_spot k) vs >> rest) (MayBeNull b) r r Char (v ∷ []) tt
@@ -288,7 +296,8 @@ module _ {B : Type 0} (d : Tables) (n : ℕ) (world : World) (tables : typing.Ta
           fat_goes n d world (λ a. heap) w m (λ j. Flying 0 0) i Q (λ vs. write_cells (heap_spot k) vs >> rest) r r Char (v ∷ []) tt
           (λ a z. z) (typed, tt) (word_goes (Fat r Char) tt there go)))
 
-      null : (b : ℕ) (r : NameOf) (t : StaticType) → IsObjectType t → (y : Constant) → IsPointerConstant (shape_of t) y → AreFound world.strings (constant_strings y)
+      null : (b : ℕ) (r : NameOf) (t : StaticType) → IsObjectType t → (y : Constant) → IsPointerConstant (shape_of t) y
+          → AreFound world.strings (constant_strings y)
           → m.cells (heap_spot k) ≡ global_object world (Initial.Given c) (shape_of (Thin (MayBeNull b) r t)) 0 → Going (Thin (MayBeNull b) r t)
           → Runs n ((constant_value world.strings y >>= λ v. converted world (shape_of (Thin (MayBeNull b) r t)) (constant_shape y) (v ∷ []) >>= λ vs.
           write_cells (heap_spot k) vs) >> rest) m Q

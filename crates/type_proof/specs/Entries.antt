@@ -1,4 +1,5 @@
--- What the names of a program mean: variables, arrays, functions that take such values, structs, unions, and the two functions that every program has.
+-- Believed: what the names of a program mean: variables, arrays, functions that take such values, structs, unions, and the two functions that every program
+-- has.
 use Rattle.std.specs.Prelude.{◌≡◌, ℕ, true, false, ◌⊎◌, Some, List, [], ◌∷◌, map, bytes_eq, codes}
 use Rattle.source_meaning.specs.Shapes.{part_shapes, has_tag}
 use Rattle.source_meaning.specs.Steps.{Routine, World}

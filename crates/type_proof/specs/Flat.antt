@@ -1,4 +1,4 @@
--- The scalars of which a value of a type is made, one a cell, with their regions.
+-- Believed: the scalars of which a value of a type is made, one a cell, with their regions.
 use Rattle.std.specs.Prelude.{ℕ, Option, Some, None, List, [], ◌∷◌, ◌++◌, map, slice_get, bytes_eq, if◌then◌else◌}
 use Rattle.source_typing.specs.Regions as names
 use Rattle.source_typing.specs.Types.{TypeIn, Int, Unsigned, Char, Void, Null, Thin, Fat, Unique, Handle, Key, Struct, Union, renamed}

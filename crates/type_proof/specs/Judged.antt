@@ -1,4 +1,4 @@
--- Which statements are in order, of the whole language: the judgement of each of their expressions, where it stands.
+-- Believed: which statements are in order, of the whole language: the judgement of each of their expressions, where it stands.
 use Rattle.std.specs.Prelude.{◌≡◌, ℕ, Bool, true, false, ◌||◌, ◌&&◌, Some, None, List, [], ◌∷◌}
 use Rattle.cyc_tree.specs.Operands.{ExpressionHasOperands}
 use Rattle.cyc_tree.specs.Tree as tree
@@ -94,7 +94,8 @@ pub record UniqueOperand (g : Env) (x : tree.Name) : Type 0 where
 pub record AliasOpened (g : Env) (at : ℕ) (r : tree.RegionName) (of : TypeName) (x p : tree.Name) : Type 0 where
   pub operand : UniqueOperand g p
   pub shape : settled_by (written of) (shape_of (Unique operand.nullable operand.to)) ≡ shape_of (Thin (single operand.nullable) (next_region g) operand.to)
-  pub scope : (declare g (tree.Alias at r of x p)).scope ≡ extended (with_region r (with_name true) g) x (Thin (single operand.nullable) (next_region g) operand.to)
+  pub scope : (declare g (tree.Alias at r of x p)).scope ≡ extended (with_region r (with_name true) g) x
+      (Thin (single operand.nullable) (next_region g) operand.to)
 
 -- a name that is of a key
 pub record KeyOperand (g : Env) (x : tree.Name) : Type 0 where

@@ -1,4 +1,4 @@
--- Members are of structs: a tagged union has none that an expression could name.
+-- Believed: members are of structs: a tagged union has none that an expression could name.
 use Rattle.std.specs.Prelude.{◌≡◌, Bool, false, Option, Some, None}
 use Rattle.cyc_tree.specs.Tree.{Array, Arrow, Dot, Expression, Expressions, Index, Links, Made, MoreExpressions, MoreLinks, NoExpressions, NoLinks, NoSuffixes}
 use Rattle.cyc_tree.specs.Tree.{One, Suffixes}

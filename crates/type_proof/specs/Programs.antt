@@ -1,4 +1,4 @@
--- Which programs are in order: their structs, unions, globals, functions and `main`, by what their names mean.
+-- Believed: which programs are in order: their structs, unions, globals, functions and `main`, by what their names mean.
 use Rattle.std.specs.Prelude.{◌≡◌, ℕ, true, false, ◌⊎◌, Some, List, [], ◌∷◌, codes}
 use Rattle.cyc_tree.specs.Tree as tree
 use Rattle.cyc_tree.specs.Tree.{Constant, Initial, Item, Program}

@@ -1,4 +1,5 @@
--- How the structs of a program are laid out, and what its unions may hold: by the types of their members, which are those that the tables of its names have.
+-- Believed: how the structs of a program are laid out, and what its unions may hold: by the types of their members, which are those that the tables of its
+-- names have.
 use Rattle.std.specs.Prelude.{◌≡◌, ◌≤◌, ℕ, Bool, true, false, Some, List, [], ◌∷◌, length, bytes_eq, if◌then◌else◌}
 use Rattle.source_meaning.specs.Shapes as shapes
 use Rattle.source_meaning.specs.Shapes.{Layout}

@@ -31,7 +31,8 @@ sound_kept old new heads e a = subst (λ h. AreSlots (let h : Holdings = h in h.
 
 -- ---- a page is opened
 
-module _ (old : Pooled) (heads : List ℕ) (c : ℕ) (sound : IsSound (record { pool = old; heads = heads; touched = 0 })) (class : class_of c ≡ c) (few : place_of c < 8) where
+module _ (old : Pooled) (heads : List ℕ) (c : ℕ) (sound : IsSound (record { pool = old; heads = heads; touched = 0 })) (class : class_of c ≡ c)
+    (few : place_of c < 8) where
   module _ (empty : slice_index heads (place_of c) ≡ 0) where
     pub record OpenSays (m n : ℕ) (got new : Pooled) (p place : ℕ) : Type 0 where
       pub small : p < 4096
@@ -128,7 +129,8 @@ module _ (old : Pooled) (heads : List ℕ) (c : ℕ) (sound : IsSound (record { 
               fresh = kept.fresh;
             }
 
-        pub left : nat_eq (word_of old (slice_index heads (place_of c) - 1) 9 + 1) (4096 / c) ≡ false → IsSound (record { pool = new; heads = heads; touched = 0 })
+        pub left : nat_eq (word_of old (slice_index heads (place_of c) - 1) 9 + 1) (4096 / c) ≡ false
+            → IsSound (record { pool = new; heads = heads; touched = 0 })
         left e =
             sound_kept old new heads kept.holds (subst (λ t. AreSlots pages heads t) (sym is) (left_sound pages heads (slots_of old) sound c class few begins k
             low vacant e))

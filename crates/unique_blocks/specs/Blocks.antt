@@ -1,4 +1,4 @@
--- What a pool with unique blocks stands for.
+-- Believed: what a pool with unique blocks stands for.
 use Rattle.std.specs.Prelude.{Option, Some, None, ℕ, List}
 use Rattle.arena_laws.specs.declared.owner.Owner.{Owner}
 use Rattle.arena_laws.specs.Holdings.{Holdings}

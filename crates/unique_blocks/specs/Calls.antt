@@ -1,4 +1,4 @@
--- What the calls say and leave, in the words of the laws of every store.
+-- Believed: what the calls say and leave, in the words of the laws of every store.
 use Rattle.std.specs.Prelude.{◌≡◌, Some, ℕ, ◌+◌, ◌<◌, ◌≤◌, Bool, true, false, Result, Ok, Err, slice_index, if◌then◌else◌}
 use Rattle.arena_laws.specs.declared.refusal.StoreRefusal.{StoreRefusal}
 use Rattle.arena_laws.specs.declared.refusal.StoreRefusal.TheVariants as store

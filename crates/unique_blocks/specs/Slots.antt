@@ -1,4 +1,4 @@
--- Pages that are cut into slots of one length, and what their words say. `word p f` is the word of page p at field f.
+-- Believed: pages that are cut into slots of one length, and what their words say. `word p f` is the word of page p at field f.
 use Rattle.std.specs.Prelude.{
   ◌≡◌,
   Option,

@@ -1,4 +1,4 @@
--- The fault of flow that a program is refused with.
+-- View of code: the fault of flow that a program is refused with.
 use Rattle.std.specs.Prelude.{None, Option, Some, true, ◌≡◌}
 use Rattle.cyc_tree.specs.Tree.{Program}
 use Rattle.source_typing.specs.Answers.{first_fault}

@@ -14,7 +14,8 @@ use Rattle.type_proof.proofs.expressions.Fixed.{PartBelow, same_below, union_bel
 use Rattle.source_typing.specs.Declarations.{can_be, fitting, fitting_local, if_sized, local_type, misses_region, set_type, taken_from, type_in_scope}
 use Rattle.source_typing.specs.Declarations.{tags_in_scope, unset_type}
 use Rattle.source_typing.specs.Extents.{fits_bytes, variable_size}
-use Rattle.source_typing.specs.Missing.{alone_with, arguments_of, as_type, fat_with, filled_arguments, filled_from, or_found, outer_region, pointee_of, settled, thin_with}
+use Rattle.source_typing.specs.Missing.{alone_with, arguments_of, as_type, fat_with, filled_arguments, filled_from, or_found, outer_region, pointee_of, settled}
+use Rattle.source_typing.specs.Missing.{thin_with}
 use Rattle.source_typing.specs.Missing.{unique_with}
 use Rattle.source_typing.specs.Regions.{Region, TheHeap}
 use Rattle.source_typing.specs.Scope.{Env, Value, in_scope}

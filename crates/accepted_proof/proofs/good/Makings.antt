@@ -4,7 +4,8 @@ use Rattle.cyc_tree.specs.Tree.{Array, Expression, Name, One}
 use Rattle.source_meaning.specs.Shapes.{NeverNull}
 use Rattle.source_typing.specs.Expressions.{judge, judge_made_in}
 use Rattle.source_typing.specs.Faults.{Fault}
-use Rattle.source_typing.specs.Making.{Goal, NoHandle, To, ToUnique, array_made, array_to, elements, enclosed, goal_of, handled, handled_of, inside, live_goal, made}
+use Rattle.source_typing.specs.Making.{Goal, NoHandle, To, ToUnique, array_made, array_to, elements, enclosed, goal_of, handled, handled_of, inside, live_goal}
+use Rattle.source_typing.specs.Making.{made}
 use Rattle.source_typing.specs.Making.{array_misfits, array_of, by_parts, is_other, made_of, made_to, with_counter}
 use Rattle.source_typing.specs.Regions.{Region}
 use Rattle.source_typing.specs.Scope.{Env, Nowhere, Value, is_live}

@@ -42,7 +42,8 @@ use Rattle.accepted_proof.proofs.FoundRegions.{AreAllFound, AreFound, base_argum
 use Rattle.accepted_proof.proofs.good.Names.{MeansGood, found_good}
 use Rattle.accepted_proof.proofs.Owners.{WritesChar, WritesInt, WritesUnsigned}
 use Rattle.accepted_proof.proofs.Sure.{surely_unless}
-use Rattle.accepted_proof.proofs.good.Pointers.{IsWritten, WritesKey, WritesObject, WritesNothing, IsPointed, HasRefused, PointedIfSome, no_pointer, all_pointed, found_region, struct_pointed, union_pointed, handle_pointed}
+use Rattle.accepted_proof.proofs.good.Pointers.{IsWritten, WritesKey, WritesObject, WritesNothing, IsPointed, HasRefused, PointedIfSome, no_pointer}
+use Rattle.accepted_proof.proofs.good.Pointers.{all_pointed, found_region, struct_pointed, union_pointed, handle_pointed}
 
 -- ---- tags
 

@@ -86,7 +86,8 @@ module _ (w : World) (names : List Named) where
 
   -- a thin pointer to what is made
   thin_taken : (x e : Expression) (a v : Value) (o : Owner) (t : StaticType) → IsTaken w names e a → is_makeable a.type ≡ true → Valued v t → IsWord t
-      → shape_of t ≡ ThinShape (NeverNull 1) o (shape_of a.type) → (IsKnown w (shape_of a.type) → IsKnownValue w t) → (TakesNew w names (One e) → Takes w names x)
+      → shape_of t ≡ ThinShape (NeverNull 1) o (shape_of a.type) → (IsKnown w (shape_of a.type) → IsKnownValue w t)
+      → (TakesNew w names (One e) → Takes w names x)
       → static_shape w names x ≡ ThinShape (NeverNull 1) o (static_shape w names e)
       → (TakesDropped w names (static_shape w names x) x → TakesRun w names x) → IsTaken w names x v
   thin_taken x e a v o t h m d i to known takes shape run =

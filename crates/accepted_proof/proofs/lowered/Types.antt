@@ -8,7 +8,8 @@ use Rattle.source_lowering.specs.Lowerable as lowering
 use Rattle.source_lowering.specs.Lowerable.{GivesNothing, GivesWord, HasBeginning, IsKnownIn, IsOperandShape, IsObjectBase, IsTarget, TakesResult}
 use Rattle.source_lowering.specs.Taken.{HasFirst, IsIntType, IsVoidType}
 use Rattle.source_meaning.specs.Shapes.{MayBeNull, NeverNull, single}
-use Rattle.source_meaning.specs.Shapes.{Alone, ArrayShape, CharShape, FatShape, HandleShape, IntShape, KeyShape, Shape, StructShape, ThinShape, UnionShape, UnsignedShape, VoidShape, base_shape, has_tag, owner_of, pointed, settled, settled_by, signed_shape, written}
+use Rattle.source_meaning.specs.Shapes.{Alone, ArrayShape, CharShape, FatShape, HandleShape, IntShape, KeyShape, Shape, StructShape, ThinShape, UnionShape}
+use Rattle.source_meaning.specs.Shapes.{UnsignedShape, VoidShape, base_shape, has_tag, owner_of, pointed, settled, settled_by, signed_shape, written}
 use Rattle.source_meaning.specs.Steps.{World}
 use Rattle.type_proof.specs.Entries.{IsObjectType, IsPlain}
 use Rattle.source_typing.specs.Faults.{Fault}

@@ -138,8 +138,10 @@ pub fn is_done(alloc: Global, wanted: &'static str, image: &str) -> Result<bool,
 /// How a machine stops and where, what x10 has then, and that it stays so: the smallest image of each fault; loads from the arena, stores to it and jumps
 /// there; calls of the store, in order or not; and frames, as long as the stack, which fits, of one byte more, and of the most bytes.
 ///
-/// Then a machine that goes on step by step: a program that ends; getchar, and again; loads from the data, which extend the sign; what is stored is loaded again, and nothing stands behind the stack;
-/// putchar, and a raise. In the last one a region, a block of 8 bytes in it, whose address goes to x5, and 0x12345000 stored there; the region is freed, and the
+/// Then a machine that goes on step by step: a program that ends; getchar, and again; loads from the data, which extend the sign; what is stored is loaded
+/// again, and nothing stands behind the stack;
+/// putchar, and a raise. In the last one a region, a block of 8 bytes in it, whose address goes to x5, and 0x12345000 stored there; the region is freed, and
+/// the
 /// next one made; then bytes 0 to 2 of what stands there go to x12 to x14, and byte 4 to x15.
 pub const STEPS: &str = "\
 until Fault(Access); pc 10004; x10 0; step Fault(Access); pc 10004 <- 00000893

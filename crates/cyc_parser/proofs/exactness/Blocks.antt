@@ -19,7 +19,8 @@ use Rattle.cyc_parser.proofs.exactness.Parts.{begins_stops}
 use Rattle.cyc_parser.proofs.Exact.{exact_as, many_exact}
 use Rattle.cyc_parser.proofs.exactness.Types.{sign_exact}
 use Rattle.cyc_parser.proofs.exactness.Expressions.{IsExpressionAt}
-use Rattle.cyc_parser.proofs.StatementsWithin.{takes_else_at, IsDeclarationAt, IsStatementAt, AreItemsAt, takes_else, goes_on_in_block, within_none, within_up, within_down, within_max, within_left, within_right}
+use Rattle.cyc_parser.proofs.StatementsWithin.{takes_else_at, IsDeclarationAt, IsStatementAt, AreItemsAt, takes_else, goes_on_in_block, within_none, within_up}
+use Rattle.cyc_parser.proofs.StatementsWithin.{within_down, within_max, within_left, within_right}
 use Rattle.cyc_parser.proofs.exactness.Unguarded.{read_on, read_closed, choose_on, Made, make_on, make_closed, EndsWith, end_with}
 use Rattle.cyc_parser.proofs.exactness.Declarations.{declaration_by_exact, declaration_begins}
 use Rattle.cyc_parser.proofs.StatementKinds.{item_no_else, statement_no_declaration, statement_begins, declaration_begins_item, statement_begins_item}

@@ -21,8 +21,10 @@ use Rattle.cyc_parser.proofs.exactness.Parts.{begins_stops, stops_wider}
 use Rattle.cyc_parser.proofs.Exact.{exact_as, done_exact, many_exact, placed_exact}
 use Rattle.cyc_parser.proofs.exactness.Types.{keyword_exact, name_exact}
 use Rattle.cyc_parser.proofs.exactness.Expressions.{IsExpressionAt, IsParenthesizedAt}
-use Rattle.cyc_parser.proofs.StatementsWithin.{IsStatementAt, AreItemsAt, takes_else, goes_on_in_block, within_none, within_up, within_down, within_max, within_left, within_right}
-use Rattle.cyc_parser.proofs.exactness.Unguarded.{read_on, read_closed, BehindSign, BehindKeyword, sign_then, keyword_then, choose_on, Made, make_on, EndsWith, end_with}
+use Rattle.cyc_parser.proofs.StatementsWithin.{IsStatementAt, AreItemsAt, takes_else, goes_on_in_block, within_none, within_up, within_down, within_max}
+use Rattle.cyc_parser.proofs.StatementsWithin.{within_left, within_right}
+use Rattle.cyc_parser.proofs.exactness.Unguarded.{read_on, read_closed, BehindSign, BehindKeyword, sign_then, keyword_then, choose_on, Made, make_on, EndsWith}
+use Rattle.cyc_parser.proofs.exactness.Unguarded.{end_with}
 use Rattle.cyc_parser.proofs.exactness.Blocks.{list_of, list_same, listed, items_by_exact}
 use Rattle.cyc_parser.proofs.StatementKinds.{clause_no_block}
 

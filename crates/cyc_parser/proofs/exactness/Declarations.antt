@@ -6,7 +6,8 @@ use Rattle.cyc_lexer.specs.declared.token.Sign.TheVariants as sign_of
 use Rattle.cyc_lexer.specs.declared.token.TokenKind.{TokenKind}
 use Rattle.cyc_lexer.specs.declared.token.TokenKind.TheVariants as kind
 use Rattle.cyc_tree.specs.Tree as tree
-use Rattle.cyc_tree.specs.Tree.{Name, RegionName, TypeName, Base, Int, Unsigned, Char, Void, Struct, Union, Handle, Key, Expression, Declaration, Local, Open, Alias, NewKey}
+use Rattle.cyc_tree.specs.Tree.{Name, RegionName, TypeName, Base, Int, Unsigned, Char, Void, Struct, Union, Handle, Key, Expression, Declaration, Local, Open}
+use Rattle.cyc_tree.specs.Tree.{Alias, NewKey}
 use Rattle.cyc_tree.proofs.PartNesting.{initializer_nesting}
 use Rattle.source_grammar.specs.Phrases.{Tokens, KeywordAt, IsName}
 use Rattle.source_grammar.specs.TypeGrammar.{IsOneRegion, IsBase, IsType}
@@ -21,7 +22,8 @@ use Rattle.cyc_parser.proofs.Exact.{exact_as, exact_wider, done_exact}
 use Rattle.cyc_parser.proofs.exactness.Types.{keyword_exact, name_exact, one_region_exact, type_exact, element_count_exact}
 use Rattle.cyc_parser.proofs.exactness.Expressions.{IsExpressionAt}
 use Rattle.cyc_parser.proofs.StatementsWithin.{IsDeclarationAt, within_none}
-use Rattle.cyc_parser.proofs.exactness.Unguarded.{begins_within, read_on, read_closed, BehindSign, BehindKeyword, sign_then, keyword_then, choose_on, Made, make_on, make_closed, EndsWith, end_with}
+use Rattle.cyc_parser.proofs.exactness.Unguarded.{begins_within, read_on, read_closed, BehindSign, BehindKeyword, sign_then, keyword_then, choose_on, Made}
+use Rattle.cyc_parser.proofs.exactness.Unguarded.{make_on, make_closed, EndsWith, end_with}
 
 -- ---- a name in parentheses
 

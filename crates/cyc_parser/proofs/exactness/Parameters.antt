@@ -16,7 +16,8 @@ use Rattle.cyc_parser.specs.ReadTypes.{typed_name}
 use Rattle.cyc_parser.specs.ReadPrograms.{void_parameter, first_parameter, other_parameters, parameters}
 use Rattle.cyc_parser.specs.Exact.{nowhere, Exact, Phrase, Anything, ends, always, Stops, IsDone, Then, Either, Whole}
 use Rattle.cyc_parser.proofs.Exact.{choose_exact, done_exact, exact_as, exact_on, exact_wider, restrict_exact}
-use Rattle.cyc_parser.proofs.exactness.Composed.{begins_with, begins_within, stops_at, stops_ends, then_exact, meets_exact, option_exact, Made, image_exact, finish, ends_wider}
+use Rattle.cyc_parser.proofs.exactness.Composed.{begins_with, begins_within, stops_at, stops_ends, then_exact, meets_exact, option_exact, Made, image_exact}
+use Rattle.cyc_parser.proofs.exactness.Composed.{finish, ends_wider}
 use Rattle.cyc_parser.proofs.exactness.Listed.{commas_exact}
 use Rattle.cyc_parser.proofs.exactness.Pointers.{pointer_begins}
 use Rattle.cyc_parser.proofs.exactness.Types.{keyword_exact, name_exact, is_no_name, pointers_exact, type_first, typed_name_exact}

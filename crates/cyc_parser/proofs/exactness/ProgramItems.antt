@@ -5,7 +5,8 @@ use Rattle.cyc_lexer.specs.declared.token.Keyword.TheVariants as word
 use Rattle.cyc_lexer.specs.declared.token.Sign.TheVariants as sign_of
 use Rattle.cyc_lexer.specs.declared.token.TokenKind.{TokenKind}
 use Rattle.cyc_lexer.specs.declared.token.TokenKind.TheVariants as kind
-use Rattle.cyc_tree.specs.Tree.{Name, RegionName, Base, Int, Unsigned, Char, Void, Struct, Union, Handle, Key, TypeName, Initial, Item, StructItem, UnionItem, GlobalItem, FunctionItem}
+use Rattle.cyc_tree.specs.Tree.{Name, RegionName, Base, Int, Unsigned, Char, Void, Struct, Union, Handle, Key, TypeName, Initial, Item, StructItem, UnionItem}
+use Rattle.cyc_tree.specs.Tree.{GlobalItem, FunctionItem}
 use Rattle.source_grammar.specs.Phrases.{Tokens, KeywordAt, IsKeyword, IsName, Each}
 use Rattle.source_grammar.specs.TypeGrammar.{AreRegions, IsBase, IsPointer, IsType}
 use Rattle.source_grammar.specs.Grammar.{AreMembers}

@@ -1,5 +1,6 @@
 -- The readers of functions, items and programs are exact.
-use Rattle.std.proofs.Common.{◌≡◌, ◌≤◌, ℕ, zero, suc, max, Bool, true, false, List, [], ◌∷◌, length, refl, sym, ap, subst, ◌∙◌, Ok, Err, nat_le, cond, arith, leb-true}
+use Rattle.std.proofs.Common.{◌≡◌, ◌≤◌, ℕ, zero, suc, max, Bool, true, false, List, [], ◌∷◌, length, refl, sym, ap, subst, ◌∙◌, Ok, Err, nat_le, cond, arith}
+use Rattle.std.proofs.Common.{leb-true}
 use Rattle.cyc_tree.specs.Tree.{Item, StructItem, UnionItem, GlobalItem, FunctionItem}
 use Rattle.cyc_tree.proofs.PartNesting.{item_nesting, program_nesting}
 use Rattle.cyc_parser.specs.declared.fault.ParseFault.TheVariants.{Memory}

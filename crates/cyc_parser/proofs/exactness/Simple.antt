@@ -18,7 +18,8 @@ use Rattle.cyc_parser.proofs.exactness.Expressions.{IsExpressionAt, expression_b
 use Rattle.cyc_parser.proofs.exactness.Unguarded.{read_on, read_closed, BehindSign, sign_then, choose_on, Made, make_closed, EndsWith, end_with}
 use Rattle.cyc_parser.proofs.exactness.Declarations.{parenthesized_name_exact}
 use Rattle.cyc_parser.proofs.StatementsWithin.{IsStatementAt, within_one, within_up, within_max}
-use Rattle.cyc_parser.proofs.StatementKinds.{Leads, leads_less, leads_past, unary_leads, past_empty, past_break, past_continue, past_return, past_ufree, past_free_key, unary_no_semicolon}
+use Rattle.cyc_parser.proofs.StatementKinds.{Leads, leads_less, leads_past, unary_leads, past_empty, past_break, past_continue, past_return, past_ufree}
+use Rattle.cyc_parser.proofs.StatementKinds.{past_free_key, unary_no_semicolon}
 
 -- ---- words and names
 

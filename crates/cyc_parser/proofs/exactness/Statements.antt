@@ -24,7 +24,8 @@ use Rattle.cyc_parser.proofs.StatementKinds.{Leads, leads_less, leads_past, past
 use Rattle.cyc_parser.proofs.exactness.Simple.{IsSimplePart, simple_leads, simple_exact, simple_into, simple_closed}
 use Rattle.cyc_parser.proofs.exactness.Blocks.{IsBlockPart, items_by_exact, block_exact, block_into, block_back, block_closed}
 use Rattle.cyc_parser.proofs.exactness.Clauses.{IsSwitchPart, switch_exact, switch_into, switch_back, switch_closed}
-use Rattle.cyc_parser.proofs.exactness.Conditionals.{shut_stops, IsIfPart, if_exact, if_into, if_back, else_back, if_stops, IsWhilePart, while_exact, while_into, while_back, while_stops}
+use Rattle.cyc_parser.proofs.exactness.Conditionals.{shut_stops, IsIfPart, if_exact, if_into, if_back, else_back, if_stops, IsWhilePart, while_exact}
+use Rattle.cyc_parser.proofs.exactness.Conditionals.{while_into, while_back, while_stops}
 use Rattle.cyc_parser.proofs.SomeStatements.{statement_from, some_statement, statement_nests}
 
 pub declaration_exact : (d : ℕ) → Exact Anything (IsDeclarationAt d) ends (declaration_by (expression_at d))

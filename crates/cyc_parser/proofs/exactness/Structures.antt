@@ -16,7 +16,8 @@ use Rattle.cyc_parser.specs.Exact.{Exact, Anything, ends, always, Stops, IsDone,
 use Rattle.cyc_parser.proofs.Exact.{done_exact, exact_as}
 use Rattle.cyc_parser.proofs.exactness.Composed.{begins_with, stops_at, stops_behind, then_exact, meets_exact, either_exact, option_exact, finish, ends_wider}
 use Rattle.cyc_parser.proofs.exactness.Listed.{each_exact}
-use Rattle.cyc_parser.proofs.exactness.Types.{sign_exact, keyword_exact, name_exact, region_list_exact, type_first, typed_name_exact, element_count_exact, constant_exact}
+use Rattle.cyc_parser.proofs.exactness.Types.{sign_exact, keyword_exact, name_exact, region_list_exact, type_first, typed_name_exact, element_count_exact}
+use Rattle.cyc_parser.proofs.exactness.Types.{constant_exact}
 
 -- ---- members
 

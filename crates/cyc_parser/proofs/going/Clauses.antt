@@ -20,7 +20,8 @@ use Rattle.cyc_parser.proofs.StatementsWithin.{takes_else, goes_on_in_block}
 use Rattle.cyc_parser.proofs.exactness.Unguarded.{stops_never}
 use Rattle.cyc_parser.proofs.StatementKinds.{clause_no_block}
 use Rattle.cyc_parser.proofs.exactness.Blocks.{list_of, list_same}
-use Rattle.cyc_parser.proofs.exactness.Clauses.{IsPatternHere, pattern_exact, pattern_some, IsClauseAt, goes_on_in_switch, clause_list, clause_list_same, rows_back, clause_begins, pattern_place, clause_exact, clauses_meet}
+use Rattle.cyc_parser.proofs.exactness.Clauses.{IsPatternHere, pattern_exact, pattern_some, IsClauseAt, goes_on_in_switch, clause_list, clause_list_same}
+use Rattle.cyc_parser.proofs.exactness.Clauses.{rows_back, clause_begins, pattern_place, clause_exact, clauses_meet}
 use Rattle.cyc_parser.proofs.exactness.Statements.{statement_exact}
 use Rattle.cyc_parser.proofs.Goes.{Goes, or_else, first_of, deeper_both, own_start, goes_as, goes_then, goes_behind, goes_before, many_goes}
 use Rattle.cyc_parser.proofs.going.Tokens.{keyword_goes}

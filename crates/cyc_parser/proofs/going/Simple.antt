@@ -16,7 +16,8 @@ use Rattle.cyc_parser.specs.Exact.{Stops}
 use Rattle.cyc_parser.proofs.exactness.Parts.{begins_stops}
 use Rattle.cyc_parser.proofs.exactness.Expressions.{expression_begins, expression_exact}
 use Rattle.cyc_parser.proofs.exactness.Unguarded.{stops_never}
-use Rattle.cyc_parser.proofs.StatementKinds.{Leads, leads_past, unary_leads, past_empty, past_break, past_continue, past_return, past_ufree, past_free_key, unary_no_semicolon}
+use Rattle.cyc_parser.proofs.StatementKinds.{Leads, leads_past, unary_leads, past_empty, past_break, past_continue, past_return, past_ufree, past_free_key}
+use Rattle.cyc_parser.proofs.StatementKinds.{unary_no_semicolon}
 use Rattle.cyc_parser.proofs.exactness.Simple.{IsSimplePart, simple_exact}
 use Rattle.cyc_parser.proofs.Goes.{Goes, or_else, deeper_both, own_start, goes_as, goes_same, goes_then, goes_before, goes_second}
 

@@ -7,7 +7,8 @@ use Rattle.source_meaning.specs.Programs.{world_of}
 use Rattle.core_meaning.specs.Core as core
 use Rattle.core_meaning.specs.Core.{Do, Block, Return, Constant}
 use Rattle.source_lowering.specs.Lowered.{all_of, stored_code}
-use Rattle.source_lowering.specs.Programs.{block_shapes, locals_of, routine_values, no_regions, items_code, parameter_names, parameters_code, end_code, body_code, function_code, program_code}
+use Rattle.source_lowering.specs.Programs.{block_shapes, locals_of, routine_values, no_regions, items_code, parameter_names, parameters_code, end_code}
+use Rattle.source_lowering.specs.Programs.{body_code, function_code, program_code}
 use Rattle.source_lowering.specs.Temporaries.{temporaries_of, passed_by}
 use Rattle.source_lowering.specs.Members.{words_in, all_words}
 use Rattle.source_lowering.specs.Lowerable.{IsLowerable}

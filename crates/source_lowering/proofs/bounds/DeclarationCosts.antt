@@ -74,7 +74,8 @@ value_bounded w names s e d index own t p h f g = by s h
         let n = one_node e in
         record {
           operations = a.operations + 11;
-          costs = sized (both_cost t p _ a.operations _ 11 _ _ a.costs (converted_put w t p d index of (static_shape w names e) (omega (arith, f, n)))) (omega arith);
+          costs = sized (both_cost t p _ a.operations _ 11 _ _ a.costs (converted_put w t p d index of (static_shape w names e) (omega (arith, f, n))))
+              (omega arith);
           less = omega (arith, l);
         }
 

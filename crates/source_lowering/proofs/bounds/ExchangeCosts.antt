@@ -40,13 +40,15 @@ words_read_costs : (count t p word d from : ℕ) → d + count ≤ t → suc fro
 words_read_costs zero t p word d from h g = no_costs t p
 words_read_costs (suc count) t p word d from h g =
     at_most t p (1 + count) (suc count) _ (omega arith)
-    (does_then t p count (core.Load d from (part_at 0 0 word)) _ (omega (arith, h, g)) (words_read_costs count t p (suc word) (suc d) from (omega (arith, h)) g))
+    (does_then t p count (core.Load d from (part_at 0 0 word)) _ (omega (arith, h, g))
+    (words_read_costs count t p (suc word) (suc d) from (omega (arith, h)) g))
 
 words_written_costs : (count t p word to d : ℕ) → d + count ≤ t → suc to ≤ t → Costs t p 0 count (words_written count word to d)
 words_written_costs zero t p word to d h g = no_costs t p
 words_written_costs (suc count) t p word to d h g =
     at_most t p (1 + count) (suc count) _ (omega arith)
-    (does_then t p count (core.Store to (part_at 0 0 word) d) _ (omega (arith, h, g)) (words_written_costs count t p (suc word) to (suc d) (omega (arith, h)) g))
+    (does_then t p count (core.Store to (part_at 0 0 word) d) _ (omega (arith, h, g))
+    (words_written_costs count t p (suc word) to (suc d) (omega (arith, h)) g))
 
 union_exchange_costs : (count t p d : ℕ) → count ≤ 4 → d + 10 ≤ t → Costs t p 0 16 (union_exchange count d)
 union_exchange_costs count t p d few h =

@@ -94,10 +94,12 @@ mutual
       one_cheap t p 1 1 _ (does_one t p (Constant d value) (omega (arith, f))) (omega arith) (omega arith)
   expression_costs w names (Expression.Character at byte) t p d own h f g =
       one_cheap t p 1 1 _ (does_one t p (Constant d (byte % 256)) (omega (arith, f))) (omega arith) (omega arith)
-  expression_costs w names (Expression.Null at) t p d own h f g = one_cheap t p 1 1 _ (does_one t p (NullPointer d) (omega (arith, f))) (omega arith) (omega arith)
+  expression_costs w names (Expression.Null at) t p d own h f g = one_cheap t p 1 1 _ (does_one t p (NullPointer d) (omega (arith, f))) (omega arith)
+      (omega arith)
   expression_costs w names (Expression.Text at bytes) t p d own h f g =
       one_cheap t p 1 3 _ (text_costs t p d (string_at w.strings at) (omega (arith, f))) (omega arith) (omega arith)
-  expression_costs w names (Expression.HeapRegion at) t p d own h f g = one_cheap t p 1 1 _ (does_one t p (HeapHandle d) (omega (arith, f))) (omega arith) (omega arith)
+  expression_costs w names (Expression.HeapRegion at) t p d own h f g = one_cheap t p 1 1 _ (does_one t p (HeapHandle d) (omega (arith, f))) (omega arith)
+      (omega arith)
   expression_costs w names (Expression.Variable name) t p d own h f g =
       one_cheap t p 1 4 _ (get_costs t p d (local_named names name.text) (bound_to w.globals name.text) (omega (arith, f))) (omega arith) (omega arith)
   expression_costs w names (Expression.Call name arguments) t p d own h f g =
@@ -145,7 +147,8 @@ mutual
   expression_costs w names (Expression.UniqueRegion at) t p d own h f g = one_cheap t p 1 0 [] (no_costs t p) (omega arith) (omega arith)
   expression_costs w names (Expression.NewIn at handle new) t p d own h f g =
       let a = expression_costs w names handle t p d own h.0 (omega (arith, f)) (omega (arith, g)) in
-      let b = new_costs w names (is_unique_region handle) new t p d (own + length (expression_values w names handle)) h.1 (omega (arith, f)) (omega (arith, g)) in
+      let b = new_costs w names (is_unique_region handle) new t p d (own + length (expression_values w names handle)) h.1 (omega (arith, f))
+      (omega (arith, g)) in
       let l = a.less in let k = b.less in
       one_cheap t p (3 + (tokens_of handle + made_tokens new)) (a.operations + b.operations) _ (both_cost t p _ a.operations _ b.operations _ _ a.costs b.costs)
       (omega (arith, l, k)) (omega arith)
@@ -186,7 +189,8 @@ mutual
       → TakesMembers w names suffixes left.shape → 3 * suffix_count suffixes ≤ p → m + suffix_count suffixes ≤ m' → n + suffix_tokens suffixes ≤ n'
       → l + indices_in_suffixes suffixes ≤ l' → IsLeft t p m l n left
       → IsLeft t p m' l' n' (suffixed_code w names suffixes left own)
-  suffixes_costs w names NoSuffixes left t p m n m' n' l l' own h g e k i one = more_left t p m n m' n' left (omega (arith, e)) (omega (arith, k)) (omega (arith, i)) one
+  suffixes_costs w names NoSuffixes left t p m n m' n' l l' own h g e k i one = more_left t p m n m' n' left (omega (arith, e)) (omega (arith, k))
+      (omega (arith, i)) one
   suffixes_costs w names (Index index others) left t p m n m' n' l l' own h g e k i one =
       let first = own + length (suffix_values w names others) in
       suffixes_costs w names others (element_at w left.shape (λ d. expression_code w names index d first) left.value) t p
@@ -207,7 +211,8 @@ mutual
       → 3 * suffix_count suffixes ≤ p
       → (Takes w names primary → (d : ℕ) → d + 4 * m ≤ t → IsCheap t p l n (value d))
       → (TakesPlace w names primary → (d : ℕ) → d + 4 * m ≤ t → IsPointed t p l n (pointer d))
-      → IsLeft t p (m + suffix_count suffixes) (indices_in_suffixes suffixes + l) (n + suffix_tokens suffixes) (suffixed_code w names suffixes (left_of s value pointer) own)
+      → IsLeft t p (m + suffix_count suffixes) (indices_in_suffixes suffixes + l) (n + suffix_tokens suffixes)
+      (suffixed_code w names suffixes (left_of s value pointer) own)
   primary_costs w names NoSuffixes s value pointer primary t p m n l own enough h g as_value as_place = absurd h
   primary_costs w names (Index index others) s value pointer primary t p m n l own enough h g as_value as_place =
       let first = own + length (suffix_values w names others) in
@@ -218,17 +223,23 @@ mutual
       (element_left w s (λ d. expression_code w names index d first) value t p m n (expression_count index) (tokens_of index) enough
       (λ d r. expression_costs w names index t p d first h.1.0 (omega (arith, r)) (omega (arith, g))) (as_value h.0))
   primary_costs w names (Dot f others) s value pointer primary t p m n l own enough h g as_value as_place =
-      suffixes_costs w names others (member_at w s pointer 0 0 f.text) t p (m + 1) (n + 2) (m + (1 + suffix_count others)) (n + (2 + suffix_tokens others)) l (indices_in_suffixes others + l) own
+      suffixes_costs w names others (member_at w s pointer 0 0 f.text) t p (m + 1) (n + 2) (m + (1 + suffix_count others)) (n + (2 + suffix_tokens others)) l
+      (indices_in_suffixes others + l) own
       h.1.1 (omega (arith, g)) (omega arith) (omega arith) (omega arith) (member_left w s pointer 0 0 f.text t p m n enough
       (λ d r. let a = as_place h.0 d r in let l = a.less in record { operations = a.operations; costs = a.costs; less = omega (arith, l) }))
   primary_costs w names (Arrow f others) s value pointer primary t p m n l own enough h g as_value as_place =
       let left : Left = left_of s value pointer in
-      suffixes_costs w names others (member_behind w left f.text) t p (m + 1) (n + 2) (m + (1 + suffix_count others)) (n + (2 + suffix_tokens others)) l (indices_in_suffixes others + l) own
+      suffixes_costs w names others (member_behind w left f.text) t p (m + 1) (n + 2) (m + (1 + suffix_count others)) (n + (2 + suffix_tokens others)) l
+      (indices_in_suffixes others + l) own
       h.1.1 (omega (arith, g)) (omega arith) (omega arith) (omega arith) (arrow_left w left f.text t p m n enough (as_value h.0))
 
   pub arguments_costs : (w : World) (names : List Named) (shapes : List Shape) (es : Expressions) (t p d own : ℕ) → TakesAll w names es
       → d + 4 * argument_count es ≤ t → 3 * argument_count es ≤ p → AreArguments t p (indices_in_all es) es (arguments_code w names shapes es d own)
-  arguments_costs w names [] es t p d own h f g = let n = many_tokens es in record { operations = 0; costs = sized (no_costs t p) (omega arith); less = omega (arith, n) }
+  arguments_costs w names [] es t p d own h f g = let n = many_tokens es in record {
+    operations = 0;
+    costs = sized (no_costs t p) (omega arith);
+    less = omega (arith, n);
+  }
   arguments_costs w names (s ∷ ss) NoExpressions t p d own h f g = record { operations = 0; costs = sized (no_costs t p) (omega arith); less = omega arith }
   arguments_costs w names (s ∷ ss) (MoreExpressions e es) t p d own h f g =
       let n = one_node e in
@@ -245,7 +256,8 @@ mutual
       }
 
   pub links_costs : (w : World) (names : List Named) (links : Links) (left : Shape) (t p d own : ℕ) → TakesLinks w names links
-      → d + 4 * link_count links ≤ t → 3 * link_count links ≤ p → ArePassed t p (indices_in_links links) (link_tokens links) (links_code w names links left d own)
+      → d + 4 * link_count links ≤ t → 3 * link_count links ≤ p
+      → ArePassed t p (indices_in_links links) (link_tokens links) (links_code w names links left d own)
   links_costs w names NoLinks left t p d own h f g = record { operations = 0; costs = sized (no_costs t p) (omega arith); less = omega arith }
   links_costs w names (MoreLinks operator operand others) left t p d own h f g =
       let few = words_few left in
@@ -369,4 +381,8 @@ mutual
       let b = members_costs w names qs others t p d (cells + length (cells_of w q.shape)) (at + (extent_of w q.shape).size)
       (own + length (values_by q.shape (whole_values w names first) (expression_values w names first))) h.1 (omega (arith, f)) (omega (arith, g)) in
       let l = a.less in let k = b.less in
-      record { operations = a.operations + b.operations; costs = sized (both_cost t p _ a.operations _ b.operations _ _ a.costs b.costs) (omega arith); less = omega (arith, l, k) }
+      record {
+        operations = a.operations + b.operations;
+        costs = sized (both_cost t p _ a.operations _ b.operations _ _ a.costs b.costs) (omega arith);
+        less = omega (arith, l, k);
+      }

@@ -103,7 +103,8 @@ request_costs w true s t p d count g h = at_most t p 1 3 _ (omega arith) (does_o
 request_costs w false s t p d count g h =
     does_then t p 2 (Constant count 1) _ (omega (arith, h)) (does_one t p (RegionAlloc d d count (layout_of w s)) (omega (arith, g, h)))
 
-pub made_costs : {l : ℕ} (w : World) (unique : Bool) (s : Shape) (t p d n : ℕ) (whole word : List Statement) (for_whole for_word : Type 0) → TakesMember s for_whole for_word
+pub made_costs : {l : ℕ} (w : World) (unique : Bool) (s : Shape) (t p d n : ℕ) (whole word : List Statement) (for_whole for_word : Type 0)
+    → TakesMember s for_whole for_word
     → (for_whole → IsWhole t p l n whole) → (for_word → IsCheap t p l n word) → d + 5 ≤ t → IsMade t p l n (new_code_by w unique s d whole word)
 made_costs {l = l} w unique s t p d n whole word for_whole for_word takes as_whole as_word h = by s takes
   where

@@ -141,7 +141,8 @@ no_whole : {i : ℕ} (w : World) (c n : ℕ) (s : Shape) (xs : List Shape) → P
 no_whole w c n s xs a = let f = a.less in record { less = omega (arith, f) }
 
 -- suffixes on what stands on their left, which lead to a whole
-suffixed_pays : {i j : ℕ} (w : World) (c n d m : ℕ) (s : Shape) (xs ys : List Shape) → Pays w c i n xs → Pays w d j m (s ∷ ys) → Pays w (c + d) (j + i) (n + m) (s ∷ (ys ++ xs))
+suffixed_pays : {i j : ℕ} (w : World) (c n d m : ℕ) (s : Shape) (xs ys : List Shape) → Pays w c i n xs → Pays w d j m (s ∷ ys)
+    → Pays w (c + d) (j + i) (n + m) (s ∷ (ys ++ xs))
 suffixed_pays w c n d m s xs ys a b = let h = words_both w ys xs in let f = a.less in let g = b.less in record { less = omega (arith, h, f, g) }
 
 -- or to a value
@@ -151,7 +152,8 @@ primary_paid : (w : World) (names : List Named) (primary : Expression) (suffixes
     → (TakesPlace w names primary → Pays w (expression_count primary) (indices_in primary) (frame_nodes w names primary) (expression_values w names primary))
     → Pays w (suffix_count suffixes) (indices_in_suffixes suffixes) (suffix_nodes w names suffixes (static_shape w names primary))
     (suffixed_shape w suffixes (static_shape w names primary) ∷ suffix_values w names suffixes)
-    → Pays w (expression_count primary + suffix_count suffixes) (indices_in_suffixes suffixes + indices_in primary) (frame_nodes w names primary + suffix_nodes w names suffixes (static_shape w names primary))
+    → Pays w (expression_count primary + suffix_count suffixes) (indices_in_suffixes suffixes + indices_in primary)
+    (frame_nodes w names primary + suffix_nodes w names suffixes (static_shape w names primary))
     (suffix_values w names suffixes ++ expression_values w names primary)
 primary_paid w names primary suffixes h by_value by_place paid =
     let s = static_shape w names primary in
@@ -163,7 +165,8 @@ primary_paid w names primary suffixes h by_value by_place paid =
 -- ---- expressions
 
 -- an assigned value comes before its place
-pub assigned_pays : {i j : ℕ} (w : World) (c n d m k : ℕ) (xs ys : List Shape) → Pays w c i n xs → Pays w d j m ys → Pays w (c + d) (j + i) (k + (n + m)) (ys ++ xs)
+pub assigned_pays : {i j : ℕ} (w : World) (c n d m k : ℕ) (xs ys : List Shape) → Pays w c i n xs → Pays w d j m ys
+    → Pays w (c + d) (j + i) (k + (n + m)) (ys ++ xs)
 assigned_pays w c n d m k xs ys a b = let h = words_both w ys xs in let f = a.less in let g = b.less in record { less = omega (arith, h, f, g) }
 
 mutual
@@ -186,12 +189,14 @@ mutual
       let s = static_shape w names operand in
       node_paid w (prefix_shape operator s) (expression_count operand) (frame_nodes w names operand) _
       (prefixed_objects operator s (Takes w names operand) (TakesPlace w names operand)
-      (Pays w (expression_count operand) (indices_in operand) (frame_nodes w names operand) (expression_values w names operand)) h (λ g. expression_paid w names operand g)
+      (Pays w (expression_count operand) (indices_in operand) (frame_nodes w names operand) (expression_values w names operand)) h
+      (λ g. expression_paid w names operand g)
       (λ g. place_paid w names operand g))
   expression_paid w names (Expression.New at new) h =
       node_paid w (new_shape w names Shared new) (made_count new) (made_nodes w names new) _ (new_paid w names new h)
   expression_paid w names (Expression.NewIn at handle new) h =
-      node_paid w (new_shape w names (owner_in (is_unique_region handle)) new) (expression_count handle + made_count new) (frame_nodes w names handle + made_nodes w names new) _
+      node_paid w (new_shape w names (owner_in (is_unique_region handle)) new) (expression_count handle + made_count new)
+      (frame_nodes w names handle + made_nodes w names new) _
       (both_pay w (expression_count handle) (frame_nodes w names handle) (made_count new) (made_nodes w names new) _ _ (expression_paid w names handle h.0)
       (new_paid w names new h.1))
   expression_paid w names (Expression.UniqueRegion at) h = one_paid w (static_shape w names (Expression.UniqueRegion at))
@@ -218,14 +223,16 @@ mutual
       (λ g. place_paid w names primary g) (suffixes_paid w names suffixes (static_shape w names primary) primary h)
   place_paid w names (Expression.Prefixed at operator operand) h =
       node_paid w (prefix_shape operator (static_shape w names operand)) (expression_count operand) (frame_nodes w names operand) _
-      (pointed_objects operator (Takes w names operand) (Pays w (expression_count operand) (indices_in operand) (frame_nodes w names operand) (expression_values w names operand)) h
+      (pointed_objects operator (Takes w names operand) (Pays w (expression_count operand) (indices_in operand) (frame_nodes w names operand)
+      (expression_values w names operand)) h
       (λ g. expression_paid w names operand g))
   place_paid w names _ h = absurd h
 
   -- suffixes, whose last one may lead to a whole
   suffixes_paid : (w : World) (names : List Named) (suffixes : Suffixes) (s : Shape) (primary : Expression)
       → TakesSuffixes w names suffixes s (Takes w names primary) (TakesPlace w names primary)
-      → Pays w (suffix_count suffixes) (indices_in_suffixes suffixes) (suffix_nodes w names suffixes s) (suffixed_shape w suffixes s ∷ suffix_values w names suffixes)
+      → Pays w (suffix_count suffixes) (indices_in_suffixes suffixes) (suffix_nodes w names suffixes s)
+      (suffixed_shape w suffixes s ∷ suffix_values w names suffixes)
   suffixes_paid w names NoSuffixes s primary h = absurd h
   suffixes_paid w names (Index index others) s primary h =
       further_index w (suffix_count others) (suffix_nodes w names others (pointee s)) (expression_count index) (frame_nodes w names index) (pointee s)
@@ -238,7 +245,8 @@ mutual
       further_one w (suffix_count others) (suffix_nodes w names others at) at (suffixed_shape w others at) _ (further_paid w names others at h.1.1)
 
   further_paid : (w : World) (names : List Named) (suffixes : Suffixes) (s : Shape) → TakesMembers w names suffixes s
-      → IsFurther w (suffix_count suffixes) (indices_in_suffixes suffixes) (suffix_nodes w names suffixes s) s (suffixed_shape w suffixes s) (suffix_values w names suffixes)
+      → IsFurther w (suffix_count suffixes) (indices_in_suffixes suffixes) (suffix_nodes w names suffixes s) s (suffixed_shape w suffixes s)
+      (suffix_values w names suffixes)
   further_paid w names NoSuffixes s h = record { less = omega arith }
   further_paid w names (Index index others) s h =
       further_more w (suffix_count (Index index others)) (suffix_nodes w names (Index index others) s) s (suffixed_shape w others (pointee s)) _
@@ -277,7 +285,8 @@ mutual
       (both_pay w (expression_count operand) (frame_nodes w names operand) (link_count others) (link_nodes w names others s) _ _
       (expression_paid w names operand h.0) (links_paid w names others s h.1))
 
-  new_paid : (w : World) (names : List Named) (new : Made) → TakesNew w names new → Pays w (made_count new) (indices_in_made new) (made_nodes w names new) (new_values w names new)
+  new_paid : (w : World) (names : List Named) (new : Made) → TakesNew w names new
+      → Pays w (made_count new) (indices_in_made new) (made_nodes w names new) (new_values w names new)
   new_paid w names (One value) h =
       by_paid w (static_shape w names value) (expression_count value) (frame_nodes w names value) _ _ (TakesWhole w names value) (Takes w names value) h.1
       (λ g. whole_paid w names value g) (λ g. expression_paid w names value g)
@@ -309,12 +318,14 @@ mutual
       suffixed_pays w (expression_count primary) (frame_nodes w names primary) (suffix_count suffixes) (suffix_nodes w names suffixes s)
       (suffixed_shape w suffixes s) _ _
       (suffixed_objects w names suffixes s (Takes w names primary) (TakesPlace w names primary)
-      (Pays w (expression_count primary) (indices_in primary) (frame_nodes w names primary) (expression_values w names primary)) h.0 (λ g. expression_paid w names primary g)
+      (Pays w (expression_count primary) (indices_in primary) (frame_nodes w names primary) (expression_values w names primary)) h.0
+      (λ g. expression_paid w names primary g)
       (λ g. place_paid w names primary g))
       (suffixes_paid w names suffixes s primary h.0)
   whole_paid w names (Expression.Prefixed at operator operand) h =
       whole_node w (prefix_shape operator (static_shape w names operand)) (expression_count operand) (frame_nodes w names operand) _
-      (pointed_objects operator (Takes w names operand) (Pays w (expression_count operand) (indices_in operand) (frame_nodes w names operand) (expression_values w names operand))
+      (pointed_objects operator (Takes w names operand) (Pays w (expression_count operand) (indices_in operand) (frame_nodes w names operand)
+      (expression_values w names operand))
       h.0 (λ g. expression_paid w names operand g))
   whole_paid w names _ h = absurd h
 

@@ -36,11 +36,13 @@ tested_less (MoreExpressions e es) o h = omega (arith, h)
 
 pub these_costs : {l : ℕ} (t p d o : ℕ) (code : List Statement) → suc d ≤ t → Costs t p l o code → Costs t p l (1 + o) (If d (all_of code) NoStatements ∷ [])
 these_costs {l} t p d o code h c =
-    more_costs t p (l + 0) (1 + (o + 0)) t p l (1 + o) _ (omega arith) (omega arith) (omega arith) (omega arith) (if_costs t p d l 0 o 0 code [] h c (no_costs t p))
+    more_costs t p (l + 0) (1 + (o + 0)) t p l (1 + o) _ (omega arith) (omega arith) (omega arith) (omega arith)
+    (if_costs t p d l 0 o 0 code [] h c (no_costs t p))
 
 pub those_costs : {l : ℕ} (t p d o : ℕ) (code : List Statement) → suc d ≤ t → Costs t p l o code → Costs t p l (1 + o) (If d NoStatements (all_of code) ∷ [])
 those_costs {l} t p d o code h c =
-    more_costs t p (0 + l) (1 + (0 + o)) t p l (1 + o) _ (omega arith) (omega arith) (omega arith) (omega arith) (if_costs t p d 0 l 0 o [] code h (no_costs t p) c)
+    more_costs t p (0 + l) (1 + (0 + o)) t p l (1 + o) _ (omega arith) (omega arith) (omega arith) (omega arith)
+    (if_costs t p d 0 l 0 o [] code h (no_costs t p) c)
 
 -- arguments with their conversions: there are four operations left for each
 pub record AreArguments (t p l : ℕ) (es : Expressions) (code : List Statement) : Type 0 where

@@ -10,12 +10,15 @@ use Rattle.source_meaning.specs.Steps.{Entity, Variable, World, Routine}
 use Rattle.source_meaning.specs.Calls.{function_of}
 use Rattle.core_meaning.specs.Core as core
 use Rattle.core_meaning.specs.Core.{Statement, Do, Call, Constant, Narrow, Apply, Getchar, Putchar}
-use Rattle.source_lowering.specs.Lowered.{Named, number_of, get_by, put_by, address_by, thinned_code, narrow_code, conversion_code, type_of, applied_to, Home, InBlock, get_home, put_home, home_address, operator_code, turned_code, pointers_code, truth_code, word_code, not_code, result_shape, call_shape, makes_struct, from_on, results_in, function_call, call_code}
+use Rattle.source_lowering.specs.Lowered.{Named, number_of, get_by, put_by, address_by, thinned_code, narrow_code, conversion_code, type_of, applied_to, Home}
+use Rattle.source_lowering.specs.Lowered.{InBlock, get_home, put_home, home_address, operator_code, turned_code, pointers_code, truth_code, word_code, not_code}
+use Rattle.source_lowering.specs.Lowered.{result_shape, call_shape, makes_struct, from_on, results_in, function_call, call_code}
 use Rattle.source_lowering.specs.Temporaries.{last_of, operation_temporaries}
 use Rattle.core_meaning.specs.Bounds.{operation_count}
 use Rattle.source_lowering.proofs.bounds.Nodes.{result_count}
 use Rattle.source_lowering.proofs.bounds.Costs.{Costs, one_costs, does_one, does_then, does_few, at_most, nothing}
-use Rattle.source_lowering.proofs.bounds.ValueCosts.{check_costs, to_fat_costs, to_thin_costs, turned_costs, compared_costs, null_costs, moved_costs, local_costs, global_costs, put_local_costs, put_global_costs}
+use Rattle.source_lowering.proofs.bounds.ValueCosts.{check_costs, to_fat_costs, to_thin_costs, turned_costs, compared_costs, null_costs, moved_costs}
+use Rattle.source_lowering.proofs.bounds.ValueCosts.{local_costs, global_costs, put_local_costs, put_global_costs}
 
 -- an expression takes less than eight operations a token: four are left; its locals are indices
 pub record IsCheap (t p l n : ℕ) (code : List Statement) : Type 0 where

@@ -11,7 +11,8 @@ use Rattle.core_meaning.specs.Core.{Do, If, Block, Return, Constant, Apply, Equa
 use Rattle.source_lowering.specs.Lowered.{Named, all_of, results_in, static_shape, expression_values, union_parts, member_number, put_local, held_loads}
 use Rattle.source_lowering.specs.Lowered.{tag_load}
 use Rattle.source_lowering.specs.Programs.{block_shapes, locals_of, outward, named_here, leaving_code, declaration_values, statement_values}
-use Rattle.source_lowering.specs.Programs.{RegionsAround, in_loop, in_switch, regions_with, side_of, statement_code, items_code, cases_code, default_code, item_values}
+use Rattle.source_lowering.specs.Programs.{RegionsAround, in_loop, in_switch, regions_with, side_of, statement_code, items_code, cases_code, default_code}
+use Rattle.source_lowering.specs.Programs.{item_values}
 use Rattle.source_lowering.specs.Programs.{case_values, names_behind}
 use Rattle.source_lowering.specs.Lowerable.{TakesStatement, TakesItems, TakesClauses}
 use Rattle.source_lowering.specs.Bounds.{
@@ -28,7 +29,8 @@ use Rattle.source_lowering.specs.Bounds.{
 }
 use Rattle.source_lowering.proofs.bounds.Nodes.{statement_count, item_count, clause_count, statement_regions, item_regions, clause_regions}
 use Rattle.source_lowering.proofs.bounds.LocalWords.{shapes_words}
-use Rattle.source_lowering.proofs.bounds.Costs.{Costs, no_costs, one_costs, both_cost, more_costs, sized, if_costs, while_costs, does_one, does_then, leave_costs}
+use Rattle.source_lowering.proofs.bounds.Costs.{Costs, no_costs, one_costs, both_cost, more_costs, sized, if_costs, while_costs, does_one, does_then}
+use Rattle.source_lowering.proofs.bounds.Costs.{leave_costs}
 use Rattle.source_lowering.proofs.bounds.Costs.{block_costs}
 use Rattle.source_lowering.proofs.bounds.Counted.{one_node}
 use Rattle.source_lowering.proofs.bounds.ValueCosts.{put_local_costs, tag_load_costs, held_loads_costs}
@@ -152,7 +154,8 @@ mutual
       let b = one.bounded.less in let l = one.locals in
       record {
         operations = 1 + one.bounded.operations;
-        costs = block_costs t p (item_locals w (outward names) 0 items + item_indices items) one.inner one.bounded.operations w (block_shapes w (outward names) 0 items)
+        costs = block_costs t p (item_locals w (outward names) 0 items + item_indices items) one.inner one.bounded.operations w
+            (block_shapes w (outward names) 0 items)
             _ l one.bounded.costs;
         less = omega (arith, b);
       }
@@ -180,7 +183,8 @@ mutual
       record {
         operations = a.operations + (b.operations + 16);
         costs = sized (both_cost t p _ a.operations _ (b.operations + 16) _ _ (side_costs x t p _ a.operations _ a.costs)
-            (both_cost t p _ b.operations _ 16 _ _ (side_costs y t p _ b.operations _ b.costs) (exchange_costs w x y s t p r.all (omega (arith, f, n, m))))) (omega arith);
+            (both_cost t p _ b.operations _ 16 _ _ (side_costs y t p _ b.operations _ b.costs) (exchange_costs w x y s t p r.all (omega (arith, f, n, m)))))
+            (omega arith);
         less = omega (arith, l, k);
       }
   statement_bounded w result names r own (Statement.If at condition body) t p h f g =
@@ -328,7 +332,8 @@ mutual
       let a = items_bounded w result inner r 1 own body t p h.1.0 (omega (arith, less)) (omega (arith, g)) in
       let b = clauses_bounded w result names r parts (own + length (item_values w inner 1 body)) last others t p h.1.1 e (omega (arith, less))
       (omega (arith, g)) in
-      let one = case_bounded w inner s (member_number parts f.text) t p (item_locals w inner 1 body + item_indices body) (item_size body + items_left r body) r.all body
+      let one = case_bounded w inner s (member_number parts f.text) t p (item_locals w inner 1 body + item_indices body)
+      (item_size body + items_left r body) r.all body
       (items_code w result inner r 1 own body) e a in
       let j = one.less in let k = b.less in let l = b.locals in
       record {
@@ -352,7 +357,8 @@ mutual
         case_operations = b.case_operations;
         default_operations = 1 + a.bounded.operations;
         cases = b.cases;
-        otherwise = block_costs t p (item_locals w (outward names) 0 body + item_indices body) a.inner a.bounded.operations w (block_shapes w (outward names) 0 body)
+        otherwise = block_costs t p (item_locals w (outward names) 0 body + item_indices body) a.inner a.bounded.operations w
+            (block_shapes w (outward names) 0 body)
             _ m a.bounded.costs;
         locals = omega (arith, l);
         less = omega (arith, j, k);

@@ -50,19 +50,22 @@ use Rattle.source_lowering.specs.Programs.{names_behind}
 -- ---- expressions that are statements
 
 assigned_paid : (w : World) (names : List Named) (s : Shape) (place value : Expression) (k : ℕ) → TakesAssigned w names s place value
-    → Pays w (expression_count place + expression_count value) (indices_in value + indices_in place) (k + (frame_nodes w names place + frame_nodes w names value))
+    → Pays w (expression_count place + expression_count value) (indices_in value + indices_in place)
+    (k + (frame_nodes w names place + frame_nodes w names value))
     (assigned_values w names s place value)
 assigned_paid w names s place value k h = by s h
   where
     paid : (values : List Shape) → TakesPlace w names place → Pays w (expression_count value) (indices_in value) (frame_nodes w names value) values
-        → Pays w (expression_count place + expression_count value) (indices_in value + indices_in place) (k + (frame_nodes w names place + frame_nodes w names value))
+        → Pays w (expression_count place + expression_count value) (indices_in value + indices_in place)
+        (k + (frame_nodes w names place + frame_nodes w names value))
         (values ++ expression_values w names place)
     paid values to from =
         assigned_pays w (expression_count place) (frame_nodes w names place) (expression_count value) (frame_nodes w names value) k _ values
         (place_paid w names place to) from
 
     by : (of : Shape) → TakesAssigned w names of place value
-        → Pays w (expression_count place + expression_count value) (indices_in value + indices_in place) (k + (frame_nodes w names place + frame_nodes w names value))
+        → Pays w (expression_count place + expression_count value) (indices_in value + indices_in place)
+        (k + (frame_nodes w names place + frame_nodes w names value))
         (assigned_values w names of place value)
     by (StructShape tag) h = paid (whole_values w names value) h.0 (whole_paid w names value h.1.0)
     by (UnionShape tag) h = paid (whole_values w names value) h.0 (whole_paid w names value h.1.0)
@@ -95,11 +98,13 @@ call_paid w names name arguments h = by (makes_struct w name.text) refl h
     e = Expression.Call name arguments
 
     called : (s : Shape) → Pays w (argument_count arguments) (indices_in_all arguments) (argument_nodes w names arguments) (expression_values w names e)
-        → Pays w (result_count s + argument_count arguments) (indices_in_all arguments) (1 + result_words w s + argument_nodes w names arguments) (expression_values w names e)
+        → Pays w (result_count s + argument_count arguments) (indices_in_all arguments) (1 + result_words w s + argument_nodes w names arguments)
+        (expression_values w names e)
     called s a = sum (result_words w s) (result_pays w s)
       where
         sum : (x : ℕ) → 7 * result_count s ≤ 4 * (1 + x)
-            → Pays w (result_count s + argument_count arguments) (indices_in_all arguments) (1 + x + argument_nodes w names arguments) (expression_values w names e)
+            → Pays w (result_count s + argument_count arguments) (indices_in_all arguments) (1 + x + argument_nodes w names arguments)
+            (expression_values w names e)
         sum x h = let f = a.less in record { less = omega (arith, f, h) }
 
     by : (made : Bool) → makes_struct w name.text ≡ made → TakesCalled made (TakesWhole w names e) (Takes w names e)
@@ -107,14 +112,17 @@ call_paid w names name arguments h = by (makes_struct w name.text) refl h
     by true is h =
         let a = whole_paid w names e h in
         subst
-        (λ s. Pays w (result_count s + argument_count arguments) (indices_in_all arguments) (1 + result_words w s + argument_nodes w names arguments) (whole_values w names e))
+        (λ s. Pays w (result_count s + argument_count arguments) (indices_in_all arguments) (1 + result_words w s + argument_nodes w names arguments)
+        (whole_values w names e))
         (sym (made_shape w name.text is))
         (subst
-        (λ s. Pays w (1 + argument_count arguments) (indices_in_all arguments) (1 + value_words w s + argument_nodes w names arguments) (whole_values w names e))
+        (λ s. Pays w (1 + argument_count arguments) (indices_in_all arguments) (1 + value_words w s + argument_nodes w names arguments)
+        (whole_values w names e))
         (made_shape w name.text is) a)
     by false is h = called (call_shape w name.text) (arguments_paid w names arguments h.1)
 
-run_paid : (w : World) (names : List Named) (e : Expression) → TakesRun w names e → Pays w (run_count w e) (indices_in e) (run_nodes w names e) (run_values w names e)
+run_paid : (w : World) (names : List Named) (e : Expression) → TakesRun w names e
+    → Pays w (run_count w e) (indices_in e) (run_nodes w names e) (run_values w names e)
 run_paid w names (Expression.Assign place value) h =
     assigned_paid w names (static_shape w names place) place value (assigned_node w (static_shape w names place)) h
 run_paid w names (Expression.Grouped at inner) h = run_paid w names inner h
@@ -205,7 +213,8 @@ mutual
       (statement_paid w result names s h.0) (items_paid w result names index others h.1)
 
   clauses_paid : (w : World) (result : Shape) (names : List Named) (parts : List Part) (clauses : Clauses) → TakesClauses w result names parts clauses
-      → ClausesPay w (clause_count w clauses) (clause_indices clauses) (clause_nodes w names parts clauses) (case_values w names parts clauses) (default_values w names clauses)
+      → ClausesPay w (clause_count w clauses) (clause_indices clauses) (clause_nodes w names parts clauses) (case_values w names parts clauses)
+      (default_values w names clauses)
   clauses_paid w result names parts NoClauses h = record { less = omega arith }
   clauses_paid w result names parts (MoreClauses at (Case f x) body others) h =
       let inside = named_here x.text (part_shape parts f.text) 0 ∷ outward names in

@@ -44,7 +44,8 @@ member_left w s pointer cells bytes f t p m n enough c = record {
       let a = c d (omega (arith, g)) in let l = a.less in
       record {
         operations = a.operations + 3;
-        costs = sized (both_cost t p _ a.operations _ 3 (pointer d) _ a.costs (loads_costs left.shape t p d left.cells left.bytes (omega (arith, g)))) (omega arith);
+        costs = sized (both_cost t p _ a.operations _ 3 (pointer d) _ a.costs (loads_costs left.shape t p d left.cells left.bytes (omega (arith, g))))
+            (omega arith);
         less = omega (arith, l);
       };
 }
@@ -63,7 +64,8 @@ arrow_left w left f t p m n enough value =
     member_left w (pointee left.shape) (λ d. left.value d ++ reach_code w left.shape d) 0 0 f t p m n enough
     (λ d g. let a = value d g in let l = a.less in record {
       operations = a.operations + 4;
-      costs = sized (both_cost t p _ a.operations _ 4 (left.value d) (reach_code w left.shape d) a.costs (reach_costs w left.shape t p d (omega (arith, g, enough)))) (omega arith);
+      costs = sized (both_cost t p _ a.operations _ 4 (left.value d) (reach_code w left.shape d) a.costs
+          (reach_costs w left.shape t p d (omega (arith, g, enough)))) (omega arith);
       less = omega (arith, l);
     })
 
@@ -91,7 +93,8 @@ element_left {l = l} {i = i} w from index value t p m n k j enough indexed value
         record {
           operations = a.operations + (b.operations + 5);
           costs = sized (both_cost t p _ a.operations _ (b.operations + 5) (index d) _ a.costs
-              (both_cost t p _ b.operations _ 5 (value (d + 1)) (subscript_code w from d) b.costs (subscript_costs w from t p d (omega (arith, g, enough))))) (omega arith);
+              (both_cost t p _ b.operations _ 5 (value (d + 1)) (subscript_code w from d) b.costs (subscript_costs w from t p d (omega (arith, g, enough)))))
+              (omega arith);
           less = omega (arith, l, r);
         }
 

@@ -6,14 +6,16 @@ use Rattle.cyc_tree.specs.declared.expression.Operator.TheVariants as operator
 use Rattle.std.specs.Prelude.{nat_eq, if◌then◌else◌}
 use Rattle.source_lowering.specs.Operators.{enough_code, one_code, several_code}
 use Rattle.source_meaning.specs.Shapes.{count_of, pointee, Reach, MayBeNull, NeverNull, Shape, ThinShape, FatShape, ArrayShape}
-use Rattle.source_lowering.specs.Members.{bound_code, subscript_code, all_of, null_check, check_code, words_in, part_at, loads_code, stores_code, bounds_code, raised, element_code, reach_code, index_code, tag_load, tag_store, held_loads, held_stores}
+use Rattle.source_lowering.specs.Members.{bound_code, subscript_code, all_of, null_check, check_code, words_in, part_at, loads_code, stores_code, bounds_code}
+use Rattle.source_lowering.specs.Members.{raised, element_code, reach_code, index_code, tag_load, tag_store, held_loads, held_stores}
 use Rattle.source_meaning.specs.Memory.{Scalar, Wide}
 use Rattle.source_meaning.specs.Steps.{World}
 use Rattle.source_meaning.specs.Conversions.{cells_of}
 use Rattle.core_meaning.specs.Core as core
 use Rattle.core_meaning.specs.Core.{Do, If, Raise, Constant, Apply, LocalAddress, DataAddress, Element, Load, Store, NoStatements, MoreStatements}
 use Rattle.source_lowering.specs.Layouts.{extent_of}
-use Rattle.source_lowering.specs.Lowered.{stored_code, get_local, load_global, put_local, store_global, turned_code, to_fat_code, to_thin_code, compared_code, null_code, fat_code, count_code, text_code}
+use Rattle.source_lowering.specs.Lowered.{stored_code, get_local, load_global, put_local, store_global, turned_code, to_fat_code, to_thin_code, compared_code}
+use Rattle.source_lowering.specs.Lowered.{null_code, fat_code, count_code, text_code}
 use Rattle.source_lowering.specs.Temporaries.{operation_temporaries}
 use Rattle.core_meaning.specs.Bounds.{operation_count}
 use Rattle.source_lowering.proofs.bounds.Costs.{Costs, one_costs, both_cost, does_one, does_then, does_few, at_most, nothing}

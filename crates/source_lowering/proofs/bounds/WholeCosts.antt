@@ -59,7 +59,8 @@ assigned_costs : (w : World) (names : List Named) (s : Shape) (place value : Exp
     → ArePassed t p (indices_in value + indices_in place) (tokens_of place + (1 + tokens_of value)) (assigned_code w names s place value d own)
 assigned_costs w names s place value t p d own h f g = by s h
   where
-    as_a_whole : (of : Shape) → TakesPlace w names place → TakesWhole w names value → ArePassed t p (indices_in value + indices_in place) (tokens_of place + (1 + tokens_of value))
+    as_a_whole : (of : Shape) → TakesPlace w names place → TakesWhole w names value
+        → ArePassed t p (indices_in value + indices_in place) (tokens_of place + (1 + tokens_of value))
         (whole_code w names value d own ++
         (place_code w names place (d + 1) (own + length (whole_values w names value)) ++ (Do (Copy (d + 1) d (layout_of w of)) ∷ [])))
     as_a_whole of to from =

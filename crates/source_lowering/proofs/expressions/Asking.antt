@@ -50,7 +50,8 @@ IsMaker true AsUnique d c = Unit {0}
 IsMaker false AsUnique d c = ⊥
 IsMaker true (InRegion r) d c = ⊥
 
--- Both after a request: there is an object of the shape, to which nothing was stored yet, and a pointer to it is in a temporary; those up to the next one are as
+-- Both after a request: there is an object of the shape, to which nothing was stored yet, and a pointer to it is in a temporary; those up to the next one are
+-- as
 -- they were.
 pub record Asked (p : Point) (d e : ℕ) (owner : Owner) (shape : Shape) (m : source.Memory) (c : Config) (t : Spot) (m1 : source.Memory)
     (c1 : Config) : Type 0 where

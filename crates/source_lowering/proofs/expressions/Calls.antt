@@ -34,7 +34,8 @@ use Rattle.core_meaning.specs.Meaning as meaning
 use Rattle.core_meaning.specs.Meaning.{values_of, with_results, passed_in}
 use Rattle.source_lowering.specs.Members.{words_in, all_words}
 use Rattle.source_lowering.specs.Lowered.{number_of, put, conversion_code, from_on, results_in}
-use Rattle.source_lowering.specs.Simulation.{SameMemory, HasStatics, Bound, within, Grown, Point, SameState, SameAt, Same, Next, AreKept, GrownAt, Shown, ANull, APointer}
+use Rattle.source_lowering.specs.Simulation.{SameMemory, HasStatics, Bound, within, Grown, Point, SameState, SameAt, Same, Next, AreKept, GrownAt, Shown, ANull}
+use Rattle.source_lowering.specs.Simulation.{APointer}
 use Rattle.source_lowering.specs.Simulation.{AFatNull, AFat, AValue, ANothing, contents_in, GoesOn, GivesAs}
 use Rattle.source_lowering.proofs.memory.Keeping.{IsLess, later_self, later_on, later_less, fits_later}
 use Rattle.source_lowering.proofs.Runs.{stuck_same, calls_same, less_fuel, put_all}
@@ -154,7 +155,8 @@ shown_many w m c IntShape v cs h o = ap length o.shown
 shown_many w m c UnsignedShape v cs h o = ap length o.shown
 shown_many w m c CharShape v cs h o = ap length o.shown
 shown_many w m c VoidShape v cs h o = absurd o
-shown_many w m c (ThinShape b owner to) v cs h o = ⊎_elim (λ (z : ANull b v cs). ap length z.shown) (λ (z : APointer w m c (count_of b) owner to v cs). ap length z.shown) o
+shown_many w m c (ThinShape b owner to) v cs h o = ⊎_elim (λ (z : ANull b v cs). ap length z.shown) (λ (z : APointer w m c (count_of b) owner to v cs).
+    ap length z.shown) o
 shown_many w m c (FatShape to) v cs h o =
     ⊎_elim (λ (z : AFatNull v cs). ap length z.shown) (λ (z : AFat w m c to (size_of w to) v cs). ap length z.shown) o
 shown_many w m c HandleShape v cs h o = ap length o.shown

@@ -47,7 +47,8 @@ use Rattle.source_lowering.proofs.expressions.MakingUnions.{union_whole}
 use Rattle.source_lowering.proofs.expressions.Requests.{GivesTo, region_to, to_region, maker_to, heap_agrees, heap_gives, made_agrees}
 use Rattle.source_lowering.proofs.expressions.MadeArrays.{made_array}
 use Rattle.source_lowering.proofs.expressions.Known.{inside_known, known_inside}
-pub use Rattle.source_lowering.proofs.expressions.Known.{Known, place_in, IsKnown, known_keeping, keeping_known, new_by, new_is, in_one, maker_in, new_in_same, unique_none}
+pub use Rattle.source_lowering.proofs.expressions.Known.{Known, place_in, IsKnown, known_keeping, keeping_known, new_by, new_is, in_one, maker_in, new_in_same}
+pub use Rattle.source_lowering.proofs.expressions.Known.{unique_none}
 use Rattle.source_lowering.proofs.expressions.Requests.{IsInOne, shared_in_one, in_one_none, in_one_unique}
 use Rattle.source_lowering.specs.Lowered.{owner_in}
 
@@ -187,7 +188,8 @@ mutual
       let values = expression_values scope.world k.names value in
       let more = expression_values scope.world k.names place in
       let behind = own + length values in
-      let to = named_same place scope k h.0 (given_single (static_shape scope.world k.names place) h.1.1) known n calls d behind (numbered_after k.owned own values more numbered) (omega (arith, less)) in
+      let to = named_same place scope k h.0 (given_single (static_shape scope.world k.names place) h.1.1) known n calls d behind
+      (numbered_after k.owned own values more numbered) (omega (arith, less)) in
       assigned_agrees (place_in scope k) n d (sense place scope) (sense value scope) (static_shape scope.world k.names place)
       (static_shape scope.world k.names value) (expression_code scope.world k.names value d own) (put_code scope.world k.names place d behind)
       to.shape_is to.taken h.1.1 to.stores (expression_same value scope k h.1.0 known n calls d own (numbered_first k.owned own values more numbered) less)

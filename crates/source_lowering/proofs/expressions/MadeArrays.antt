@@ -154,7 +154,8 @@ asked w m c d r shape count =
 
 array_requested : (w : World) (d r count : ℕ) (shape : Shape) (each : List Statement) (c : Config) (rest : Statements) (next : Next) → c.temps d ≡ Birth r
     → c.temps (d + 1) ≡ Word count → core.is_live (c.memory.standing (core.Born r)) ≡ true → meaning.statements (put (array_code w shape d each) rest) next c
-    ≡ Says (core_steps.Visible (events.RegionAlloc r (saturated (count * (layout_of w shape).bytes)))) (meaning.statements (put (behind_code w d each) rest) next
+    ≡ Says (core_steps.Visible (events.RegionAlloc r (saturated (count * (layout_of w shape).bytes))))
+    (meaning.statements (put (behind_code w d each) rest) next
     (with_temp d (Pointer (first_spot c.memory (core.Born r)) 0) (with_memory (core_arrayed w c.memory r shape count) c)))
 array_requested w d r count shape each c rest next temp counted live = rw (temp, counted, live) refl
 
@@ -315,7 +316,8 @@ array_agrees p n name d to count element_at count_shape shape code count_code ea
     gives : GivesAs p n d (FatShape shape) (array_made p.world to count element_at).look (code ++ (count_code ++ array))
     gives = record {
       same = λ m c s rest next fits goes.
-          subst (λ z. SameAt p n (to (λ maker. made_by (element_at 0).shape maker s) m) (meaning.statements z next c)) (sym (put_three code count_code array rest))
+          subst (λ z. SameAt p n (to (λ maker. made_by (element_at 0).shape maker s) m) (meaning.statements z next c))
+          (sym (put_three code count_code array rest))
           (subst (λ z. SameAt p n (to (λ maker. made_by z maker s) m) (meaning.statements (put code (put count_code (put array rest))) next c)) (sym shape_is)
           (handle.same m c (λ maker. made_by shape maker s) (put count_code (put array rest)) next fits (record {
             above = goes.above;

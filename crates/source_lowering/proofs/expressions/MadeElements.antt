@@ -18,7 +18,8 @@ use Rattle.source_lowering.specs.Layouts.{extent_of, layout_of}
 use Rattle.source_lowering.specs.Members.{words_in}
 use Rattle.source_lowering.specs.Lowered.{put, stores_code}
 use Rattle.source_lowering.specs.Lowerable.{AreStructs, IsObject, IsValueShape}
-use Rattle.source_lowering.specs.Simulation.{AValue, AreKept, AreMade, GrownAt, Leads, LeadsAll, Next, Point, SameAt, SameState, at, before_value, contents_in, within}
+use Rattle.source_lowering.specs.Simulation.{AValue, AreKept, AreMade, GrownAt, Leads, LeadsAll, Next, Point, SameAt, SameState, at, before_value, contents_in}
+use Rattle.source_lowering.specs.Simulation.{within}
 use Rattle.source_lowering.proofs.memory.Keeping.{fits_later, later_less, later_on, leads_later}
 use Rattle.source_lowering.proofs.memory.Members.{FirstPart, first_part_of, first_reached, layout_count, lies_here}
 use Rattle.source_lowering.proofs.memory.StructCells.{HasCells, shapes_in}

@@ -1,6 +1,7 @@
 -- The elements of an array that is made, one after the other, in a block with their index: a unit that the source pays before an element is that of a turn of
 -- Core's loop.
-use Rattle.std.proofs.Common.{◌≡◌, ℕ, zero, suc, ◌+◌, ◌*◌, ◌^◌, ◌<◌, ◌≤◌, ◌⊎◌, inl, inr, List, [], ◌∷◌, ◌++◌, length, Bool, true, false, nat_eq, nat_lt, refl, sym}
+use Rattle.std.proofs.Common.{◌≡◌, ℕ, zero, suc, ◌+◌, ◌*◌, ◌^◌, ◌<◌, ◌≤◌, ◌⊎◌, inl, inr, List, [], ◌∷◌, ◌++◌, length, Bool, true, false, nat_eq, nat_lt, refl}
+use Rattle.std.proofs.Common.{sym}
 use Rattle.std.proofs.Common.{ap, ◌∙◌, subst, arith}
 use Rattle.std.proofs.Math.Nat.{mod-eq_of_lt}
 use Rattle.std.proofs.lemmas.Bool.{eqb-true}
@@ -56,14 +57,16 @@ pays_a_turn w fs n s m other c state same = record { at = paid }
 abbrev pub index_place : Point → List ℕ → (d frame : ℕ) → Point
 index_place p name d frame =
     with_local
-    (at_start p.world p.program p.locals (outward p.names) frame (p.frame ∷ p.outer) (UnsignedShape ∷ []) p.own p.owned p.kept (record p.regions { all = d + 2 }))
+    (at_start p.world p.program p.locals (outward p.names) frame (p.frame ∷ p.outer) (UnsignedShape ∷ []) p.own p.owned p.kept
+    (record p.regions { all = d + 2 }))
     name UnsignedShape []
 
 -- the index gets the number of the next element
 abbrev pub index_code : ℕ → List Statement
 index_code d = Do (Put 0 0 (width_of UnsignedShape) (d + 2)) ∷ []
 
-index_put : (p : Point) (n : ℕ) (name : List ℕ) (d frame i : ℕ) (m : source.Memory) (c : Config) (s : source.Memory → steps.Step) (rest : Statements) (next : Next)
+index_put : (p : Point) (n : ℕ) (name : List ℕ) (d frame i : ℕ) (m : source.Memory) (c : Config) (s : source.Memory
+    → steps.Step) (rest : Statements) (next : Next)
     → SameState (index_place p name d frame) m c → c.temps (d + 2) ≡ Word i → i < 2 ^ 32
     → ((m' : source.Memory) (c' : Config) → SameState (index_place p name d frame) m' c' → GrownAt (index_place p name d frame) m c m' c'
     → AreKept (d + 3) c c' → SameAt p n (s m') (meaning.statements rest next c'))
@@ -213,7 +216,8 @@ pub block_same : (p : Point) (n : ℕ) (name : List ℕ) (d count : ℕ) (shape 
     (c : Config) (t : Spot) (s : source.Memory → steps.Step) (rest : Statements) (next : Next) → p.regions.all ≤ d → count < 2 ^ 32
     → ((j a k : ℕ) → j ≤ n → k < count → ElementAs (index_place p name d a) j d count k shape (element_at a).value each)
     → SameState p m c → ArrayAt p m c d count shape t
-    → ((m' : source.Memory) (c' : Config) → SameState p m' c' → GrownAt p m c m' c' → AreKept (d + 2) c c' → SameAt p n (s m') (meaning.statements rest next c'))
+    → ((m' : source.Memory) (c' : Config) → SameState p m' c' → GrownAt p m c m' c' → AreKept (d + 2) c c'
+    → SameAt p n (s m') (meaning.statements rest next c'))
     → SameAt p n (in_block (λ k. index_made k >> elements (length (cells_of p.world shape)) count 0 t (index_in k) (element_at k)) (λ u. s) m)
     (meaning.statements (put (indexed_code p.world d each) rest) next c)
 block_same p n name d count shape element_at each m c t s rest next above few one fits there goes =
@@ -240,7 +244,8 @@ block_same p n name d count shape element_at each m c t s rest next above few on
     a = m.activations
 
     before : Point
-    before = at_start p.world p.program p.locals (outward p.names) a (p.frame ∷ p.outer) (UnsignedShape ∷ []) p.own p.owned p.kept (record p.regions { all = d + 2 })
+    before = at_start p.world p.program p.locals (outward p.names) a (p.frame ∷ p.outer) (UnsignedShape ∷ []) p.own p.owned p.kept
+        (record p.regions { all = d + 2 })
 
     scope : Scope
     scope = record { world = p.world; locals = []; frame = a; result = VoidShape }

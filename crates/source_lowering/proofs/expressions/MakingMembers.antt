@@ -40,7 +40,8 @@ use Rattle.source_lowering.proofs.memory.Members.{cells_pieces, first_part_of, f
 use Rattle.source_lowering.proofs.memory.SameShapes.{shapes_same}
 use Rattle.source_lowering.proofs.memory.Initialising.{converted_whole}
 use Rattle.source_lowering.proofs.memory.ValueCells.{IsCell, cell_of, shaped_have}
-use Rattle.source_lowering.proofs.expressions.Wholes.{own_spot, IsWhole, fits_keeping, fits_kept, before_less, own_free, agree_parts, agree_own_copied, value_made}
+use Rattle.source_lowering.proofs.expressions.Wholes.{own_spot, IsWhole, fits_keeping, fits_kept, before_less, own_free, agree_parts, agree_own_copied}
+use Rattle.source_lowering.proofs.expressions.Wholes.{value_made}
 
 -- ---- forms
 
@@ -221,7 +222,8 @@ whole_member p n d value cells byte other shape e code structs whole after one =
         (first_reached c1.memory spot (0 + byte) first) there fits1.stands
         (laid_there c1.memory spot (0 + byte) layout.cells made) (laid_there c1.memory from 0 layout.cells made_t)
         (values_apart p.own value cells other after)))
-        (goes.go m1 c2 vs (fits_on p m1 m1 middle c2 (temp_fits p m1 c1 (d + 2) (Pointer spot (0 + byte)) fits1 (over goes.above (omega arith))) agree around_copying refl
+        (goes.go m1 c2 vs (fits_on p m1 m1 middle c2 (temp_fits p m1 c1 (d + 2) (Pointer spot (0 + byte)) fits1 (over goes.above (omega arith))) agree
+        around_copying refl
         (λ k less. refl))
         (later_on (before_value p value) m m1 m1 c.memory c1.memory c2.memory later1 copying)
         (λ i j less.

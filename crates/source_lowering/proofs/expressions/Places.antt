@@ -42,7 +42,8 @@ use Rattle.core_meaning.specs.Operations.{does}
 use Rattle.source_lowering.specs.Lowered.{local_named, shape_by, put, address_by, check_code, reach_code}
 use Rattle.source_lowering.specs.Members.{valued}
 use Rattle.source_lowering.specs.Lowerable.{IsVariable, IsWholeShape, AreStructs}
-use Rattle.source_lowering.specs.Simulation.{at, IsTakenObject, Leads, VariableLeads, AreLed, Point, SameState, SameAt, Next, AreKept, GrownAt, GivesAs, AreLocals}
+use Rattle.source_lowering.specs.Simulation.{at, IsTakenObject, Leads, VariableLeads, AreLed, Point, SameState, SameAt, Next, AreKept, GrownAt, GivesAs}
+use Rattle.source_lowering.specs.Simulation.{AreLocals}
 use Rattle.source_lowering.specs.Simulation.{within}
 use Rattle.source_lowering.proofs.memory.Keeping.{later_self}
 use Rattle.source_lowering.proofs.Runs.{stuck_same, stops_same, put_all}
@@ -197,7 +198,8 @@ variable_placed p n d name locals words globals structs =
 -- ---- `*e`
 
 -- NULL raises where a pointer may be it
-pub null_raises : (p : Point) (n d : ℕ) (b : Reach) (q : Owner) (to : Shape) (c : Config) (rest : Statements) (next : Next) → may_be_null b ≡ true → c.temps d ≡ Null
+pub null_raises : (p : Point) (n d : ℕ) (b : Reach) (q : Owner) (to : Shape) (c : Config) (rest : Statements) (next : Next) → may_be_null b ≡ true
+    → c.temps d ≡ Null
     → SameAt p n (Stops (SourceEnding.Raised NullException)) (meaning.statements (put (check_code (ThinShape b q to) d) rest)
     next c)
 null_raises p n d (MayBeNull count) q to c rest next allowed null = rw null (stops_same p.world p.program n (SourceEnding.Raised NullException))
@@ -271,7 +273,8 @@ pointee_taken (ArrayShape count of) h = tt
 
 pub address_agrees : (p : Point) (n d : ℕ) (e : Sense) (shape : Shape) (code : List Statement) → e.shape ≡ shape → IsTarget shape
     → PlacedAs p n d shape e.place code
-    → Agrees p n d (value_sense (ThinShape (NeverNull 1) Shared e.shape) (e.place >>= λ t. give (Thin (Some t) ∷ []))) (ThinShape (NeverNull 1) Shared shape) code
+    → Agrees p n d (value_sense (ThinShape (NeverNull 1) Shared e.shape) (e.place >>= λ t. give (Thin (Some t) ∷ [])))
+    (ThinShape (NeverNull 1) Shared shape) code
 address_agrees p n d e shape code same taken placed = record {
   shape_is = ap (λ z. ThinShape (NeverNull 1) Shared z) same;
   taken = taken;

@@ -1,7 +1,8 @@
 -- Handles, and what `new` and `rnew` make: the handle is there, the value is evaluated, then a block is asked for, and the value is stored to it.
 use Rattle.std.proofs.Common.{◌≡◌, ℕ, ◌+◌, ◌≤◌, inl, List, [], ◌∷◌, ◌++◌, false, refl, sym, ap, subst, arith, Bool, true}
 use Rattle.source_meaning.specs.Shapes.{NeverNull}
-use Rattle.source_meaning.specs.Shapes.{HandleShape, Shape, IntShape, UnsignedShape, CharShape, VoidShape, ThinShape, FatShape, KeyShape, StructShape, UnionShape, ArrayShape}
+use Rattle.source_meaning.specs.Shapes.{HandleShape, Shape, IntShape, UnsignedShape, CharShape, VoidShape, ThinShape, FatShape, KeyShape, StructShape}
+use Rattle.source_meaning.specs.Shapes.{UnionShape, ArrayShape}
 use Rattle.source_meaning.specs.Memory as source
 use Rattle.source_meaning.specs.Memory.{HandleOf}
 use Rattle.source_meaning.specs.Steps as steps
@@ -120,12 +121,15 @@ pub made_agrees : (p : Point) (n d own : ℕ) (unique : Bool) (to : steps.Act Ma
     → TakesMember shape takes_whole takes → AreNumbered p.owned own (values_by shape whole_values word_values) → GivesTo p n d unique to code
     → (takes_whole → AreNumbered p.owned own whole_values → IsWholeAs p n (d + 1) own e shape whole)
     → (takes → AreNumbered p.owned own word_values → Agrees p n (d + 1) e shape word)
-    → Agrees p n d (made p.world to (owner_in unique) e) (ThinShape (NeverNull 1) (owner_in unique) shape) (code ++ new_code_by p.world unique shape d whole word)
-made_agrees p n d own unique to e shape whole_values word_values code whole word takes_whole takes unions structs object less h numbered handle structs_as words_as =
+    → Agrees p n d (made p.world to (owner_in unique) e) (ThinShape (NeverNull 1) (owner_in unique) shape)
+    (code ++ new_code_by p.world unique shape d whole word)
+made_agrees p n d own unique to e shape whole_values word_values code whole word takes_whole takes unions structs object less h numbered handle
+    structs_as words_as =
     by shape object h numbered structs_as words_as
   where
     -- the handle, and then what is made there
-    after : (z : Shape) → IsObject p.world.unions p.world.structs z → e.shape ≡ z → MakesAs p n d unique z (made_act p.world e) (new_code_by p.world unique z d whole word)
+    after : (z : Shape) → IsObject p.world.unions p.world.structs z → e.shape ≡ z
+        → MakesAs p n d unique z (made_act p.world e) (new_code_by p.world unique z d whole word)
         → Agrees p n d (made p.world to (owner_in unique) e) (ThinShape (NeverNull 1) (owner_in unique) z) (code ++ new_code_by p.world unique z d whole word)
     after z o shape_is makes = record {
       shape_is = ap (λ x. ThinShape (NeverNull 1) (owner_in unique) x) shape_is;
@@ -146,7 +150,8 @@ made_agrees p n d own unique to e shape whole_values word_values code whole word
         }
 
     goal : Shape → Type 0
-    goal z = Agrees p n d (made p.world to (owner_in unique) e) (ThinShape (NeverNull 1) (owner_in unique) z) (code ++ new_code_by p.world unique z d whole word)
+    goal z = Agrees p n d (made p.world to (owner_in unique) e) (ThinShape (NeverNull 1) (owner_in unique) z)
+        (code ++ new_code_by p.world unique z d whole word)
 
     by : (z : Shape) → IsObject p.world.unions p.world.structs z → TakesMember z takes_whole takes
         → AreNumbered p.owned own (values_by z whole_values word_values)
@@ -194,7 +199,11 @@ in_one_unique unique (Array index count element) e = absurd (false≢true e)
 pub to_region : (p : Point) (n d : ℕ) (act : steps.Act Maker) (code : List Statement) → GivesTo p n d false act code → GivesMaker p n d act code
 to_region p n d act code one = record {
   same = λ m c s rest next fits goes.
-      one.same m c s rest next fits (record { above = goes.above; go = λ m1 c1 to fits1 later1 kept1 ready. by m c s rest next goes m1 c1 to fits1 later1 kept1 ready });
+      one.same m c s rest next fits (record {
+        above = goes.above;
+        go = λ m1 c1 to fits1 later1 kept1 ready.
+            by m c s rest next goes m1 c1 to fits1 later1 kept1 ready;
+      });
 }
   where
     by : (m : source.Memory) (c : Config) (s : Maker → source.Memory → steps.Step) (rest : Statements) (next : Next)

@@ -116,7 +116,8 @@ value_there_stored : (p : Point) (n d e : ℕ) (unique : Bool) (to : Maker) (sha
     → SameAt p n (stored_act p.world shape to vs s m)
     (meaning.statements (put (request_code p.world unique shape d e) (put (stores_code shape d (d + 1) 0 0) rest)) next c)
 value_there_stored p n d e unique to shape m0 c0 m c vs s rest next unions structs is_value below fits later kept maker v goes =
-    asked_same p n d e unique shape to m c (λ u. write_cells u vs (λ z. s (Thin (Some u) ∷ []))) (put (stores_code shape d (d + 1) 0 0) rest) next unions structs
+    asked_same p n d e unique shape to m c (λ u. write_cells u vs (λ z. s (Thin (Some u) ∷ []))) (put (stores_code shape d (d + 1) 0 0) rest) next
+    unions structs
     object fits goes.above (omega (arith, below)) maker there
   where
     object : IsObject p.world.unions p.world.structs shape

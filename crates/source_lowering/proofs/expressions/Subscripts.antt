@@ -73,7 +73,8 @@ both_there p n d k m0 c0 m c sa v s rest next fits later kept operand o goes =
           let there : Config = moved c (d + 1) index in
           let here : Config = with_temp (d + 1 + 1) (Word 1) there in
           on.go m (with_temp d pointer here) t byte
-          (temp_fits p m here d pointer (temp_fits p m there (d + 1 + 1) (Word 1) (temp_fits p m c (d + 1 + 2) (Word index) fits (over goes.above (omega arith)))
+          (temp_fits p m here d pointer (temp_fits p m there (d + 1 + 1) (Word 1)
+          (temp_fits p m c (d + 1 + 2) (Word index) fits (over goes.above (omega arith)))
           (over goes.above (omega arith))) goes.above) later
           (kept_temp d d pointer c0 here (omega arith) (kept_temp d (d + 1 + 1) (Word 1) c0 there (omega arith)
           (kept_temp d (d + 1 + 2) (Word index) c0 c (omega arith) kept))) (put_temp d pointer here) lies leads;
@@ -85,7 +86,8 @@ both_there p n d k m0 c0 m c sa v s rest next fits later kept operand o goes =
 below_reached : (w : World) (to : Shape) (c : Config) (d k count byte : ℕ) (t : core.Spot) (rest : Statements) (next : Next) → c.temps d ≡ Word k
     → c.temps (d + 1) ≡ Pointer t byte
     → FirstPart c.memory (core.beyond t (k * length (cells_of w to))) (byte + k * (extent_of w to).size)
-    → meaning.statements (put (If (d + 2) NoStatements (raised ArrayBounds) ∷ Do (Element d (d + 1) d (length (cells_of w to)) (extent_of w to).size) ∷ []) rest)
+    → meaning.statements (put (If (d + 2) NoStatements (raised ArrayBounds)
+    ∷ Do (Element d (d + 1) d (length (cells_of w to)) (extent_of w to).size) ∷ []) rest)
     next (with_temp (d + 2) (Word 1) c)
     ≡ meaning.statements rest next
     (with_temp d (Pointer (core.beyond t (k * length (cells_of w to))) (byte + k * (extent_of w to).size)) (with_temp (d + 2) (Word 1) c))
@@ -100,7 +102,8 @@ below_reached w to c d k count byte t rest next index pointer first =
     ) refl
 
 beyond_raised : (w : World) (to : Shape) (c : Config) (d : ℕ) (rest : Statements) (next : Next)
-    → meaning.statements (put (If (d + 2) NoStatements (raised ArrayBounds) ∷ Do (Element d (d + 1) d (length (cells_of w to)) (extent_of w to).size) ∷ []) rest)
+    → meaning.statements (put (If (d + 2) NoStatements (raised ArrayBounds)
+    ∷ Do (Element d (d + 1) d (length (cells_of w to)) (extent_of w to).size) ∷ []) rest)
     next (with_temp (d + 2) (Word 0) c)
     ≡ Stops (SourceEnding.Raised ArrayBounds)
 beyond_raised w to c d rest next = rw (put_temp (d + 2) (Word 0) c) refl
@@ -109,7 +112,8 @@ beyond_raised w to c d rest next = rw (put_temp (d + 2) (Word 0) c) refl
 bound_entered : (w : World) (bound : Reach) (to : Shape) (c : Config) (d k : ℕ) (rest : Statements) (next : Next) → count_of bound < 2 ^ 32
     → c.temps d ≡ Word k
     → meaning.statements (put (bound_code w bound to d) rest) next c
-    ≡ meaning.statements (put (If (d + 2) NoStatements (raised ArrayBounds) ∷ Do (Element d (d + 1) d (length (cells_of w to)) (extent_of w to).size) ∷ []) rest)
+    ≡ meaning.statements (put (If (d + 2) NoStatements (raised ArrayBounds)
+    ∷ Do (Element d (d + 1) d (length (cells_of w to)) (extent_of w to).size) ∷ []) rest)
     next (with_temp (d + 2) (Word (words.truth (nat_lt k (count_of bound)))) (with_temp (d + 2) (Word (count_of bound)) c))
 bound_entered w bound to c d k rest next few operand =
     let small : count_of bound % 2 ^ 32 ≡ count_of bound = omega (arith, few) in
@@ -119,7 +123,8 @@ bound_entered w bound to c d k rest next few operand =
     (put_temp (d + 2) (Word (count_of bound)) c)
   where
     after : Config → core_steps.Step
-    after = meaning.statements (put (If (d + 2) NoStatements (raised ArrayBounds) ∷ Do (Element d (d + 1) d (length (cells_of w to)) (extent_of w to).size) ∷ []) rest) next
+    after = meaning.statements (put (If (d + 2) NoStatements (raised ArrayBounds) ∷ Do (Element d (d + 1) d (length (cells_of w to)) (extent_of w to).size)
+        ∷ []) rest) next
 
 -- both are evaluated: the index is in this temporary, and the pointer in the next
 bound_there : (p : Point) (n d k : ℕ) (m0 : source.Memory) (c0 : Config) (m : source.Memory) (c : Config) (sa : Shape) (v : Scalar)
@@ -189,7 +194,8 @@ pub indexed_placed : (p : Point) (n d : ℕ) (a b : Sense) (sa sb : Shape) (ca c
 indexed_placed p n d a b sa sb ca cb x y = record {
   same = λ m c s rest next fits goes.
       let end : List Statement = subscript_code p.world sa d in
-      let spans : ℕ → Scalar → source.Memory → steps.Step = λ k u. indexed_span (bound_in sa) k u (λ q. accessed (length (cells_of p.world (pointee sa))) q s) in
+      let spans : ℕ → Scalar → source.Memory
+      → steps.Step = λ k u. indexed_span (bound_in sa) k u (λ q. accessed (length (cells_of p.world (pointee sa))) q s) in
       let indices : Scalar → source.Memory → steps.Step = λ v. integer v (λ k. a.look (λ xs. one xs (spans k))) in
       subst (λ z. SameAt p n (b.look (λ ys. one ys indices) m) (meaning.statements z next c))
       (sym (put_all cb (ca ++ end) rest ∙ ap (λ z. put cb z) (put_all ca end rest)))

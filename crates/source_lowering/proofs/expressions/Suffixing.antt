@@ -119,7 +119,8 @@ further_same NoSuffixes scope p n names e left own world structs h indices so_fa
 further_same (Index index others) scope p n names e left own world structs h indices so_far =
     let to = pointee left.shape in
     let code : ℕ → List Statement = λ d. expression_code p.world names index d (own + length (suffix_values p.world names others)) in
-    further_same others scope p n names (indexed scope.world e (sense index scope)) (element_at p.world left.shape code left.value) own world structs h.1.1.1 indices.1
+    further_same others scope p n names (indexed scope.world e (sense index scope)) (element_at p.world left.shape code left.value) own world structs
+    h.1.1.1 indices.1
     (subst (λ z. MemberAs p n (indexed z e (sense index scope)) (element_at p.world left.shape code left.value)) (sym world)
     (element_same p n e (sense index scope) left.shape (static_shape p.world names index) left.value code (so_far.value h.0) indices.0 h.1.1.0))
 further_same (Dot f others) scope p n names e left own world structs h indices so_far =

@@ -99,7 +99,8 @@ pub record StoredOn (p : Point) (n d : ℕ) (m0 : source.Memory) (c0 : Config) (
 -- a value in a temporary is stored at a place
 pub record StoresAs (p : Point) (n d : ℕ) (shape : Shape) (act : steps.Act Spot) (code : List Statement) : Type 0 where
   pub same : (m0 : source.Memory) (c0 : Config) (m : source.Memory) (c : Config) (vs : List Scalar) (s : List Scalar → source.Memory → steps.Step)
-      (rest : Statements) (next : Next) → SameState p m c → GrownAt p m0 c0 m c → AreKept d c0 c → Given p.world m c.memory shape vs (contents_in d shape c.temps)
+      (rest : Statements) (next : Next) → SameState p m c → GrownAt p m0 c0 m c → AreKept d c0 c
+      → Given p.world m c.memory shape vs (contents_in d shape c.temps)
       → StoredOn p n d m0 c0 shape vs s (meaning.statements rest next)
       → SameAt p n (act (λ t. write_cells t vs (λ u. s (given_by shape vs))) m) (meaning.statements (put code rest) next c)
 

@@ -107,7 +107,8 @@ held_is w m c s shape v a has free one = record {
 }
 
 pub write_all : (w : World) (fs : Program) (n : ℕ) (b : Bound) (xs : List Shape) (vs : List Scalar) (m : source.Memory) (c : core.Memory) (t : Spot)
-    (s : Unit {0} → source.Memory → steps.Step) (k : core_steps.Step) → is_live m t.region ≡ true → SameMemory w m c → AreCells m t xs → AllShown w m c (at t) xs vs
+    (s : Unit {0} → source.Memory → steps.Step) (k : core_steps.Step) → is_live m t.region ≡ true → SameMemory w m c → AreCells m t xs
+    → AllShown w m c (at t) xs vs
     → ((m' : source.Memory) → SameMemory w m' c → Grown b m c m' c → Same w fs n (s tt m') k) → Same w fs n (write_cells t vs s m) k
 write_all w fs n b [] [] m c t s k live a cells shown go = go m a (later_self b m c)
 write_all w fs n b [] (v ∷ vs) m c t s k live a cells shown go = absurd shown

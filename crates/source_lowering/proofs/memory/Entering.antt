@@ -78,14 +78,16 @@ kept_by true ls c t j p e un is =
     let none : None ≡ Some p = sym (un c.activations t j (omega arith) (region_same t.region (core.Frame c.activations) e)) ∙ is in absurd (cc none)
 kept_by false ls c t j p e un is = made_parts (core.Frame c.activations) ls (core_opened c) t j e ∙ is
 
-entered_part : (w : World) (m : source.Memory) (c : core.Memory) (ls : List Local) → SameMemory w m c → (t : core.Spot) (j : ℕ) (p : Part) → c.parts t j ≡ Some p
+entered_part : (w : World) (m : source.Memory) (c : core.Memory) (ls : List Local) → SameMemory w m c → (t : core.Spot) (j : ℕ) (p : Part)
+    → c.parts t j ≡ Some p
     → (core_in ls c).parts t j ≡ Some p
 entered_part w m c ls a t j p is = kept_by (core.same_region t.region (core.Frame c.activations)) ls c t j p refl a.unentered is
 
 entered_own : (c : core.Memory) (ls : List Local) (k : ℕ) (t : core.Spot) (j : ℕ) → t.region ≡ core.Own k → (core_in ls c).parts t j ≡ c.parts t j
 entered_own c ls k t j r = made_parts (core.Frame c.activations) ls (core_opened c) t j (ap (λ z. core.same_region z (core.Frame c.activations)) r)
 
-pub entered_later : (b : Bound) (w : World) (m : source.Memory) (c : core.Memory) (ls : List Local) → SameMemory w m c → Grown b m c (source_in m) (core_in ls c)
+pub entered_later : (b : Bound) (w : World) (m : source.Memory) (c : core.Memory) (ls : List Local) → SameMemory w m c
+    → Grown b m c (source_in m) (core_in ls c)
 entered_later b w m c ls a = record {
   shapes = λ s shape h. record { content = h.content; is = h.is };
   lent = λ s shape v h. h;

@@ -37,7 +37,8 @@ use Rattle.source_lowering.specs.Lowered.{put}
 use Rattle.source_lowering.specs.Lowerable.{IsObject, IsWholeShape, AreStructs}
 use Rattle.source_lowering.proofs.memory.StructCells.{shapes_in}
 use Rattle.source_lowering.proofs.memory.ObjectShapes.{object_made, whole_object}
-use Rattle.source_lowering.specs.Simulation.{at, HasShape, AreCells, AreMade, ArePending, SameMemory, Grown, Point, SameState, SameAt, Next, Bound, nothing, around, within}
+use Rattle.source_lowering.specs.Simulation.{at, HasShape, AreCells, AreMade, ArePending, SameMemory, Grown, Point, SameState, SameAt, Next, Bound, nothing}
+use Rattle.source_lowering.specs.Simulation.{around, within}
 use Rattle.source_lowering.proofs.memory.Keeping.{later_on, fits_later, named_free, later_items, blocks_of}
 use Rattle.source_lowering.proofs.Runs.{stuck_same}
 use Rattle.source_lowering.proofs.expressions.Making.{local_spot, m_made, cells_here, grown_later}

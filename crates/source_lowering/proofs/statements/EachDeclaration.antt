@@ -166,7 +166,8 @@ value_same n scope k result name shape shapes e from first then_act others is_va
 
 -- a local with an initializer: a value is put there, and a struct's object is copied
 value_initialised : (n : ℕ) (scope : Scope) (k : Known) (result : Shape) (name : List ℕ) (of : TypeName) (shape : Shape) (e : Expression)
-    (value : ℕ) (shapes : List Shape) (then_act : Scope → Act Flow) (others : List core.Statement) → settled_by (written of) (static_shape scope.world k.names e) ≡ shape
+    (value : ℕ) (shapes : List Shape) (then_act : Scope → Act Flow) (others : List core.Statement)
+    → settled_by (written of) (static_shape scope.world k.names e) ≡ shape
     → IsValueShape shape → Takes scope.world k.names e
     → AreNumbered k.owned value (expression_values scope.world k.names e) → k.kept ≤ value → IsKnown scope k → CallsAs scope.world k.program n
     → k.pending ≡ shape ∷ shapes
@@ -184,7 +185,8 @@ value_initialised n scope k result name of shape e value shapes then_act others 
     (expression_code scope.world k.names e k.regions.all value) then_act others is_value pending one more)
 
 place_initialised : (n : ℕ) (scope : Scope) (k : Known) (result : Shape) (name : List ℕ) (shape : Shape) (of : TypeName) (e : Expression)
-    (value : ℕ) (shapes : List Shape) (then_act : Scope → Act Flow) (others : List core.Statement) → settled_by (written of) (static_shape scope.world k.names e) ≡ shape
+    (value : ℕ) (shapes : List Shape) (then_act : Scope → Act Flow) (others : List core.Statement)
+    → settled_by (written of) (static_shape scope.world k.names e) ≡ shape
     → IsWholeShape scope.world.unions scope.world.structs shape → TakesPlace scope.world k.names e
     → IsWholeShape scope.world.unions scope.world.structs (static_shape scope.world k.names e)
     → AreNumbered k.owned value (expression_values scope.world k.names e) → k.kept ≤ value → IsKnown scope k → CallsAs scope.world k.program n
@@ -287,21 +289,25 @@ whole_initialised n scope k result name shape of e value shapes then_act others 
 initialised_same : (n : ℕ) (scope : Scope) (k : Known) (result : Shape) (name : List ℕ) (of : TypeName) (e : Expression) (value : ℕ)
     (shapes : List Shape) (then_act : Scope → Act Flow) (others : List core.Statement) → IsObjectType scope.world.unions scope.world.structs of
     → TakesValue scope.world k.names (settled_by (written of) (static_shape scope.world k.names e)) e
-    → AreNumbered k.owned value (initial_values scope.world k.names (settled_by (written of) (static_shape scope.world k.names e)) e) → k.kept ≤ value → IsKnown scope k
+    → AreNumbered k.owned value (initial_values scope.world k.names (settled_by (written of) (static_shape scope.world k.names e)) e) → k.kept ≤ value
+    → IsKnown scope k
     → CallsAs scope.world k.program n
     → k.pending ≡ settled_by (written of) (static_shape scope.world k.names e) ∷ shapes
-    → RunsAs (place_in (scope_more scope k name (settled_by (written of) (static_shape scope.world k.names e))) (known_more k name (settled_by (written of) (static_shape scope.world k.names e)) shapes)) n scope.frame result
+    → RunsAs (place_in (scope_more scope k name (settled_by (written of) (static_shape scope.world k.names e)))
+    (known_more k name (settled_by (written of) (static_shape scope.world k.names e)) shapes)) n scope.frame result
     (then_act (scope_more scope k name (settled_by (written of) (static_shape scope.world k.names e)))) others
     → RunsAs (place_in scope k) n scope.frame result (initialised scope name (settled_by (written of) (sense e scope).shape) (sense e scope) then_act)
     (value_code scope.world k.names (settled_by (written of) (static_shape scope.world k.names e)) e k.regions.all k.made value ++ others)
 initialised_same n scope k result name of e value shapes then_act others type h numbered less known calls pending more =
-    by (settled_by (written of) (static_shape scope.world k.names e)) refl (object_by scope.world.unions scope.world.structs of type (static_shape scope.world k.names e)) h numbered pending more
+    by (settled_by (written of) (static_shape scope.world k.names e)) refl
+    (object_by scope.world.unions scope.world.structs of type (static_shape scope.world k.names e)) h numbered pending more
   where
     goal : Shape → Type 0
     goal s = RunsAs (place_in scope k) n scope.frame result (initialised scope name (settled_by (written of) (sense e scope).shape) (sense e scope) then_act)
         (value_code scope.world k.names s e k.regions.all k.made value ++ others)
 
-    by : (s : Shape) → settled_by (written of) (static_shape scope.world k.names e) ≡ s → IsObject scope.world.unions scope.world.structs s → TakesValue scope.world k.names s e
+    by : (s : Shape) → settled_by (written of) (static_shape scope.world k.names e) ≡ s → IsObject scope.world.unions scope.world.structs s
+        → TakesValue scope.world k.names s e
         → AreNumbered k.owned value (initial_values scope.world k.names s e) → k.pending ≡ s ∷ shapes
         → RunsAs (place_in (scope_more scope k name s) (known_more k name s shapes)) n scope.frame result (then_act (scope_more scope k name s)) others
         → goal s
@@ -330,7 +336,8 @@ initialised_same n scope k result name of e value shapes then_act others type h 
 abbrev pub known_behind : World → Known → Declaration → List Shape → Known
 known_behind w k d pending = record (known_more k (tree.local_of d).text (local_shape w k.names d) pending) { regions = regions_with d k.regions }
 
-pub known_next : (scope : Scope) (k : Known) (d : Declaration) (pending : List Shape) → IsVariable scope.world.unions scope.world.structs (local_shape scope.world k.names d)
+pub known_next : (scope : Scope) (k : Known) (d : Declaration) (pending : List Shape)
+    → IsVariable scope.world.unions scope.world.structs (local_shape scope.world k.names d)
     → IsKnown scope k
     → IsKnown (scope_more scope k (tree.local_of d).text (local_shape scope.world k.names d)) (known_behind scope.world k d pending)
 known_next scope k d pending object known =
@@ -340,7 +347,8 @@ known_next scope k d pending object known =
 pub declaration_same : (n : ℕ) (d : Declaration) (value : ℕ) (scope : Scope) (k : Known) (result : Shape) (shapes : List Shape) (then_act : Scope → Act Flow)
     (others : List core.Statement) → TakesDeclaration scope.world k.names d → AreNumbered k.owned value (declaration_values scope.world k.names d)
     → k.kept ≤ value → IsKnown scope k → CallsAs scope.world k.program n → k.pending ≡ local_shape scope.world k.names d ∷ shapes
-    → RunsAs (place_in (scope_more scope k (tree.local_of d).text (local_shape scope.world k.names d)) (known_behind scope.world k d shapes)) n scope.frame result
+    → RunsAs (place_in (scope_more scope k (tree.local_of d).text (local_shape scope.world k.names d)) (known_behind scope.world k d shapes)) n
+    scope.frame result
     (then_act (scope_more scope k (tree.local_of d).text (local_shape scope.world k.names d))) others
     → RunsAs (place_in scope k) n scope.frame result (meaning_of.declaration d scope then_act)
     (declaration_code scope.world k.names d k.regions.all k.made value ++ (others ++ ending_code d k.regions.all))

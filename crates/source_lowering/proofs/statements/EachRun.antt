@@ -26,7 +26,8 @@ use Rattle.source_lowering.specs.Lowerable.{IsOperandShape, IsWholeShape, Takes,
 use Rattle.source_lowering.specs.Whole.{makes_struct, expression_values, whole_values, whole_code, assigned_code, assigned_values, dropped_code, dropped_values}
 use Rattle.source_lowering.specs.Whole.{run_code, run_values}
 use Rattle.source_lowering.proofs.expressions.Calls.{CallsAs}
-use Rattle.source_lowering.proofs.expressions.EachExpression.{Known, place_in, IsKnown, named_same, place_same, expression_same, known_keeping, keeping_known, whole_same}
+use Rattle.source_lowering.proofs.expressions.EachExpression.{Known, place_in, IsKnown, named_same, place_same, expression_same, known_keeping, keeping_known}
+use Rattle.source_lowering.proofs.expressions.EachExpression.{whole_same}
 use Rattle.source_lowering.specs.Simulation.{keeping}
 use Rattle.source_lowering.proofs.expressions.Places.{IsPlaced}
 use Rattle.source_lowering.proofs.statements.Statements.{RunsAs, run_same}

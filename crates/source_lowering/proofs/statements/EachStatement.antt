@@ -130,9 +130,11 @@ mutual
       (statement_code scope.world scope.result k.names k.regions own s)
   statement_same (Statement.Empty at) own scope k h numbered less known result n calls = falls_same (place_in scope k) n (suc scope.frame) scope.result
   statement_same (Statement.Block at items) own scope k h numbered less known result n calls =
-      block_same (place_in scope k) n scope.result (block_shapes scope.world (outward k.names) 0 items) (λ frame. meaning_of.block_items items (record scope { frame = frame }))
+      block_same (place_in scope k) n scope.result (block_shapes scope.world (outward k.names) 0 items)
+      (λ frame. meaning_of.block_items items (record scope { frame = frame }))
       (items_code scope.world scope.result (outward k.names) k.regions 0 own items)
-      (λ frame. items_same items own (record scope { frame = frame }) (known_inside scope k (block_shapes scope.world (outward k.names) 0 items)) h numbered less
+      (λ frame. items_same items own (record scope { frame = frame }) (known_inside scope k (block_shapes scope.world (outward k.names) 0 items)) h
+      numbered less
       (known_in_block scope k frame (block_shapes scope.world (outward k.names) 0 items) known) result n calls refl)
   statement_same (Statement.Run e) own scope k h numbered less known result n calls =
       run_statement e own scope k h numbered less known n calls
@@ -238,7 +240,8 @@ mutual
       declaration_same n d own scope k scope.result (block_shapes scope.world names (suc k.made) others) (meaning_of.block_items others)
       (items_code scope.world scope.result names (regions_with d k.regions) (suc k.made) after others) h.0
       (numbered_first k.owned own (declaration_values scope.world k.names d) values numbered) less known calls pending
-      (items_same others after (scope_more scope k (tree.local_of d).text (local_shape scope.world k.names d)) (known_behind scope.world k d (block_shapes scope.world names (suc k.made) others)) h.1
+      (items_same others after (scope_more scope k (tree.local_of d).text (local_shape scope.world k.names d))
+      (known_behind scope.world k d (block_shapes scope.world names (suc k.made) others)) h.1
       (numbered_after k.owned own (declaration_values scope.world k.names d) values numbered) (omega (arith, less))
       (known_next scope k d (block_shapes scope.world names (suc k.made) others) (shape_object scope.world k.names d h.0) known) result n calls refl)
   items_same (Execute s others) own scope k h numbered less known result n calls pending =
@@ -270,18 +273,23 @@ mutual
       subst (λ z. CasesAs (place_in scope k) n scope.result tag (λ number v. if meaning_of.is_position z number then
       Some (in_block (λ frame. local_with (record scope { frame = frame }) x.text s (v ∷ []) (meaning_of.block_items body))) else
       meaning_of.case_for others (held_of w tag number v) scope) (test_code k.regions.all (unwrap_or z 0)
-      (all_of (Block (locals_of w (s ∷ block_shapes w (named_here x.text s 0 ∷ outward k.names) 1 body)) (all_of (held_loads s k.regions.all ++ (put_local s k.regions.all 0 0 ++
+      (all_of (Block (locals_of w (s ∷ block_shapes w (named_here x.text s 0 ∷ outward k.names) 1 body))
+      (all_of (held_loads s k.regions.all ++ (put_local s k.regions.all 0 0 ++
       items_code w scope.result (named_here x.text s 0 ∷ outward k.names) k.regions 1 own body))) ∷ Break ∷ [])) ++
       cases_code w scope.result k.names k.regions parts after others)) (sym h.0.is)
-      (case_more (place_in scope k) n scope.result scope x.text tag h.0.number s (block_shapes w (named_here x.text s 0 ∷ outward k.names) 1 body) (meaning_of.block_items body)
+      (case_more (place_in scope k) n scope.result scope x.text tag h.0.number s (block_shapes w (named_here x.text s 0 ∷ outward k.names) 1 body)
+      (meaning_of.block_items body)
       (λ number v. meaning_of.case_for others (held_of w tag number v) scope)
       (items_code w scope.result (named_here x.text s 0 ∷ outward k.names) k.regions 1 own body)
       (cases_code w scope.result k.names k.regions parts after others) refl known.world.unions is_value found.shape (omega (arith, below, few))
-      (λ frame. items_same body own (scope_more (record scope { frame = frame }) (known_inside scope k (s ∷ block_shapes w (named_here x.text s 0 ∷ outward k.names) 1 body)) x.text s)
+      (λ frame. items_same body own (scope_more (record scope { frame = frame })
+      (known_inside scope k (s ∷ block_shapes w (named_here x.text s 0 ∷ outward k.names) 1 body)) x.text s)
       (known_bound scope k x.text s (block_shapes w (named_here x.text s 0 ∷ outward k.names) 1 body)) h.1.0
       (numbered_first k.owned own values (case_values w k.names parts others) numbered) less
-      (known_still (record scope { frame = frame }) (known_inside scope k (s ∷ block_shapes w (named_here x.text s 0 ∷ outward k.names) 1 body)) x.text s (block_shapes w (named_here x.text s 0 ∷ outward k.names) 1 body)
-      (object_named w.unions w.structs s (value_object w.unions w.structs s is_value)) (known_in_block scope k frame (s ∷ block_shapes w (named_here x.text s 0 ∷ outward k.names) 1 body) known)) result n
+      (known_still (record scope { frame = frame }) (known_inside scope k (s ∷ block_shapes w (named_here x.text s 0 ∷ outward k.names) 1 body)) x.text s
+      (block_shapes w (named_here x.text s 0 ∷ outward k.names) 1 body)
+      (object_named w.unions w.structs s (value_object w.unions w.structs s is_value))
+      (known_in_block scope k frame (s ∷ block_shapes w (named_here x.text s 0 ∷ outward k.names) 1 body) known)) result n
       calls refl)
       (cases_same others after scope k tag h.1.1 (numbered_after k.owned own values (case_values w k.names parts others) numbered) (omega (arith, less)) known
       result is n calls))
@@ -297,9 +305,11 @@ mutual
   default_same (MoreClauses at (Case f x) body others) own scope k parts h numbered less known result n calls =
       default_same others own scope k parts h.1.1 numbered less known result n calls
   default_same (MoreClauses at Default body others) own scope k parts h numbered less known result n calls =
-      block_same (place_in scope k) n scope.result (block_shapes scope.world (outward k.names) 0 body) (λ frame. meaning_of.block_items body (record scope { frame = frame }))
+      block_same (place_in scope k) n scope.result (block_shapes scope.world (outward k.names) 0 body)
+      (λ frame. meaning_of.block_items body (record scope { frame = frame }))
       (items_code scope.world scope.result (outward k.names) k.regions 0 own body)
-      (λ frame. items_same body own (record scope { frame = frame }) (known_inside scope k (block_shapes scope.world (outward k.names) 0 body)) h.0 numbered less
+      (λ frame. items_same body own (record scope { frame = frame }) (known_inside scope k (block_shapes scope.world (outward k.names) 0 body)) h.0
+      numbered less
       (known_in_block scope k frame (block_shapes scope.world (outward k.names) 0 body) known) result n calls refl)
 
 -- ---- a function's body, whose arguments are in the first temporaries

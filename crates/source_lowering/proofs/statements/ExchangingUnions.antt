@@ -144,7 +144,8 @@ unions_exchange p n a b tag m0 c0 m c t u bt bu s rest next fits later kept left
     whole = meaning.statements (put (exchange_code p.world a b shape d) rest) next c
 
     written : (v x : Scalar) → IsUnlent m t → core.is_live (c.memory.standing (region_at t.region)) ≡ true
-        → core.is_live (c.memory.standing (region_at u.region)) ≡ true → StandFor p.world m c.memory tag v left_there.words → StandFor p.world m c.memory tag x right_there.words
+        → core.is_live (c.memory.standing (region_at u.region)) ≡ true → StandFor p.world m c.memory tag v left_there.words
+        → StandFor p.world m c.memory tag x right_there.words
         → SameAt p n (write_cells u (v ∷ []) (λ y. s) (m_written m t shape x)) whole
     written v x free live_t live_u o q =
         let one : WordsRead c first (d + 2) left_there.words =

@@ -20,7 +20,8 @@ use Rattle.source_lowering.proofs.Runs.{put_all}
 use Rattle.source_lowering.proofs.values.Values.{other_temp, put_temp, temp_fits}
 use Rattle.source_lowering.proofs.expressions.Making.{local_spot}
 use Rattle.source_lowering.proofs.statements.Declaring.{local_with_same, with_local}
-use Rattle.source_lowering.proofs.regions.Regions.{IsScoped, born_scoped, scoped_later, core_born, core_freed, region_born_agree, region_born_later, region_born_same, region_freed_agree}
+use Rattle.source_lowering.proofs.regions.Regions.{IsScoped, born_scoped, scoped_later, core_born, core_freed, region_born_agree, region_born_later}
+use Rattle.source_lowering.proofs.regions.Regions.{region_born_same, region_freed_agree}
 use Rattle.source_lowering.proofs.regions.Regions.{region_freed_later}
 use Rattle.source_lowering.proofs.regions.Regions.{region_freed_same, source_born, source_freed}
 use Rattle.source_lowering.proofs.statements.Ways.{Onward, RunsAs, WaysOn, freed}

@@ -4,7 +4,8 @@ use Rattle.cyc_tree.specs.declared.name.Sign.{Sign}
 use Rattle.cyc_tree.specs.declared.name.Sign.TheVariants.{Nullable, NotNull, Fat}
 use Rattle.cyc_tree.specs.Tree as tree
 use Rattle.cyc_tree.specs.Tree.{RegionName, Base, TypeName, Pointer}
-use Rattle.source_meaning.specs.Shapes.{Owner, Shape, IntShape, UnsignedShape, CharShape, VoidShape, ThinShape, FatShape, HandleShape, KeyShape, StructShape, UnionShape, ArrayShape, Layout, owner_of, base_shape, signed_shape, pointed, written, settled, settled_by}
+use Rattle.source_meaning.specs.Shapes.{Owner, Shape, IntShape, UnsignedShape, CharShape, VoidShape, ThinShape, FatShape, HandleShape, KeyShape, StructShape}
+use Rattle.source_meaning.specs.Shapes.{UnionShape, ArrayShape, Layout, owner_of, base_shape, signed_shape, pointed, written, settled, settled_by}
 use Rattle.source_lowering.specs.Lowerable.{IsTarget, IsValueShape, IsObject, IsOperandShape, IsObjectBase, IsKnownIn, IsObjectType, IsWordType}
 use Rattle.source_lowering.proofs.values.Integers.{object_value}
 

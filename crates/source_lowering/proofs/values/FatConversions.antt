@@ -124,7 +124,8 @@ span_code_same p n d (NeverNull count) o to m0 c0 m c v s rest next fits later k
     (bounded_same p n d (NeverNull count) o to m0 c0 m c v s rest next (meaning.statements rest next) fits later kept owned goes
     (λ x. refl) (few_words (NeverNull count)) z)
 
-pub to_thin : (p : Point) (n d : ℕ) (b : Reach) (o : Owner) (to from : Shape) → ConvertsAs p n d (ThinShape b o to) (FatShape from) (to_thin_code p.world b to d)
+pub to_thin : (p : Point) (n d : ℕ) (b : Reach) (o : Owner) (to from : Shape)
+    → ConvertsAs p n d (ThinShape b o to) (FatShape from) (to_thin_code p.world b to d)
 to_thin p n d b o to from = record {
   same = λ m0 c0 m c vs s rest next fits later kept given goes.
       let v = fat_value p.world m c.memory from vs (contents_in d (FatShape from) c.temps) given in

@@ -244,7 +244,8 @@ no_integer false h = h
 pub null_is : (x : Content) (b : Reach) (v : Scalar) → ANull b v (x ∷ []) → x ≡ Null
 null_is x b v n = ap (first_in x) n.shown
 
-pub pointer_is : {j : ℕ} (w : World) (m : source.Memory) (c : core.Memory) (o : Owner) (to : Shape) (x : Content) (v : Scalar) (p : APointer w m c j o to v (x ∷ []))
+pub pointer_is : {j : ℕ} (w : World) (m : source.Memory) (c : core.Memory) (o : Owner) (to : Shape) (x : Content) (v : Scalar)
+    (p : APointer w m c j o to v (x ∷ []))
     → x ≡ Pointer (at p.spot) p.byte
 pointer_is w m c o to x v p = ap (first_in x) p.shown
 

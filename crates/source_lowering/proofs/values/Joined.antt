@@ -24,7 +24,8 @@ use Rattle.source_lowering.proofs.values.Tests.{branch_by, truth_same, truth_tes
 -- after operands the last of which gave the word
 pub record AllAs (p : Point) (n d : ℕ) (es : List Sense) (code : List Statement) : Type 0 where
   pub same : (m0 : source.Memory) (c0 : Config) (m : source.Memory) (c : Config) (word : ℕ) (s : List Scalar → source.Memory → steps.Step) (rest : Statements)
-      (next : Next) → SameState p m c → GrownAt p m0 c0 m c → AreKept d c0 c → c.temps d ≡ Word word → GoesOn p n d m0 c0 IntShape s (meaning.statements rest next)
+      (next : Next) → SameState p m c → GrownAt p m0 c0 m c → AreKept d c0 c → c.temps d ≡ Word word
+      → GoesOn p n d m0 c0 IntShape s (meaning.statements rest next)
       → SameAt p n (choose (not (nat_eq word 0)) (all_true es) (give false) (λ t. s (truth_value t ∷ [])) m) (meaning.statements
       (put code (put (truth_code d) rest)) next c)
 
@@ -94,7 +95,8 @@ all_gives p n d e es shape first others taken gives more = record {
 
 pub record AnyAs (p : Point) (n d : ℕ) (es : List Sense) (code : List Statement) : Type 0 where
   pub same : (m0 : source.Memory) (c0 : Config) (m : source.Memory) (c : Config) (word : ℕ) (s : List Scalar → source.Memory → steps.Step) (rest : Statements)
-      (next : Next) → SameState p m c → GrownAt p m0 c0 m c → AreKept d c0 c → c.temps d ≡ Word word → GoesOn p n d m0 c0 IntShape s (meaning.statements rest next)
+      (next : Next) → SameState p m c → GrownAt p m0 c0 m c → AreKept d c0 c → c.temps d ≡ Word word
+      → GoesOn p n d m0 c0 IntShape s (meaning.statements rest next)
       → SameAt p n (choose (not (nat_eq word 0)) (give true) (any_true es) (λ t. s (truth_value t ∷ [])) m) (meaning.statements
       (put code (put (truth_code d) rest)) next c)
 

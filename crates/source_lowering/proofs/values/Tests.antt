@@ -54,7 +54,8 @@ truth_same p n d m0 c0 m c word s rest next temp fits later kept goes =
     subst (λ z. SameAt p n (s (truth_value (not (nat_eq word 0)) ∷ []) m) z)
     (sym (two_words core.NotEqual here d d (d + 1) word 0 (meaning.statements rest next) (other_temp (d + 1) d (Word 0) c (omega arith) ∙ temp)
     (put_temp (d + 1) (Word 0) c)))
-    (put_truth p n d m0 c0 m here (not (nat_eq word 0)) s (meaning.statements rest next) (temp_fits p m c (d + 1) (Word 0) fits (over goes.above (omega arith))) later
+    (put_truth p n d m0 c0 m here (not (nat_eq word 0)) s (meaning.statements rest next)
+    (temp_fits p m c (d + 1) (Word 0) fits (over goes.above (omega arith))) later
     (kept_temp d (d + 1) (Word 0) c0 c (omega arith) kept) goes)
 
 -- ---- a tested operand
@@ -79,7 +80,8 @@ word_decides word x e = record { branches = λ these those. ap (λ z. meaning.br
 pub record Decided (p : Point) (n d : ℕ) (m0 : source.Memory) (c0 : Config)
     (s : Bool → source.Memory → steps.Step) (k : Config → core_steps.Step) : Type 0 where
   pub above : p.regions.all ≤ d
-  pub go : (m : source.Memory) (c : Config) (b : Bool) → SameState p m c → GrownAt p m0 c0 m c → AreKept d c0 c → Decides b (c.temps d) → SameAt p n (s b m) (k c)
+  pub go : (m : source.Memory) (c : Config) (b : Bool) → SameState p m c → GrownAt p m0 c0 m c → AreKept d c0 c → Decides b (c.temps d)
+      → SameAt p n (s b m) (k c)
 
 pub truth_decided : (p : Point) (n d : ℕ) (e : Sense) (shape : Shape) (code : List Statement) (m : source.Memory) (c : Config)
     (s : Bool → source.Memory → steps.Step) (rest : Statements) (next : Next) → IsTaken shape → GivesAs p n d shape e.look code → SameState p m c
@@ -150,7 +152,8 @@ pointer_tested p n d word m0 c0 m c s rest next fits later kept is tests =
     let here : Config = with_temp d (Word word) c in
     subst (λ z. SameAt p n (s (not (nat_eq (words.truth (nat_eq word 0)) 0)) m) z)
     (sym (is ∙ turned_does d word here rest next (put_temp d (Word word) c)))
-    (tests.go m (turned d word here) (words.truth (nat_eq word 0)) (turned_fits p m d word here (temp_fits p m c d (Word word) fits tests.above) tests.above) later
+    (tests.go m (turned d word here) (words.truth (nat_eq word 0))
+    (turned_fits p m d word here (temp_fits p m c d (Word word) fits tests.above) tests.above) later
     (turned_kept d word c0 here (kept_temp d d (Word word) c0 c (omega arith) kept)) (put_temp d (Word (words.truth (nat_eq word 0)))
     (with_temp (d + 1) (Word 0) here)))
 

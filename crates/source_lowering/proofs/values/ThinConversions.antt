@@ -83,7 +83,8 @@ null_converts p n d (MayBeNull count) b o q to from m c s rest next allowed null
       alone = refl;
       shown = inl (record { allowed = refl; value = refl; shown = ap (λ z. z ∷ []) null });
     }))
-null_converts p n d (NeverNull count) (MayBeNull j) o q to from m c s rest next allowed null go = rw null (stops_same p.world p.program n (SourceEnding.Raised NullException))
+null_converts p n d (NeverNull count) (MayBeNull j) o q to from m c s rest next allowed null go =
+    rw null (stops_same p.world p.program n (SourceEnding.Raised NullException))
 null_converts p n d (NeverNull count) (NeverNull j) o q to from m c s rest next allowed null go = absurd (false≢true allowed)
 
 -- what is unique was so before
@@ -111,10 +112,21 @@ spot_converts p n d a b o q to from m c t byte s rest next temp full leads few e
     there x fewer on = on (Thin (Some t) ∷ []) (inl (record {
       value = Thin (Some t);
       alone = refl;
-      shown = inr (record { spot = t; byte = byte; value = refl; shown = ap (λ z. z ∷ []) temp; lies = full; leads = leads; few = omega (arith, fewer, few); elements = λ k less. elements k (omega (arith, fewer, less)); owned = owned });
+      shown = inr (record {
+        spot = t;
+        byte = byte;
+        value = refl;
+        shown = ap (λ z. z ∷ []) temp;
+        lies = full;
+        leads = leads;
+        few = omega (arith, fewer, few);
+        elements = λ k less. elements k (omega (arith, fewer, less));
+        owned = owned;
+      });
     }))
 
-    none : (y : Reach) → c.temps d ≡ Pointer (at t) byte → meaning.statements (put (check_code (ThinShape y q from) d) rest) next c ≡ meaning.statements rest next c
+    none : (y : Reach) → c.temps d ≡ Pointer (at t) byte
+        → meaning.statements (put (check_code (ThinShape y q from) d) rest) next c ≡ meaning.statements rest next c
     none (MayBeNull j) e = rw e refl
     none (NeverNull j) e = refl
 

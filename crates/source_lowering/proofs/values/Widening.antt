@@ -54,12 +54,14 @@ bounded_kept c0 c d count kept =
 
 -- by whether the pointer is NULL
 null_counted : (c : Config) (d count : ℕ) (rest : Statements) (next : Next) → c.temps d ≡ Null
-    → meaning.statements (put (If d (all_of (Do (Constant (d + 1) count) ∷ [])) (all_of (Do (Constant (d + 1) 0) ∷ [])) ∷ Do (Constant (d + 2) 0) ∷ []) rest) next c
+    → meaning.statements (put (If d (all_of (Do (Constant (d + 1) count) ∷ [])) (all_of (Do (Constant (d + 1) 0) ∷ [])) ∷ Do (Constant (d + 2) 0) ∷ [])
+    rest) next c
     ≡ meaning.statements rest next (bounded c d 0)
 null_counted c d count rest next null = rw null refl
 
 spot_counted : (c : Config) (d count byte : ℕ) (t : core.Spot) (rest : Statements) (next : Next) → count < 2 ^ 32 → c.temps d ≡ Pointer t byte
-    → meaning.statements (put (If d (all_of (Do (Constant (d + 1) count) ∷ [])) (all_of (Do (Constant (d + 1) 0) ∷ [])) ∷ Do (Constant (d + 2) 0) ∷ []) rest) next c
+    → meaning.statements (put (If d (all_of (Do (Constant (d + 1) count) ∷ [])) (all_of (Do (Constant (d + 1) 0) ∷ [])) ∷ Do (Constant (d + 2) 0) ∷ [])
+    rest) next c
     ≡ meaning.statements rest next (bounded c d count)
 spot_counted c d count byte t rest next few pointer =
     let small : count % 2 ^ 32 ≡ count = omega (arith, few) in
@@ -123,7 +125,8 @@ widened p n d to b q from = record {
       (null b z.allowed m0 c0 m c s rest next fits later kept (null_is (c.temps d) b v.value z) goes))
       (λ (z : APointer p.world m c.memory (count_of b) q from v.value (c.temps d ∷ [])).
       subst (λ u. SameAt p n (converted p.world (FatShape to) (ThinShape b q from) (u ∷ []) s m) step) (sym z.value)
-      (checked (same_shape to from) refl m0 c0 m c z.spot z.byte s rest next fits later kept (pointer_is p.world m c.memory q from (c.temps d) v.value z) z.lies z.few
+      (checked (same_shape to from) refl m0 c0 m c z.spot z.byte s rest next fits later kept (pointer_is p.world m c.memory q from (c.temps d) v.value z)
+      z.lies z.few
       z.elements goes))
       v.shown);
 }
@@ -145,7 +148,8 @@ widened p n d to b q from = record {
         (sym (spot_counted c d (j % 2 ^ 32) byte (at t) rest next few temp))
         (these_elements p n d (j % 2 ^ 32) to m0 c0 m c t byte s (meaning.statements rest next) fits later kept temp lies few leads goes)
 
-    null : (a : Reach) → may_be_null a ≡ true → (m0 : source.Memory) (c0 : Config) (m : source.Memory) (c : Config) (s : List Scalar → source.Memory → steps.Step)
+    null : (a : Reach) → may_be_null a ≡ true → (m0 : source.Memory) (c0 : Config) (m : source.Memory) (c : Config) (s : List Scalar → source.Memory
+        → steps.Step)
         (rest : Statements) (next : Next) → SameState p m c → GrownAt p m0 c0 m c → AreKept d c0 c → c.temps d ≡ Null
         → GoesOn p n d m0 c0 (FatShape to) s (meaning.statements rest next)
         → SameAt p n (s (Wide None ∷ []) m) (meaning.statements (put (to_fat_code (ThinShape a q from) d) rest) next c)

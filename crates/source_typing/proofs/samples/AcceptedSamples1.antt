@@ -27,7 +27,8 @@ accepted_2 = refl
 
 -- int f(int *p) { return *p; } int main() { int x; f(&x); return 0; }
 accepted_3 : typing_fault false
-    ((tree.FunctionItem (routine (int_at 0) (name_at 4 "f") ((member (type_at 6 tree.Int ((pointer (sign.Nullable 1) None) ∷ [])) (name_at 11 "p")) ∷ []) None []
+    ((tree.FunctionItem (routine (int_at 0) (name_at 4 "f") ((member (type_at 6 tree.Int ((pointer (sign.Nullable 1) None) ∷ [])) (name_at 11 "p"))
+    ∷ []) None []
     (Execute (returns 16 (Expression.Prefixed 23 Dereference (variable_at 24 "p"))) NoItems) 27)) ∷ (main_at 29 (Declare (tree.Local (int_at 42) (name_at 46
     "x") Initializer.Unset) (Execute (Statement.Run (Expression.Call (name_at 49 "f") (MoreExpressions (Expression.Prefixed 51 AddressOf (variable_at 52 "x"))
     NoExpressions))) (Execute (returns 56 (number 63 0)) NoItems))) 66) ∷ [])
@@ -46,9 +47,11 @@ accepted_4 = refl
 -- void f(int *`r *p, int *`r q) { *p = q; } int main() { int x; int *p = &x; f(&p, &x); return 0; }
 accepted_5 : typing_fault false
     ((tree.FunctionItem (routine (type_at 0 tree.Void []) (name_at 5 "f") ((member (type_at 7 tree.Int ((pointer (sign.Nullable 1) (Some (region_at 12 "r"))) ∷
-    (pointer (sign.Nullable 1) None) ∷ [])) (name_at 16 "p")) ∷ (member (type_at 19 tree.Int ((pointer (sign.Nullable 1) (Some (region_at 24 "r"))) ∷ [])) (name_at 27
+    (pointer (sign.Nullable 1) None) ∷ [])) (name_at 16 "p"))
+    ∷ (member (type_at 19 tree.Int ((pointer (sign.Nullable 1) (Some (region_at 24 "r"))) ∷ [])) (name_at 27
     "q")) ∷ []) None [] (Execute (Statement.Run (Expression.Assign (Expression.Prefixed 32 Dereference (variable_at 33 "p")) (variable_at 37 "q"))) NoItems)
-    40)) ∷ (main_at 42 (Declare (tree.Local (int_at 55) (name_at 59 "x") Initializer.Unset) (Declare (tree.Local (type_at 62 tree.Int ((pointer (sign.Nullable 1)
+    40)) ∷ (main_at 42 (Declare (tree.Local (int_at 55) (name_at 59 "x") Initializer.Unset)
+    (Declare (tree.Local (type_at 62 tree.Int ((pointer (sign.Nullable 1)
     None) ∷ [])) (name_at 67 "p") (Initializer.Value (Expression.Prefixed 71 AddressOf (variable_at 72 "x")))) (Execute (Statement.Run (Expression.Call
     (name_at 75 "f") (MoreExpressions (Expression.Prefixed 77 AddressOf (variable_at 78 "p")) (MoreExpressions (Expression.Prefixed 81 AddressOf (variable_at
     82 "x")) NoExpressions)))) (Execute (returns 86 (number 93 0)) NoItems)))) 96) ∷ [])
@@ -99,7 +102,8 @@ accepted_10 = refl
 accepted_11 : typing_fault false
     ((main_at 0 (Declare (tree.Region 13 (region_at 20 "r") (name_at 24 "h")) (Declare (tree.Local (type_at 27 tree.Int ((pointer (sign.Nullable 1) None) ∷ []))
     (name_at 32 "p") (Initializer.Value (Expression.NewIn 36 (variable_at 41 "h") (One (number 44 3))))) (Execute (Statement.Block 47 (Declare (tree.Region 49
-    (region_at 56 "s") (name_at 60 "k")) (Declare (tree.Local (type_at 63 tree.Int ((pointer (sign.Nullable 1) (Some (region_at 68 "s"))) ∷ [])) (name_at 71 "q")
+    (region_at 56 "s") (name_at 60 "k"))
+    (Declare (tree.Local (type_at 63 tree.Int ((pointer (sign.Nullable 1) (Some (region_at 68 "s"))) ∷ [])) (name_at 71 "q")
     (Initializer.Value (variable_at 75 "p"))) NoItems))) (Execute (returns 80 (number 87 0)) NoItems)))) 90) ∷ [])
     ≡ None
 accepted_11 = refl
@@ -132,7 +136,8 @@ accepted_14 = refl
 
 -- struct S<`r> { int *`r p; }; int main() { int x; struct S s = S(&x); int *q = s.p; return 0; }
 accepted_15 : typing_fault false
-    ((tree.StructItem (structure 0 (name_at 7 "S") ((region_at 9 "r") ∷ []) ((member (type_at 15 tree.Int ((pointer (sign.Nullable 1) (Some (region_at 20 "r"))) ∷
+    ((tree.StructItem (structure 0 (name_at 7 "S") ((region_at 9 "r") ∷ [])
+    ((member (type_at 15 tree.Int ((pointer (sign.Nullable 1) (Some (region_at 20 "r"))) ∷
     [])) (name_at 23 "p")) ∷ []))) ∷ (main_at 29 (Declare (tree.Local (int_at 42) (name_at 46 "x") Initializer.Unset) (Declare (tree.Local (type_at 49
     (tree.Struct (name_at 56 "S") []) []) (name_at 58 "s") (Initializer.Value (Expression.Call (name_at 62 "S") (MoreExpressions (Expression.Prefixed 64
     AddressOf (variable_at 65 "x")) NoExpressions)))) (Declare (tree.Local (type_at 69 tree.Int ((pointer (sign.Nullable 1) None) ∷ [])) (name_at 74 "q")
@@ -142,7 +147,8 @@ accepted_15 = refl
 
 -- struct S<`r> { int *`r p; }; int f(struct S *s) { return *s->p; } int main() { int x; struct S s = S(&x); f(&s); return 0; }
 accepted_16 : typing_fault false
-    ((tree.StructItem (structure 0 (name_at 7 "S") ((region_at 9 "r") ∷ []) ((member (type_at 15 tree.Int ((pointer (sign.Nullable 1) (Some (region_at 20 "r"))) ∷
+    ((tree.StructItem (structure 0 (name_at 7 "S") ((region_at 9 "r") ∷ [])
+    ((member (type_at 15 tree.Int ((pointer (sign.Nullable 1) (Some (region_at 20 "r"))) ∷
     [])) (name_at 23 "p")) ∷ []))) ∷ (tree.FunctionItem (routine (int_at 29) (name_at 33 "f") ((member (type_at 35 (tree.Struct (name_at 42 "S") []) ((pointer
     (sign.Nullable 1) None) ∷ [])) (name_at 45 "s")) ∷ []) None [] (Execute (Statement.Return 50 (Some (Expression.Prefixed 57 Dereference (Expression.Suffixed
     (variable_at 58 "s") (Arrow (name_at 61 "p") NoSuffixes))))) NoItems) 64)) ∷ (main_at 66 (Declare (tree.Local (int_at 79) (name_at 83 "x")
@@ -155,7 +161,8 @@ accepted_16 = refl
 
 -- struct S { struct S *s; }; int main() { struct S s; s.s->s = NULL; return 0; }
 accepted_17 : typing_fault false
-    ((tree.StructItem (structure 0 (name_at 7 "S") [] ((member (type_at 11 (tree.Struct (name_at 18 "S") []) ((pointer (sign.Nullable 1) None) ∷ [])) (name_at 21
+    ((tree.StructItem (structure 0 (name_at 7 "S") []
+    ((member (type_at 11 (tree.Struct (name_at 18 "S") []) ((pointer (sign.Nullable 1) None) ∷ [])) (name_at 21
     "s")) ∷ []))) ∷ (main_at 27 (Declare (tree.Local (type_at 40 (tree.Struct (name_at 47 "S") []) []) (name_at 49 "s") Initializer.Unset) (Execute
     (Statement.Run (Expression.Assign (Expression.Suffixed (variable_at 52 "s") (Dot (name_at 54 "s") (Arrow (name_at 57 "s") NoSuffixes))) (Expression.Null
     61))) (Execute (returns 67 (number 74 0)) NoItems))) 77) ∷ [])
@@ -241,10 +248,12 @@ accepted_26 = refl
 
 -- int f(int *`r p, int *`s q : `r > `s) { return 0; } int main() { int x; int *p = &x; { int y; f(p, &y); } return 0; }
 accepted_27 : typing_fault false
-    ((tree.FunctionItem (routine (int_at 0) (name_at 4 "f") ((member (type_at 6 tree.Int ((pointer (sign.Nullable 1) (Some (region_at 11 "r"))) ∷ [])) (name_at 14
+    ((tree.FunctionItem (routine (int_at 0) (name_at 4 "f")
+    ((member (type_at 6 tree.Int ((pointer (sign.Nullable 1) (Some (region_at 11 "r"))) ∷ [])) (name_at 14
     "p")) ∷ (member (type_at 17 tree.Int ((pointer (sign.Nullable 1) (Some (region_at 22 "s"))) ∷ [])) (name_at 25 "q")) ∷ []) None ((bound (region_at 29 "r")
     (region_at 34 "s")) ∷ []) (Execute (returns 40 (number 47 0)) NoItems) 50)) ∷ (main_at 52 (Declare (tree.Local (int_at 65) (name_at 69 "x")
-    Initializer.Unset) (Declare (tree.Local (type_at 72 tree.Int ((pointer (sign.Nullable 1) None) ∷ [])) (name_at 77 "p") (Initializer.Value (Expression.Prefixed
+    Initializer.Unset) (Declare (tree.Local (type_at 72 tree.Int ((pointer (sign.Nullable 1) None) ∷ [])) (name_at 77 "p")
+    (Initializer.Value (Expression.Prefixed
     81 AddressOf (variable_at 82 "x")))) (Execute (Statement.Block 85 (Declare (tree.Local (int_at 87) (name_at 91 "y") Initializer.Unset) (Execute
     (Statement.Run (Expression.Call (name_at 94 "f") (MoreExpressions (variable_at 96 "p") (MoreExpressions (Expression.Prefixed 99 AddressOf (variable_at 100
     "y")) NoExpressions)))) NoItems))) (Execute (returns 106 (number 113 0)) NoItems)))) 116) ∷ [])
@@ -253,16 +262,20 @@ accepted_27 = refl
 
 -- int f(int *`r p : `r > `H) { int *`H q = p; return 0; } int main() { return 0; }
 accepted_28 : typing_fault false
-    ((tree.FunctionItem (routine (int_at 0) (name_at 4 "f") ((member (type_at 6 tree.Int ((pointer (sign.Nullable 1) (Some (region_at 11 "r"))) ∷ [])) (name_at 14
-    "p")) ∷ []) None ((bound (region_at 18 "r") (tree.Heap 23)) ∷ []) (Declare (tree.Local (type_at 29 tree.Int ((pointer (sign.Nullable 1) (Some (tree.Heap 34)))
+    ((tree.FunctionItem (routine (int_at 0) (name_at 4 "f")
+    ((member (type_at 6 tree.Int ((pointer (sign.Nullable 1) (Some (region_at 11 "r"))) ∷ [])) (name_at 14
+    "p")) ∷ []) None ((bound (region_at 18 "r") (tree.Heap 23)) ∷ [])
+    (Declare (tree.Local (type_at 29 tree.Int ((pointer (sign.Nullable 1) (Some (tree.Heap 34)))
     ∷ [])) (name_at 37 "q") (Initializer.Value (variable_at 41 "p"))) (Execute (returns 44 (number 51 0)) NoItems)) 54)) ∷ (main_returns 56) ∷ [])
     ≡ None
 accepted_28 = refl
 
 -- int f(int *`r p) { int x; int *q = &x; q = p; return 0; } int main() { return 0; }
 accepted_29 : typing_fault false
-    ((tree.FunctionItem (routine (int_at 0) (name_at 4 "f") ((member (type_at 6 tree.Int ((pointer (sign.Nullable 1) (Some (region_at 11 "r"))) ∷ [])) (name_at 14
-    "p")) ∷ []) None [] (Declare (tree.Local (int_at 19) (name_at 23 "x") Initializer.Unset) (Declare (tree.Local (type_at 26 tree.Int ((pointer (sign.Nullable 1)
+    ((tree.FunctionItem (routine (int_at 0) (name_at 4 "f")
+    ((member (type_at 6 tree.Int ((pointer (sign.Nullable 1) (Some (region_at 11 "r"))) ∷ [])) (name_at 14
+    "p")) ∷ []) None [] (Declare (tree.Local (int_at 19) (name_at 23 "x") Initializer.Unset)
+    (Declare (tree.Local (type_at 26 tree.Int ((pointer (sign.Nullable 1)
     None) ∷ [])) (name_at 31 "q") (Initializer.Value (Expression.Prefixed 35 AddressOf (variable_at 36 "x")))) (Execute (Statement.Run (Expression.Assign
     (variable_at 39 "q") (variable_at 43 "p"))) (Execute (returns 46 (number 53 0)) NoItems)))) 56)) ∷ (main_returns 58) ∷ [])
     ≡ None

@@ -14,9 +14,12 @@ accepted_31 : typing_fault false
     ((tree.FunctionItem (routine (int_at 0) (name_at 4 "f") ((member (type_at 6 tree.Int ((pointer (sign.Nullable 1) (Some (region_at 11 "r"))) ∷ (pointer
     (sign.Nullable 1) (Some (region_at 15 "s"))) ∷ [])) (name_at 18 "p")) ∷ []) None [] (Execute (Statement.Return 23 (Some (Expression.Prefixed 30 Dereference
     (Expression.Prefixed 31 Dereference (variable_at 32 "p"))))) NoItems) 35)) ∷ (main_at 37 (Declare (tree.Local (int_at 50) (name_at 54 "x")
-    Initializer.Unset) (Declare (tree.Local (type_at 57 tree.Int ((pointer (sign.Nullable 1) None) ∷ [])) (name_at 62 "p") (Initializer.Value (Expression.Prefixed
-    66 AddressOf (variable_at 67 "x")))) (Execute (Statement.Block 70 (Declare (tree.Local (type_at 72 tree.Int ((pointer (sign.Nullable 1) None) ∷ [])) (name_at
-    77 "q") (Initializer.Value (variable_at 81 "p"))) (Declare (tree.Local (type_at 84 tree.Int ((pointer (sign.Nullable 1) None) ∷ (pointer (sign.Nullable 1) None) ∷
+    Initializer.Unset) (Declare (tree.Local (type_at 57 tree.Int ((pointer (sign.Nullable 1) None) ∷ [])) (name_at 62 "p")
+    (Initializer.Value (Expression.Prefixed
+    66 AddressOf (variable_at 67 "x"))))
+    (Execute (Statement.Block 70 (Declare (tree.Local (type_at 72 tree.Int ((pointer (sign.Nullable 1) None) ∷ [])) (name_at
+    77 "q") (Initializer.Value (variable_at 81 "p")))
+    (Declare (tree.Local (type_at 84 tree.Int ((pointer (sign.Nullable 1) None) ∷ (pointer (sign.Nullable 1) None) ∷
     [])) (name_at 90 "z") (Initializer.Value (Expression.Prefixed 94 AddressOf (variable_at 95 "p")))) (Execute (Statement.Run (Expression.Call (name_at 98
     "f") (MoreExpressions (Expression.Prefixed 100 AddressOf (variable_at 101 "q")) NoExpressions))) (Execute (Statement.Run (Expression.Call (name_at 105
     "f") (MoreExpressions (variable_at 107 "z") NoExpressions))) NoItems))))) (Execute (returns 113 (number 120 0)) NoItems)))) 123) ∷ [])
@@ -25,7 +28,8 @@ accepted_31 = refl
 
 -- struct S<`r> { int *`r p; }; void f(struct S<`r> *`s a, int *`r b) { a->p = b; } int main() { int x; int y; struct S s = S(&x); f(&s, &y); return 0; }
 accepted_32 : typing_fault false
-    ((tree.StructItem (structure 0 (name_at 7 "S") ((region_at 9 "r") ∷ []) ((member (type_at 15 tree.Int ((pointer (sign.Nullable 1) (Some (region_at 20 "r"))) ∷
+    ((tree.StructItem (structure 0 (name_at 7 "S") ((region_at 9 "r") ∷ [])
+    ((member (type_at 15 tree.Int ((pointer (sign.Nullable 1) (Some (region_at 20 "r"))) ∷
     [])) (name_at 23 "p")) ∷ []))) ∷ (tree.FunctionItem (routine (type_at 29 tree.Void []) (name_at 34 "f") ((member (type_at 36 (tree.Struct (name_at 43 "S")
     ((region_at 45 "r") ∷ [])) ((pointer (sign.Nullable 1) (Some (region_at 50 "s"))) ∷ [])) (name_at 53 "a")) ∷ (member (type_at 56 tree.Int ((pointer
     (sign.Nullable 1) (Some (region_at 61 "r"))) ∷ [])) (name_at 64 "b")) ∷ []) None [] (Execute (Statement.Run (Expression.Assign (Expression.Suffixed
@@ -41,7 +45,8 @@ accepted_32 = refl
 -- int main() { int *`U p = NULL; int *`U *q = &p; *q = NULL; return 0; }
 accepted_33 : typing_fault false
     ((main_at 0 (Declare (tree.Local (type_at 13 tree.Int ((pointer (sign.Nullable 1) (Some (tree.Unique 18))) ∷ [])) (name_at 21 "p") (Initializer.Value
-    (Expression.Null 25))) (Declare (tree.Local (type_at 31 tree.Int ((pointer (sign.Nullable 1) (Some (tree.Unique 36))) ∷ (pointer (sign.Nullable 1) None) ∷ []))
+    (Expression.Null 25))) (Declare
+    (tree.Local (type_at 31 tree.Int ((pointer (sign.Nullable 1) (Some (tree.Unique 36))) ∷ (pointer (sign.Nullable 1) None) ∷ []))
     (name_at 40 "q") (Initializer.Value (Expression.Prefixed 44 AddressOf (variable_at 45 "p")))) (Execute (Statement.Run (Expression.Assign
     (Expression.Prefixed 48 Dereference (variable_at 49 "q")) (Expression.Null 53))) (Execute (returns 59 (number 66 0)) NoItems)))) 69) ∷ [])
     ≡ None

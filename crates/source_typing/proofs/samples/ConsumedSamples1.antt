@@ -54,7 +54,8 @@ consumed_flow_4 = refl
 -- where ways meet, a local is held only if it is so on each
 -- int f(int c, int *`U p) { if (c) ufree(p); if (p == NULL) return 1; return 0; } int main() { return 0; }
 consumed_flow_5 : first_fault
-    ((tree.FunctionItem (routine (int_at 0) (name_at 4 "f") ((member (int_at 6) (name_at 10 "c")) ∷ (member (type_at 13 tree.Int ((pointer (sign.Nullable 1) (Some
+    ((tree.FunctionItem (routine (int_at 0) (name_at 4 "f")
+    ((member (int_at 6) (name_at 10 "c")) ∷ (member (type_at 13 tree.Int ((pointer (sign.Nullable 1) (Some
     (tree.Unique 18))) ∷ [])) (name_at 21 "p")) ∷ []) None [] (Execute (Statement.If 26 (variable_at 30 "c") (Statement.FreeUnique 33 (name_at 39 "p")))
     (Execute (Statement.If 43 (Expression.Chain (variable_at 47 "p") (MoreLinks Equal (Expression.Null 52) NoLinks)) (returns 58 (number 65 1))) (Execute
     (returns 68 (number 75 0)) NoItems))) 78)) ∷ (main_returns 80) ∷ [])
@@ -63,7 +64,8 @@ consumed_flow_5 = refl
 
 -- int f(int c, int *`U p) { if (c) ; else ufree(p); ufree(p); return 0; } int main() { return 0; }
 consumed_flow_6 : first_fault
-    ((tree.FunctionItem (routine (int_at 0) (name_at 4 "f") ((member (int_at 6) (name_at 10 "c")) ∷ (member (type_at 13 tree.Int ((pointer (sign.Nullable 1) (Some
+    ((tree.FunctionItem (routine (int_at 0) (name_at 4 "f")
+    ((member (int_at 6) (name_at 10 "c")) ∷ (member (type_at 13 tree.Int ((pointer (sign.Nullable 1) (Some
     (tree.Unique 18))) ∷ [])) (name_at 21 "p")) ∷ []) None [] (Execute (Statement.IfElse 26 (variable_at 30 "c") (Statement.Empty 33) (Statement.FreeUnique 40
     (name_at 46 "p"))) (Execute (Statement.FreeUnique 50 (name_at 56 "p")) (Execute (returns 60 (number 67 0)) NoItems))) 70)) ∷ (main_returns 72) ∷ [])
     ≡ Some (fault consumed_rule 56)
@@ -71,7 +73,8 @@ consumed_flow_6 = refl
 
 -- int f(int c, int *`U p) { if (c) { ufree(p); p = NULL; } ufree(p); return 0; } int main() { return 0; }
 consumed_flow_7 : first_fault
-    ((tree.FunctionItem (routine (int_at 0) (name_at 4 "f") ((member (int_at 6) (name_at 10 "c")) ∷ (member (type_at 13 tree.Int ((pointer (sign.Nullable 1) (Some
+    ((tree.FunctionItem (routine (int_at 0) (name_at 4 "f")
+    ((member (int_at 6) (name_at 10 "c")) ∷ (member (type_at 13 tree.Int ((pointer (sign.Nullable 1) (Some
     (tree.Unique 18))) ∷ [])) (name_at 21 "p")) ∷ []) None [] (Execute (Statement.If 26 (variable_at 30 "c") (Statement.Block 33 (Execute
     (Statement.FreeUnique 35 (name_at 41 "p")) (Execute (Statement.Run (Expression.Assign (variable_at 45 "p") (Expression.Null 49))) NoItems)))) (Execute
     (Statement.FreeUnique 57 (name_at 63 "p")) (Execute (returns 67 (number 74 0)) NoItems))) 77)) ∷ (main_returns 79) ∷ [])
@@ -81,7 +84,8 @@ consumed_flow_7 = refl
 -- a way that is not reachable does not count
 -- int f(int c, int *`U p) { if (c) { ufree(p); return 1; } ufree(p); return 0; } int main() { return 0; }
 consumed_flow_8 : first_fault
-    ((tree.FunctionItem (routine (int_at 0) (name_at 4 "f") ((member (int_at 6) (name_at 10 "c")) ∷ (member (type_at 13 tree.Int ((pointer (sign.Nullable 1) (Some
+    ((tree.FunctionItem (routine (int_at 0) (name_at 4 "f")
+    ((member (int_at 6) (name_at 10 "c")) ∷ (member (type_at 13 tree.Int ((pointer (sign.Nullable 1) (Some
     (tree.Unique 18))) ∷ [])) (name_at 21 "p")) ∷ []) None [] (Execute (Statement.If 26 (variable_at 30 "c") (Statement.Block 33 (Execute
     (Statement.FreeUnique 35 (name_at 41 "p")) (Execute (returns 45 (number 52 1)) NoItems)))) (Execute (Statement.FreeUnique 57 (name_at 63 "p")) (Execute
     (returns 67 (number 74 0)) NoItems))) 77)) ∷ (main_returns 79) ∷ [])
@@ -91,7 +95,8 @@ consumed_flow_8 = refl
 -- a loop begins in a state that each turn keeps
 -- int f(int n, int *`U p) { while (n) { ufree(p); n = n - 1; } return 0; } int main() { return 0; }
 consumed_flow_9 : first_fault
-    ((tree.FunctionItem (routine (int_at 0) (name_at 4 "f") ((member (int_at 6) (name_at 10 "n")) ∷ (member (type_at 13 tree.Int ((pointer (sign.Nullable 1) (Some
+    ((tree.FunctionItem (routine (int_at 0) (name_at 4 "f")
+    ((member (int_at 6) (name_at 10 "n")) ∷ (member (type_at 13 tree.Int ((pointer (sign.Nullable 1) (Some
     (tree.Unique 18))) ∷ [])) (name_at 21 "p")) ∷ []) None [] (Execute (Statement.While 26 (variable_at 33 "n") (Statement.Block 36 (Execute
     (Statement.FreeUnique 38 (name_at 44 "p")) (Execute (Statement.Run (Expression.Assign (variable_at 48 "n") (Expression.Chain (variable_at 52 "n")
     (MoreLinks Subtract (number 56 1) NoLinks)))) NoItems)))) (Execute (returns 61 (number 68 0)) NoItems)) 71)) ∷ (main_returns 73) ∷ [])
@@ -100,7 +105,8 @@ consumed_flow_9 = refl
 
 -- int f(int n, int *`U p) { while (n) { ufree(p); p = NULL; n = n - 1; } return 0; } int main() { return 0; }
 consumed_flow_10 : first_fault
-    ((tree.FunctionItem (routine (int_at 0) (name_at 4 "f") ((member (int_at 6) (name_at 10 "n")) ∷ (member (type_at 13 tree.Int ((pointer (sign.Nullable 1) (Some
+    ((tree.FunctionItem (routine (int_at 0) (name_at 4 "f")
+    ((member (int_at 6) (name_at 10 "n")) ∷ (member (type_at 13 tree.Int ((pointer (sign.Nullable 1) (Some
     (tree.Unique 18))) ∷ [])) (name_at 21 "p")) ∷ []) None [] (Execute (Statement.While 26 (variable_at 33 "n") (Statement.Block 36 (Execute
     (Statement.FreeUnique 38 (name_at 44 "p")) (Execute (Statement.Run (Expression.Assign (variable_at 48 "p") (Expression.Null 52))) (Execute (Statement.Run
     (Expression.Assign (variable_at 58 "n") (Expression.Chain (variable_at 62 "n") (MoreLinks Subtract (number 66 1) NoLinks)))) NoItems))))) (Execute
@@ -110,7 +116,8 @@ consumed_flow_10 = refl
 
 -- int f(int n, int *`U p) { while (n) { ufree(p); break; } return 0; } int main() { return 0; }
 consumed_flow_11 : first_fault
-    ((tree.FunctionItem (routine (int_at 0) (name_at 4 "f") ((member (int_at 6) (name_at 10 "n")) ∷ (member (type_at 13 tree.Int ((pointer (sign.Nullable 1) (Some
+    ((tree.FunctionItem (routine (int_at 0) (name_at 4 "f")
+    ((member (int_at 6) (name_at 10 "n")) ∷ (member (type_at 13 tree.Int ((pointer (sign.Nullable 1) (Some
     (tree.Unique 18))) ∷ [])) (name_at 21 "p")) ∷ []) None [] (Execute (Statement.While 26 (variable_at 33 "n") (Statement.Block 36 (Execute
     (Statement.FreeUnique 38 (name_at 44 "p")) (Execute (Statement.Break 48) NoItems)))) (Execute (returns 57 (number 64 0)) NoItems)) 67)) ∷ (main_returns
     69) ∷ [])
@@ -119,7 +126,8 @@ consumed_flow_11 = refl
 
 -- int f(int n, int *`U p) { while (n) { ufree(p); break; } ufree(p); return 0; } int main() { return 0; }
 consumed_flow_12 : first_fault
-    ((tree.FunctionItem (routine (int_at 0) (name_at 4 "f") ((member (int_at 6) (name_at 10 "n")) ∷ (member (type_at 13 tree.Int ((pointer (sign.Nullable 1) (Some
+    ((tree.FunctionItem (routine (int_at 0) (name_at 4 "f")
+    ((member (int_at 6) (name_at 10 "n")) ∷ (member (type_at 13 tree.Int ((pointer (sign.Nullable 1) (Some
     (tree.Unique 18))) ∷ [])) (name_at 21 "p")) ∷ []) None [] (Execute (Statement.While 26 (variable_at 33 "n") (Statement.Block 36 (Execute
     (Statement.FreeUnique 38 (name_at 44 "p")) (Execute (Statement.Break 48) NoItems)))) (Execute (Statement.FreeUnique 57 (name_at 63 "p")) (Execute (returns
     67 (number 74 0)) NoItems))) 77)) ∷ (main_returns 79) ∷ [])
@@ -128,7 +136,8 @@ consumed_flow_12 = refl
 
 -- int f(int n, int *`U p) { while (n) { n = n - 1; if (n) { ufree(p); continue; } } return 0; } int main() { return 0; }
 consumed_flow_13 : first_fault
-    ((tree.FunctionItem (routine (int_at 0) (name_at 4 "f") ((member (int_at 6) (name_at 10 "n")) ∷ (member (type_at 13 tree.Int ((pointer (sign.Nullable 1) (Some
+    ((tree.FunctionItem (routine (int_at 0) (name_at 4 "f")
+    ((member (int_at 6) (name_at 10 "n")) ∷ (member (type_at 13 tree.Int ((pointer (sign.Nullable 1) (Some
     (tree.Unique 18))) ∷ [])) (name_at 21 "p")) ∷ []) None [] (Execute (Statement.While 26 (variable_at 33 "n") (Statement.Block 36 (Execute (Statement.Run
     (Expression.Assign (variable_at 38 "n") (Expression.Chain (variable_at 42 "n") (MoreLinks Subtract (number 46 1) NoLinks)))) (Execute (Statement.If 49
     (variable_at 53 "n") (Statement.Block 56 (Execute (Statement.FreeUnique 58 (name_at 64 "p")) (Execute (Statement.Continue 68) NoItems)))) NoItems))))
@@ -138,8 +147,10 @@ consumed_flow_13 = refl
 
 -- int f(int n, int *`U p, int *`U q) { while (n) { ufree(q); q = p; p = NULL; ufree(q); } return 0; } int main() { return 0; }
 consumed_flow_14 : first_fault
-    ((tree.FunctionItem (routine (int_at 0) (name_at 4 "f") ((member (int_at 6) (name_at 10 "n")) ∷ (member (type_at 13 tree.Int ((pointer (sign.Nullable 1) (Some
-    (tree.Unique 18))) ∷ [])) (name_at 21 "p")) ∷ (member (type_at 24 tree.Int ((pointer (sign.Nullable 1) (Some (tree.Unique 29))) ∷ [])) (name_at 32 "q")) ∷ [])
+    ((tree.FunctionItem (routine (int_at 0) (name_at 4 "f")
+    ((member (int_at 6) (name_at 10 "n")) ∷ (member (type_at 13 tree.Int ((pointer (sign.Nullable 1) (Some
+    (tree.Unique 18))) ∷ [])) (name_at 21 "p"))
+    ∷ (member (type_at 24 tree.Int ((pointer (sign.Nullable 1) (Some (tree.Unique 29))) ∷ [])) (name_at 32 "q")) ∷ [])
     None [] (Execute (Statement.While 37 (variable_at 44 "n") (Statement.Block 47 (Execute (Statement.FreeUnique 49 (name_at 55 "q")) (Execute (Statement.Run
     (Expression.Assign (variable_at 59 "q") (variable_at 63 "p"))) (Execute (Statement.Run (Expression.Assign (variable_at 66 "p") (Expression.Null 70)))
     (Execute (Statement.FreeUnique 76 (name_at 82 "q")) NoItems)))))) (Execute (returns 88 (number 95 0)) NoItems)) 98)) ∷ (main_returns 100) ∷ [])
@@ -182,7 +193,8 @@ consumed_flow_18 = refl
 
 -- struct B { int *`U p; int x; }; int main() { struct B b = B(NULL, 1); struct B c = b; b.p = NULL; return 0; }
 consumed_flow_19 : first_fault
-    ((tree.StructItem (structure 0 (name_at 7 "B") [] ((member (type_at 11 tree.Int ((pointer (sign.Nullable 1) (Some (tree.Unique 16))) ∷ [])) (name_at 19 "p")) ∷
+    ((tree.StructItem (structure 0 (name_at 7 "B") []
+    ((member (type_at 11 tree.Int ((pointer (sign.Nullable 1) (Some (tree.Unique 16))) ∷ [])) (name_at 19 "p")) ∷
     (member (int_at 22) (name_at 26 "x")) ∷ []))) ∷ (main_at 32 (Declare (tree.Local (type_at 45 (tree.Struct (name_at 52 "B") []) []) (name_at 54 "b")
     (Initializer.Value (Expression.Call (name_at 58 "B") (MoreExpressions (Expression.Null 60) (MoreExpressions (number 66 1) NoExpressions))))) (Declare
     (tree.Local (type_at 70 (tree.Struct (name_at 77 "B") []) []) (name_at 79 "c") (Initializer.Value (variable_at 83 "b"))) (Execute (Statement.Run
@@ -193,7 +205,8 @@ consumed_flow_19 = refl
 
 -- struct B { int *`U p; int x; }; int main() { struct B b = B(NULL, 1); struct B c = b; c.x = b.x; return 0; }
 consumed_flow_20 : first_fault
-    ((tree.StructItem (structure 0 (name_at 7 "B") [] ((member (type_at 11 tree.Int ((pointer (sign.Nullable 1) (Some (tree.Unique 16))) ∷ [])) (name_at 19 "p")) ∷
+    ((tree.StructItem (structure 0 (name_at 7 "B") []
+    ((member (type_at 11 tree.Int ((pointer (sign.Nullable 1) (Some (tree.Unique 16))) ∷ [])) (name_at 19 "p")) ∷
     (member (int_at 22) (name_at 26 "x")) ∷ []))) ∷ (main_at 32 (Declare (tree.Local (type_at 45 (tree.Struct (name_at 52 "B") []) []) (name_at 54 "b")
     (Initializer.Value (Expression.Call (name_at 58 "B") (MoreExpressions (Expression.Null 60) (MoreExpressions (number 66 1) NoExpressions))))) (Declare
     (tree.Local (type_at 70 (tree.Struct (name_at 77 "B") []) []) (name_at 79 "c") (Initializer.Value (variable_at 83 "b"))) (Execute (Statement.Run
@@ -204,7 +217,8 @@ consumed_flow_20 = refl
 
 -- struct B { int *`U p; int x; }; int main() { struct B b = B(NULL, 1); struct B c = b; struct B d = b; return 0; }
 consumed_flow_21 : first_fault
-    ((tree.StructItem (structure 0 (name_at 7 "B") [] ((member (type_at 11 tree.Int ((pointer (sign.Nullable 1) (Some (tree.Unique 16))) ∷ [])) (name_at 19 "p")) ∷
+    ((tree.StructItem (structure 0 (name_at 7 "B") []
+    ((member (type_at 11 tree.Int ((pointer (sign.Nullable 1) (Some (tree.Unique 16))) ∷ [])) (name_at 19 "p")) ∷
     (member (int_at 22) (name_at 26 "x")) ∷ []))) ∷ (main_at 32 (Declare (tree.Local (type_at 45 (tree.Struct (name_at 52 "B") []) []) (name_at 54 "b")
     (Initializer.Value (Expression.Call (name_at 58 "B") (MoreExpressions (Expression.Null 60) (MoreExpressions (number 66 1) NoExpressions))))) (Declare
     (tree.Local (type_at 70 (tree.Struct (name_at 77 "B") []) []) (name_at 79 "c") (Initializer.Value (variable_at 83 "b"))) (Declare (tree.Local (type_at 86
@@ -215,7 +229,8 @@ consumed_flow_21 = refl
 
 -- struct B { int *`U p; int x; }; int main() { struct B b = B(NULL, 1); struct B c = b; b = B(NULL, 2); b.p = NULL; return 0; }
 consumed_flow_22 : first_fault
-    ((tree.StructItem (structure 0 (name_at 7 "B") [] ((member (type_at 11 tree.Int ((pointer (sign.Nullable 1) (Some (tree.Unique 16))) ∷ [])) (name_at 19 "p")) ∷
+    ((tree.StructItem (structure 0 (name_at 7 "B") []
+    ((member (type_at 11 tree.Int ((pointer (sign.Nullable 1) (Some (tree.Unique 16))) ∷ [])) (name_at 19 "p")) ∷
     (member (int_at 22) (name_at 26 "x")) ∷ []))) ∷ (main_at 32 (Declare (tree.Local (type_at 45 (tree.Struct (name_at 52 "B") []) []) (name_at 54 "b")
     (Initializer.Value (Expression.Call (name_at 58 "B") (MoreExpressions (Expression.Null 60) (MoreExpressions (number 66 1) NoExpressions))))) (Declare
     (tree.Local (type_at 70 (tree.Struct (name_at 77 "B") []) []) (name_at 79 "c") (Initializer.Value (variable_at 83 "b"))) (Execute (Statement.Run
@@ -247,7 +262,8 @@ consumed_flow_24 = refl
 consumed_flow_25 : first_fault
     ((tree.FunctionItem (routine (int_at 0) (name_at 4 "g") ((member (type_at 6 tree.Int ((pointer (sign.Nullable 1) (Some (tree.Unique 11))) ∷ [])) (name_at 14
     "p")) ∷ []) None [] (Execute (Statement.FreeUnique 19 (name_at 25 "p")) (Execute (returns 29 (number 36 1)) NoItems)) 39)) ∷ (tree.FunctionItem (routine
-    (int_at 41) (name_at 45 "f") ((member (int_at 47) (name_at 51 "c")) ∷ (member (type_at 54 tree.Int ((pointer (sign.Nullable 1) (Some (tree.Unique 59))) ∷ []))
+    (int_at 41) (name_at 45 "f") ((member (int_at 47) (name_at 51 "c"))
+    ∷ (member (type_at 54 tree.Int ((pointer (sign.Nullable 1) (Some (tree.Unique 59))) ∷ []))
     (name_at 62 "p")) ∷ []) None [] (Execute (Statement.If 67 (Expression.AllOf (variable_at 71 "c") (MoreExpressions (Expression.Call (name_at 76 "g")
     (MoreExpressions (variable_at 78 "p") NoExpressions)) NoExpressions)) (returns 82 (number 89 1))) (Execute (Statement.FreeUnique 92 (name_at 98 "p"))
     (Execute (returns 102 (number 109 0)) NoItems))) 112)) ∷ (main_returns 114) ∷ [])
@@ -258,7 +274,8 @@ consumed_flow_25 = refl
 consumed_flow_26 : first_fault
     ((tree.FunctionItem (routine (int_at 0) (name_at 4 "g") ((member (type_at 6 tree.Int ((pointer (sign.Nullable 1) (Some (tree.Unique 11))) ∷ [])) (name_at 14
     "p")) ∷ []) None [] (Execute (Statement.FreeUnique 19 (name_at 25 "p")) (Execute (returns 29 (number 36 1)) NoItems)) 39)) ∷ (tree.FunctionItem (routine
-    (int_at 41) (name_at 45 "f") ((member (int_at 47) (name_at 51 "c")) ∷ (member (type_at 54 tree.Int ((pointer (sign.Nullable 1) (Some (tree.Unique 59))) ∷ []))
+    (int_at 41) (name_at 45 "f") ((member (int_at 47) (name_at 51 "c"))
+    ∷ (member (type_at 54 tree.Int ((pointer (sign.Nullable 1) (Some (tree.Unique 59))) ∷ []))
     (name_at 62 "p")) ∷ []) None [] (Execute (Statement.If 67 (Expression.AnyOf (Expression.Call (name_at 71 "g") (MoreExpressions (variable_at 73 "p")
     NoExpressions)) (MoreExpressions (variable_at 79 "c") NoExpressions)) (returns 82 (number 89 1))) (Execute (Statement.FreeUnique 92 (name_at 98 "p"))
     (Execute (returns 102 (number 109 0)) NoItems))) 112)) ∷ (main_returns 114) ∷ [])
@@ -279,9 +296,11 @@ consumed_flow_27 = refl
 -- struct A { int ?a; }; int g(struct A @`U p) { ufree(p); return 0; } int f(struct A @`U p) { return p->a[g(p)]; } int main() { return 0; }
 consumed_flow_28 : first_fault
     ((tree.StructItem (structure 0 (name_at 7 "A") [] ((member (type_at 11 tree.Int ((pointer sign.Fat None) ∷ [])) (name_at 16 "a")) ∷ []))) ∷
-    (tree.FunctionItem (routine (int_at 22) (name_at 26 "g") ((member (type_at 28 (tree.Struct (name_at 35 "A") []) ((pointer (sign.NotNull 1) (Some (tree.Unique
+    (tree.FunctionItem (routine (int_at 22) (name_at 26 "g")
+    ((member (type_at 28 (tree.Struct (name_at 35 "A") []) ((pointer (sign.NotNull 1) (Some (tree.Unique
     38))) ∷ [])) (name_at 41 "p")) ∷ []) None [] (Execute (Statement.FreeUnique 46 (name_at 52 "p")) (Execute (returns 56 (number 63 0)) NoItems)) 66)) ∷
-    (tree.FunctionItem (routine (int_at 68) (name_at 72 "f") ((member (type_at 74 (tree.Struct (name_at 81 "A") []) ((pointer (sign.NotNull 1) (Some (tree.Unique
+    (tree.FunctionItem (routine (int_at 68) (name_at 72 "f")
+    ((member (type_at 74 (tree.Struct (name_at 81 "A") []) ((pointer (sign.NotNull 1) (Some (tree.Unique
     84))) ∷ [])) (name_at 87 "p")) ∷ []) None [] (Execute (Statement.Return 92 (Some (Expression.Suffixed (variable_at 99 "p") (Arrow (name_at 102 "a") (Index
     (Expression.Call (name_at 104 "g") (MoreExpressions (variable_at 106 "p") NoExpressions)) NoSuffixes))))) NoItems) 111)) ∷ (main_returns 113) ∷ [])
     ≡ Some (fault consumed_rule 99)
@@ -321,7 +340,8 @@ consumed_flow_31 = refl
 -- return 0; } int main() { return 0; }
 consumed_flow_32 : first_fault
     ((tree.UnionItem (structure 0 (name_at 14 "U") [] ((member (int_at 18) (name_at 22 "a")) ∷ (member (type_at 25 tree.Char []) (name_at 30 "b")) ∷ []))) ∷
-    (tree.FunctionItem (routine (int_at 36) (name_at 40 "f") ((member (type_at 42 tree.Int ((pointer (sign.Nullable 1) (Some (tree.Unique 47))) ∷ [])) (name_at 50
+    (tree.FunctionItem (routine (int_at 36) (name_at 40 "f")
+    ((member (type_at 42 tree.Int ((pointer (sign.Nullable 1) (Some (tree.Unique 47))) ∷ [])) (name_at 50
     "p")) ∷ []) None [] (Declare (tree.Local (type_at 55 (tree.Union (name_at 61 "U") []) []) (name_at 63 "x") (Initializer.Value (Expression.MakeUnion
     (name_at 67 "U") (name_at 69 "a") (number 71 1)))) (Execute (Statement.Switch 75 (variable_at 83 "x") (MoreClauses 88 (Case (name_at 95 "a") (name_at 99
     "v")) (Execute (Statement.FreeUnique 103 (name_at 109 "p")) (Execute (Statement.Break 113) NoItems)) (MoreClauses 120 (Case (name_at 127 "b") (name_at 131
@@ -334,7 +354,8 @@ consumed_flow_32 = refl
 -- return 0; } int main() { return 0; }
 consumed_flow_33 : first_fault
     ((tree.UnionItem (structure 0 (name_at 14 "U") [] ((member (int_at 18) (name_at 22 "a")) ∷ (member (type_at 25 tree.Char []) (name_at 30 "b")) ∷ []))) ∷
-    (tree.FunctionItem (routine (int_at 36) (name_at 40 "f") ((member (type_at 42 tree.Int ((pointer (sign.Nullable 1) (Some (tree.Unique 47))) ∷ [])) (name_at 50
+    (tree.FunctionItem (routine (int_at 36) (name_at 40 "f")
+    ((member (type_at 42 tree.Int ((pointer (sign.Nullable 1) (Some (tree.Unique 47))) ∷ [])) (name_at 50
     "p")) ∷ []) None [] (Declare (tree.Local (type_at 55 (tree.Union (name_at 61 "U") []) []) (name_at 63 "x") (Initializer.Value (Expression.MakeUnion
     (name_at 67 "U") (name_at 69 "a") (number 71 1)))) (Execute (Statement.Switch 75 (variable_at 83 "x") (MoreClauses 88 (Case (name_at 95 "a") (name_at 99
     "v")) (Execute (Statement.FreeUnique 103 (name_at 109 "p")) (Execute (returns 113 (number 120 1)) NoItems)) (MoreClauses 123 (Case (name_at 130 "b")

@@ -30,7 +30,8 @@ consumed_flow_36 = refl
 -- struct S { int f; }; int main() { while (1) { struct S *`U p = rnew(unique_region) S(1); putchar(46); } }
 consumed_flow_37 : first_fault
     ((tree.StructItem (structure 0 (name_at 7 "S") [] ((member (int_at 11) (name_at 15 "f")) ∷ []))) ∷ (main_at 21 (Execute (Statement.While 34 (number 41 1)
-    (Statement.Block 44 (Declare (tree.Local (type_at 46 (tree.Struct (name_at 53 "S") []) ((pointer (sign.Nullable 1) (Some (tree.Unique 56))) ∷ [])) (name_at 59
+    (Statement.Block 44 (Declare (tree.Local
+    (type_at 46 (tree.Struct (name_at 53 "S") []) ((pointer (sign.Nullable 1) (Some (tree.Unique 56))) ∷ [])) (name_at 59
     "p") (Initializer.Value (Expression.NewIn 63 (Expression.UniqueRegion 68) (One (Expression.Call (name_at 83 "S") (MoreExpressions (number 85 1)
     NoExpressions)))))) (Execute (Statement.Run (Expression.Call (name_at 89 "putchar") (MoreExpressions (number 97 46) NoExpressions))) NoItems)))) NoItems)
     104) ∷ [])
@@ -41,7 +42,8 @@ consumed_flow_37 = refl
 consumed_flow_38 : first_fault
     ((tree.StructItem (structure 0 (name_at 7 "S") [] ((member (int_at 11) (name_at 15 "f")) ∷ []))) ∷ (main_at 21 (Declare (tree.Local (int_at 34) (name_at 38
     "i") (Initializer.Value (number 42 0))) (Execute (Statement.While 45 (Expression.Chain (variable_at 52 "i") (MoreLinks Less (number 56 1000) NoLinks))
-    (Statement.Block 62 (Declare (tree.Local (type_at 64 (tree.Struct (name_at 71 "S") []) ((pointer (sign.Nullable 1) (Some (tree.Unique 74))) ∷ [])) (name_at 77
+    (Statement.Block 62 (Declare (tree.Local
+    (type_at 64 (tree.Struct (name_at 71 "S") []) ((pointer (sign.Nullable 1) (Some (tree.Unique 74))) ∷ [])) (name_at 77
     "p") (Initializer.Value (Expression.NewIn 81 (Expression.UniqueRegion 86) (One (Expression.Call (name_at 101 "S") (MoreExpressions (number 103 1)
     NoExpressions)))))) (Execute (Statement.FreeUnique 107 (name_at 113 "p")) (Execute (Statement.Run (Expression.Call (name_at 117 "putchar")
     (MoreExpressions (number 125 46) NoExpressions))) (Execute (Statement.Run (Expression.Assign (variable_at 130 "i") (Expression.Chain (variable_at 134 "i")

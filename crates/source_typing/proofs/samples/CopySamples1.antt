@@ -23,7 +23,8 @@ copy_flow_1 = refl
 
 -- struct B { int *`U p; int x; }; int main() { struct B @b = new B(NULL, 1); int *`U t = b->p; return 0; }
 copy_flow_2 : first_fault
-    ((tree.StructItem (structure 0 (name_at 7 "B") [] ((member (type_at 11 tree.Int ((pointer (sign.Nullable 1) (Some (tree.Unique 16))) ∷ [])) (name_at 19 "p")) ∷
+    ((tree.StructItem (structure 0 (name_at 7 "B") []
+    ((member (type_at 11 tree.Int ((pointer (sign.Nullable 1) (Some (tree.Unique 16))) ∷ [])) (name_at 19 "p")) ∷
     (member (int_at 22) (name_at 26 "x")) ∷ []))) ∷ (main_at 32 (Declare (tree.Local (type_at 45 (tree.Struct (name_at 52 "B") []) ((pointer (sign.NotNull 1)
     None) ∷ [])) (name_at 55 "b") (Initializer.Value (Expression.New 59 (One (Expression.Call (name_at 63 "B") (MoreExpressions (Expression.Null 65)
     (MoreExpressions (number 71 1) NoExpressions))))))) (Declare (tree.Local (type_at 75 tree.Int ((pointer (sign.Nullable 1) (Some (tree.Unique 80))) ∷ []))
@@ -35,7 +36,8 @@ copy_flow_2 = refl
 -- the place inside the parentheses
 -- struct B { int *`U p; int x; }; int main() { struct B @b = new B(NULL, 1); int *`U t = (b->p); return 0; }
 copy_flow_3 : first_fault
-    ((tree.StructItem (structure 0 (name_at 7 "B") [] ((member (type_at 11 tree.Int ((pointer (sign.Nullable 1) (Some (tree.Unique 16))) ∷ [])) (name_at 19 "p")) ∷
+    ((tree.StructItem (structure 0 (name_at 7 "B") []
+    ((member (type_at 11 tree.Int ((pointer (sign.Nullable 1) (Some (tree.Unique 16))) ∷ [])) (name_at 19 "p")) ∷
     (member (int_at 22) (name_at 26 "x")) ∷ []))) ∷ (main_at 32 (Declare (tree.Local (type_at 45 (tree.Struct (name_at 52 "B") []) ((pointer (sign.NotNull 1)
     None) ∷ [])) (name_at 55 "b") (Initializer.Value (Expression.New 59 (One (Expression.Call (name_at 63 "B") (MoreExpressions (Expression.Null 65)
     (MoreExpressions (number 71 1) NoExpressions))))))) (Declare (tree.Local (type_at 75 tree.Int ((pointer (sign.Nullable 1) (Some (tree.Unique 80))) ∷ []))
@@ -46,7 +48,8 @@ copy_flow_3 = refl
 
 -- struct B { int *`U p; int x; }; int main() { struct B @b = new B(NULL, 1); b->p; return 0; }
 copy_flow_4 : first_fault
-    ((tree.StructItem (structure 0 (name_at 7 "B") [] ((member (type_at 11 tree.Int ((pointer (sign.Nullable 1) (Some (tree.Unique 16))) ∷ [])) (name_at 19 "p")) ∷
+    ((tree.StructItem (structure 0 (name_at 7 "B") []
+    ((member (type_at 11 tree.Int ((pointer (sign.Nullable 1) (Some (tree.Unique 16))) ∷ [])) (name_at 19 "p")) ∷
     (member (int_at 22) (name_at 26 "x")) ∷ []))) ∷ (main_at 32 (Declare (tree.Local (type_at 45 (tree.Struct (name_at 52 "B") []) ((pointer (sign.NotNull 1)
     None) ∷ [])) (name_at 55 "b") (Initializer.Value (Expression.New 59 (One (Expression.Call (name_at 63 "B") (MoreExpressions (Expression.Null 65)
     (MoreExpressions (number 71 1) NoExpressions))))))) (Execute (Statement.Run (Expression.Suffixed (variable_at 75 "b") (Arrow (name_at 78 "p")
@@ -57,7 +60,8 @@ copy_flow_4 = refl
 -- a test moves nothing
 -- struct B { int *`U p; int x; }; int main() { struct B @b = new B(NULL, 1); if (b->p == NULL) ; int x = b->x; return 0; }
 copy_flow_5 : first_fault
-    ((tree.StructItem (structure 0 (name_at 7 "B") [] ((member (type_at 11 tree.Int ((pointer (sign.Nullable 1) (Some (tree.Unique 16))) ∷ [])) (name_at 19 "p")) ∷
+    ((tree.StructItem (structure 0 (name_at 7 "B") []
+    ((member (type_at 11 tree.Int ((pointer (sign.Nullable 1) (Some (tree.Unique 16))) ∷ [])) (name_at 19 "p")) ∷
     (member (int_at 22) (name_at 26 "x")) ∷ []))) ∷ (main_at 32 (Declare (tree.Local (type_at 45 (tree.Struct (name_at 52 "B") []) ((pointer (sign.NotNull 1)
     None) ∷ [])) (name_at 55 "b") (Initializer.Value (Expression.New 59 (One (Expression.Call (name_at 63 "B") (MoreExpressions (Expression.Null 65)
     (MoreExpressions (number 71 1) NoExpressions))))))) (Execute (Statement.If 75 (Expression.Chain (Expression.Suffixed (variable_at 79 "b") (Arrow (name_at
@@ -69,7 +73,8 @@ copy_flow_5 = refl
 
 -- struct B { int *`U p; int x; }; int main() { struct B @b = new B(rnew(unique_region) 3, 1); int *`U t = NULL; t :=: b->p; int r = *t; ufree(t); return r; }
 copy_flow_6 : first_fault
-    ((tree.StructItem (structure 0 (name_at 7 "B") [] ((member (type_at 11 tree.Int ((pointer (sign.Nullable 1) (Some (tree.Unique 16))) ∷ [])) (name_at 19 "p")) ∷
+    ((tree.StructItem (structure 0 (name_at 7 "B") []
+    ((member (type_at 11 tree.Int ((pointer (sign.Nullable 1) (Some (tree.Unique 16))) ∷ [])) (name_at 19 "p")) ∷
     (member (int_at 22) (name_at 26 "x")) ∷ []))) ∷ (main_at 32 (Declare (tree.Local (type_at 45 (tree.Struct (name_at 52 "B") []) ((pointer (sign.NotNull 1)
     None) ∷ [])) (name_at 55 "b") (Initializer.Value (Expression.New 59 (One (Expression.Call (name_at 63 "B") (MoreExpressions (Expression.NewIn 65
     (Expression.UniqueRegion 70) (One (number 85 3))) (MoreExpressions (number 88 1) NoExpressions))))))) (Declare (tree.Local (type_at 92 tree.Int ((pointer
@@ -83,7 +88,8 @@ copy_flow_6 = refl
 -- a part of a local is no local
 -- struct B { int *`U p; int x; }; int main() { struct B b = B(NULL, 1); int *`U t = b.p; return 0; }
 copy_flow_7 : first_fault
-    ((tree.StructItem (structure 0 (name_at 7 "B") [] ((member (type_at 11 tree.Int ((pointer (sign.Nullable 1) (Some (tree.Unique 16))) ∷ [])) (name_at 19 "p")) ∷
+    ((tree.StructItem (structure 0 (name_at 7 "B") []
+    ((member (type_at 11 tree.Int ((pointer (sign.Nullable 1) (Some (tree.Unique 16))) ∷ [])) (name_at 19 "p")) ∷
     (member (int_at 22) (name_at 26 "x")) ∷ []))) ∷ (main_at 32 (Declare (tree.Local (type_at 45 (tree.Struct (name_at 52 "B") []) []) (name_at 54 "b")
     (Initializer.Value (Expression.Call (name_at 58 "B") (MoreExpressions (Expression.Null 60) (MoreExpressions (number 66 1) NoExpressions))))) (Declare
     (tree.Local (type_at 70 tree.Int ((pointer (sign.Nullable 1) (Some (tree.Unique 75))) ∷ [])) (name_at 78 "t") (Initializer.Value (Expression.Suffixed
@@ -93,7 +99,8 @@ copy_flow_7 = refl
 
 -- struct B { int *`U p; int x; }; int main() { struct B @b = new B(NULL, 1); struct B c = *b; return 0; }
 copy_flow_8 : first_fault
-    ((tree.StructItem (structure 0 (name_at 7 "B") [] ((member (type_at 11 tree.Int ((pointer (sign.Nullable 1) (Some (tree.Unique 16))) ∷ [])) (name_at 19 "p")) ∷
+    ((tree.StructItem (structure 0 (name_at 7 "B") []
+    ((member (type_at 11 tree.Int ((pointer (sign.Nullable 1) (Some (tree.Unique 16))) ∷ [])) (name_at 19 "p")) ∷
     (member (int_at 22) (name_at 26 "x")) ∷ []))) ∷ (main_at 32 (Declare (tree.Local (type_at 45 (tree.Struct (name_at 52 "B") []) ((pointer (sign.NotNull 1)
     None) ∷ [])) (name_at 55 "b") (Initializer.Value (Expression.New 59 (One (Expression.Call (name_at 63 "B") (MoreExpressions (Expression.Null 65)
     (MoreExpressions (number 71 1) NoExpressions))))))) (Declare (tree.Local (type_at 75 (tree.Struct (name_at 82 "B") []) []) (name_at 84 "c")
@@ -103,7 +110,8 @@ copy_flow_8 = refl
 
 -- int *`U g; int main() { int *`U t = g; return 0; }
 copy_flow_9 : first_fault
-    ((tree.GlobalItem (global (type_at 0 tree.Int ((pointer (sign.Nullable 1) (Some (tree.Unique 5))) ∷ [])) (name_at 8 "g") Initial.Unset)) ∷ (main_at 11 (Declare
+    ((tree.GlobalItem (global (type_at 0 tree.Int ((pointer (sign.Nullable 1) (Some (tree.Unique 5))) ∷ [])) (name_at 8 "g") Initial.Unset))
+    ∷ (main_at 11 (Declare
     (tree.Local (type_at 24 tree.Int ((pointer (sign.Nullable 1) (Some (tree.Unique 29))) ∷ [])) (name_at 32 "t") (Initializer.Value (variable_at 36 "g")))
     (Execute (returns 39 (number 46 0)) NoItems)) 49) ∷ [])
     ≡ Some (fault copy_rule 36)
@@ -111,14 +119,16 @@ copy_flow_9 = refl
 
 -- int *`U g; int main() { ufree(g); return 0; }
 copy_flow_10 : first_fault
-    ((tree.GlobalItem (global (type_at 0 tree.Int ((pointer (sign.Nullable 1) (Some (tree.Unique 5))) ∷ [])) (name_at 8 "g") Initial.Unset)) ∷ (main_at 11 (Execute
+    ((tree.GlobalItem (global (type_at 0 tree.Int ((pointer (sign.Nullable 1) (Some (tree.Unique 5))) ∷ [])) (name_at 8 "g") Initial.Unset))
+    ∷ (main_at 11 (Execute
     (Statement.FreeUnique 24 (name_at 30 "g")) (Execute (returns 34 (number 41 0)) NoItems)) 44) ∷ [])
     ≡ Some (fault copy_rule 24)
 copy_flow_10 = refl
 
 -- int *`U g; int main() { let alias<`r> int *`r x = g; return 0; }
 copy_flow_11 : first_fault
-    ((tree.GlobalItem (global (type_at 0 tree.Int ((pointer (sign.Nullable 1) (Some (tree.Unique 5))) ∷ [])) (name_at 8 "g") Initial.Unset)) ∷ (main_at 11 (Declare
+    ((tree.GlobalItem (global (type_at 0 tree.Int ((pointer (sign.Nullable 1) (Some (tree.Unique 5))) ∷ [])) (name_at 8 "g") Initial.Unset))
+    ∷ (main_at 11 (Declare
     (tree.Alias 24 (region_at 34 "r") (type_at 38 tree.Int ((pointer (sign.Nullable 1) (Some (region_at 43 "r"))) ∷ [])) (name_at 46 "x") (name_at 50 "g"))
     (Execute (returns 53 (number 60 0)) NoItems)) 63) ∷ [])
     ≡ Some (fault copy_rule 24)
@@ -126,14 +136,16 @@ copy_flow_11 = refl
 
 -- int *`U g; int main() { return *g; }
 copy_flow_12 : first_fault
-    ((tree.GlobalItem (global (type_at 0 tree.Int ((pointer (sign.Nullable 1) (Some (tree.Unique 5))) ∷ [])) (name_at 8 "g") Initial.Unset)) ∷ (main_at 11 (Execute
+    ((tree.GlobalItem (global (type_at 0 tree.Int ((pointer (sign.Nullable 1) (Some (tree.Unique 5))) ∷ [])) (name_at 8 "g") Initial.Unset))
+    ∷ (main_at 11 (Execute
     (returns 24 (Expression.Prefixed 31 Dereference (variable_at 32 "g"))) NoItems) 35) ∷ [])
     ≡ Some (fault copy_rule 31)
 copy_flow_12 = refl
 
 -- int *`U g; int main() { int *`U t = NULL; g = NULL; g :=: t; if (g == NULL) ; return 0; }
 copy_flow_13 : first_fault
-    ((tree.GlobalItem (global (type_at 0 tree.Int ((pointer (sign.Nullable 1) (Some (tree.Unique 5))) ∷ [])) (name_at 8 "g") Initial.Unset)) ∷ (main_at 11 (Declare
+    ((tree.GlobalItem (global (type_at 0 tree.Int ((pointer (sign.Nullable 1) (Some (tree.Unique 5))) ∷ [])) (name_at 8 "g") Initial.Unset))
+    ∷ (main_at 11 (Declare
     (tree.Local (type_at 24 tree.Int ((pointer (sign.Nullable 1) (Some (tree.Unique 29))) ∷ [])) (name_at 32 "t") (Initializer.Value (Expression.Null 36)))
     (Execute (Statement.Run (Expression.Assign (variable_at 42 "g") (Expression.Null 46))) (Execute (Statement.Exchange (variable_at 52 "g") (variable_at 58
     "t")) (Execute (Statement.If 61 (Expression.Chain (variable_at 65 "g") (MoreLinks Equal (Expression.Null 70) NoLinks)) (Statement.Empty 76)) (Execute
@@ -144,7 +156,8 @@ copy_flow_13 = refl
 -- a unique pointer is dereferenced through a local alone
 -- struct B { int *`U p; int x; }; int f(struct B @b) { return *b->p; } int main() { return 0; }
 copy_flow_14 : first_fault
-    ((tree.StructItem (structure 0 (name_at 7 "B") [] ((member (type_at 11 tree.Int ((pointer (sign.Nullable 1) (Some (tree.Unique 16))) ∷ [])) (name_at 19 "p")) ∷
+    ((tree.StructItem (structure 0 (name_at 7 "B") []
+    ((member (type_at 11 tree.Int ((pointer (sign.Nullable 1) (Some (tree.Unique 16))) ∷ [])) (name_at 19 "p")) ∷
     (member (int_at 22) (name_at 26 "x")) ∷ []))) ∷ (tree.FunctionItem (routine (int_at 32) (name_at 36 "f") ((member (type_at 38 (tree.Struct (name_at 45
     "B") []) ((pointer (sign.NotNull 1) None) ∷ [])) (name_at 48 "b")) ∷ []) None [] (Execute (Statement.Return 53 (Some (Expression.Prefixed 60 Dereference
     (Expression.Suffixed (variable_at 61 "b") (Arrow (name_at 64 "p") NoSuffixes))))) NoItems) 67)) ∷ (main_returns 69) ∷ [])
@@ -153,7 +166,8 @@ copy_flow_14 = refl
 
 -- struct L { struct L *`U next; }; int f(struct L @`U p) { p->next->next = NULL; return 0; } int main() { return 0; }
 copy_flow_15 : first_fault
-    ((tree.StructItem (structure 0 (name_at 7 "L") [] ((member (type_at 11 (tree.Struct (name_at 18 "L") []) ((pointer (sign.Nullable 1) (Some (tree.Unique 21))) ∷
+    ((tree.StructItem (structure 0 (name_at 7 "L") []
+    ((member (type_at 11 (tree.Struct (name_at 18 "L") []) ((pointer (sign.Nullable 1) (Some (tree.Unique 21))) ∷
     [])) (name_at 24 "next")) ∷ []))) ∷ (tree.FunctionItem (routine (int_at 33) (name_at 37 "f") ((member (type_at 39 (tree.Struct (name_at 46 "L") [])
     ((pointer (sign.NotNull 1) (Some (tree.Unique 49))) ∷ [])) (name_at 52 "p")) ∷ []) None [] (Execute (Statement.Run (Expression.Assign (Expression.Suffixed
     (variable_at 57 "p") (Arrow (name_at 60 "next") (Arrow (name_at 66 "next") NoSuffixes))) (Expression.Null 73))) (Execute (returns 79 (number 86 0))
@@ -163,7 +177,8 @@ copy_flow_15 = refl
 
 -- struct L { struct L *`U next; }; int f(struct L @`U p) { p->next = NULL; return 0; } int main() { return 0; }
 copy_flow_16 : first_fault
-    ((tree.StructItem (structure 0 (name_at 7 "L") [] ((member (type_at 11 (tree.Struct (name_at 18 "L") []) ((pointer (sign.Nullable 1) (Some (tree.Unique 21))) ∷
+    ((tree.StructItem (structure 0 (name_at 7 "L") []
+    ((member (type_at 11 (tree.Struct (name_at 18 "L") []) ((pointer (sign.Nullable 1) (Some (tree.Unique 21))) ∷
     [])) (name_at 24 "next")) ∷ []))) ∷ (tree.FunctionItem (routine (int_at 33) (name_at 37 "f") ((member (type_at 39 (tree.Struct (name_at 46 "L") [])
     ((pointer (sign.NotNull 1) (Some (tree.Unique 49))) ∷ [])) (name_at 52 "p")) ∷ []) None [] (Execute (Statement.Run (Expression.Assign (Expression.Suffixed
     (variable_at 57 "p") (Arrow (name_at 60 "next") NoSuffixes)) (Expression.Null 67))) (Execute (returns 73 (number 80 0)) NoItems)) 83)) ∷ (main_returns 85)
@@ -197,7 +212,8 @@ copy_flow_19 = refl
 
 -- struct B { int *`U p; int x; }; int main() { struct B b = B(NULL, 1); int *`U *q = &b.p; return 0; }
 copy_flow_20 : first_fault
-    ((tree.StructItem (structure 0 (name_at 7 "B") [] ((member (type_at 11 tree.Int ((pointer (sign.Nullable 1) (Some (tree.Unique 16))) ∷ [])) (name_at 19 "p")) ∷
+    ((tree.StructItem (structure 0 (name_at 7 "B") []
+    ((member (type_at 11 tree.Int ((pointer (sign.Nullable 1) (Some (tree.Unique 16))) ∷ [])) (name_at 19 "p")) ∷
     (member (int_at 22) (name_at 26 "x")) ∷ []))) ∷ (main_at 32 (Declare (tree.Local (type_at 45 (tree.Struct (name_at 52 "B") []) []) (name_at 54 "b")
     (Initializer.Value (Expression.Call (name_at 58 "B") (MoreExpressions (Expression.Null 60) (MoreExpressions (number 66 1) NoExpressions))))) (Declare
     (tree.Local (type_at 70 tree.Int ((pointer (sign.Nullable 1) (Some (tree.Unique 75))) ∷ (pointer (sign.Nullable 1) None) ∷ [])) (name_at 79 "q")
@@ -209,7 +225,8 @@ copy_flow_20 = refl
 -- a copyable part, too
 -- struct B { int *`U p; int x; }; int main() { struct B b = B(NULL, 1); int *q = &b.x; return 0; }
 copy_flow_21 : first_fault
-    ((tree.StructItem (structure 0 (name_at 7 "B") [] ((member (type_at 11 tree.Int ((pointer (sign.Nullable 1) (Some (tree.Unique 16))) ∷ [])) (name_at 19 "p")) ∷
+    ((tree.StructItem (structure 0 (name_at 7 "B") []
+    ((member (type_at 11 tree.Int ((pointer (sign.Nullable 1) (Some (tree.Unique 16))) ∷ [])) (name_at 19 "p")) ∷
     (member (int_at 22) (name_at 26 "x")) ∷ []))) ∷ (main_at 32 (Declare (tree.Local (type_at 45 (tree.Struct (name_at 52 "B") []) []) (name_at 54 "b")
     (Initializer.Value (Expression.Call (name_at 58 "B") (MoreExpressions (Expression.Null 60) (MoreExpressions (number 66 1) NoExpressions))))) (Declare
     (tree.Local (type_at 70 tree.Int ((pointer (sign.Nullable 1) None) ∷ [])) (name_at 75 "q") (Initializer.Value (Expression.Prefixed 79 AddressOf
@@ -219,11 +236,14 @@ copy_flow_21 = refl
 
 -- struct B { int *`U p; int x; }; int main() { struct B @b = new B(NULL, 1); int *`U *q = &b->p; int *r = &b->x; return 0; }
 copy_flow_22 : first_fault
-    ((tree.StructItem (structure 0 (name_at 7 "B") [] ((member (type_at 11 tree.Int ((pointer (sign.Nullable 1) (Some (tree.Unique 16))) ∷ [])) (name_at 19 "p")) ∷
+    ((tree.StructItem (structure 0 (name_at 7 "B") []
+    ((member (type_at 11 tree.Int ((pointer (sign.Nullable 1) (Some (tree.Unique 16))) ∷ [])) (name_at 19 "p")) ∷
     (member (int_at 22) (name_at 26 "x")) ∷ []))) ∷ (main_at 32 (Declare (tree.Local (type_at 45 (tree.Struct (name_at 52 "B") []) ((pointer (sign.NotNull 1)
     None) ∷ [])) (name_at 55 "b") (Initializer.Value (Expression.New 59 (One (Expression.Call (name_at 63 "B") (MoreExpressions (Expression.Null 65)
-    (MoreExpressions (number 71 1) NoExpressions))))))) (Declare (tree.Local (type_at 75 tree.Int ((pointer (sign.Nullable 1) (Some (tree.Unique 80))) ∷ (pointer
-    (sign.Nullable 1) None) ∷ [])) (name_at 84 "q") (Initializer.Value (Expression.Prefixed 88 AddressOf (Expression.Suffixed (variable_at 89 "b") (Arrow (name_at
+    (MoreExpressions (number 71 1) NoExpressions)))))))
+    (Declare (tree.Local (type_at 75 tree.Int ((pointer (sign.Nullable 1) (Some (tree.Unique 80))) ∷ (pointer
+    (sign.Nullable 1) None) ∷ [])) (name_at 84 "q")
+    (Initializer.Value (Expression.Prefixed 88 AddressOf (Expression.Suffixed (variable_at 89 "b") (Arrow (name_at
     92 "p") NoSuffixes))))) (Declare (tree.Local (type_at 95 tree.Int ((pointer (sign.Nullable 1) None) ∷ [])) (name_at 100 "r") (Initializer.Value
     (Expression.Prefixed 104 AddressOf (Expression.Suffixed (variable_at 105 "b") (Arrow (name_at 108 "x") NoSuffixes))))) (Execute (returns 111 (number 118
     0)) NoItems)))) 121) ∷ [])
@@ -279,7 +299,8 @@ copy_flow_27 = refl
 -- a global one is
 -- int *`U a[2]; int main() { int *`U t = NULL; a[0] = NULL; a[1] :=: t; int *`U @q = &a[0]; return 0; }
 copy_flow_28 : first_fault
-    ((tree.GlobalItem (global (type_at 0 tree.Int ((pointer (sign.Nullable 1) (Some (tree.Unique 5))) ∷ [])) (name_at 8 "a") (Initial.Elements 2))) ∷ (main_at 14
+    ((tree.GlobalItem (global (type_at 0 tree.Int ((pointer (sign.Nullable 1) (Some (tree.Unique 5))) ∷ [])) (name_at 8 "a") (Initial.Elements 2)))
+    ∷ (main_at 14
     (Declare (tree.Local (type_at 27 tree.Int ((pointer (sign.Nullable 1) (Some (tree.Unique 32))) ∷ [])) (name_at 35 "t") (Initializer.Value (Expression.Null
     39))) (Execute (Statement.Run (Expression.Assign (Expression.Suffixed (variable_at 45 "a") (Index (number 47 0) NoSuffixes)) (Expression.Null 52)))
     (Execute (Statement.Exchange (Expression.Suffixed (variable_at 58 "a") (Index (number 60 1) NoSuffixes)) (variable_at 67 "t")) (Declare (tree.Local
@@ -291,8 +312,10 @@ copy_flow_28 = refl
 
 -- int *`U a[2]; int main() { int *`U t = a[0]; return 0; }
 copy_flow_29 : first_fault
-    ((tree.GlobalItem (global (type_at 0 tree.Int ((pointer (sign.Nullable 1) (Some (tree.Unique 5))) ∷ [])) (name_at 8 "a") (Initial.Elements 2))) ∷ (main_at 14
-    (Declare (tree.Local (type_at 27 tree.Int ((pointer (sign.Nullable 1) (Some (tree.Unique 32))) ∷ [])) (name_at 35 "t") (Initializer.Value (Expression.Suffixed
+    ((tree.GlobalItem (global (type_at 0 tree.Int ((pointer (sign.Nullable 1) (Some (tree.Unique 5))) ∷ [])) (name_at 8 "a") (Initial.Elements 2)))
+    ∷ (main_at 14
+    (Declare (tree.Local (type_at 27 tree.Int ((pointer (sign.Nullable 1) (Some (tree.Unique 32))) ∷ [])) (name_at 35 "t")
+    (Initializer.Value (Expression.Suffixed
     (variable_at 39 "a") (Index (number 41 0) NoSuffixes)))) (Execute (returns 45 (number 52 0)) NoItems)) 55) ∷ [])
     ≡ Some (fault copy_rule 39)
 copy_flow_29 = refl
@@ -310,7 +333,8 @@ copy_flow_30 = refl
 
 -- struct B { int *`U p; int x; }; int *`U f(struct B @b) { return b->p; } int main() { return 0; }
 copy_flow_31 : first_fault
-    ((tree.StructItem (structure 0 (name_at 7 "B") [] ((member (type_at 11 tree.Int ((pointer (sign.Nullable 1) (Some (tree.Unique 16))) ∷ [])) (name_at 19 "p")) ∷
+    ((tree.StructItem (structure 0 (name_at 7 "B") []
+    ((member (type_at 11 tree.Int ((pointer (sign.Nullable 1) (Some (tree.Unique 16))) ∷ [])) (name_at 19 "p")) ∷
     (member (int_at 22) (name_at 26 "x")) ∷ []))) ∷ (tree.FunctionItem (routine (type_at 32 tree.Int ((pointer (sign.Nullable 1) (Some (tree.Unique 37))) ∷ []))
     (name_at 40 "f") ((member (type_at 42 (tree.Struct (name_at 49 "B") []) ((pointer (sign.NotNull 1) None) ∷ [])) (name_at 52 "b")) ∷ []) None [] (Execute
     (Statement.Return 57 (Some (Expression.Suffixed (variable_at 64 "b") (Arrow (name_at 67 "p") NoSuffixes)))) NoItems) 70)) ∷ (main_returns 72) ∷ [])
@@ -319,7 +343,8 @@ copy_flow_31 = refl
 
 -- struct B { int *`U p; int x; }; struct D { struct B b; }; int main() { struct D @d = new D(B(NULL, 1)); struct B b = d->b; return 0; }
 copy_flow_32 : first_fault
-    ((tree.StructItem (structure 0 (name_at 7 "B") [] ((member (type_at 11 tree.Int ((pointer (sign.Nullable 1) (Some (tree.Unique 16))) ∷ [])) (name_at 19 "p")) ∷
+    ((tree.StructItem (structure 0 (name_at 7 "B") []
+    ((member (type_at 11 tree.Int ((pointer (sign.Nullable 1) (Some (tree.Unique 16))) ∷ [])) (name_at 19 "p")) ∷
     (member (int_at 22) (name_at 26 "x")) ∷ []))) ∷ (tree.StructItem (structure 32 (name_at 39 "D") [] ((member (type_at 43 (tree.Struct (name_at 50 "B") [])
     []) (name_at 52 "b")) ∷ []))) ∷ (main_at 58 (Declare (tree.Local (type_at 71 (tree.Struct (name_at 78 "D") []) ((pointer (sign.NotNull 1) None) ∷ []))
     (name_at 81 "d") (Initializer.Value (Expression.New 85 (One (Expression.Call (name_at 89 "D") (MoreExpressions (Expression.Call (name_at 91 "B")
@@ -332,12 +357,14 @@ copy_flow_32 = refl
 -- struct B { int *`U p; int x; }; struct B @g(struct B *`U b) { ufree(b); return new B(NULL, 2); } int main() { struct B *`U b = rnew(unique_region) B(NULL,
 -- 1); return 0; }
 copy_flow_33 : first_fault
-    ((tree.StructItem (structure 0 (name_at 7 "B") [] ((member (type_at 11 tree.Int ((pointer (sign.Nullable 1) (Some (tree.Unique 16))) ∷ [])) (name_at 19 "p")) ∷
+    ((tree.StructItem (structure 0 (name_at 7 "B") []
+    ((member (type_at 11 tree.Int ((pointer (sign.Nullable 1) (Some (tree.Unique 16))) ∷ [])) (name_at 19 "p")) ∷
     (member (int_at 22) (name_at 26 "x")) ∷ []))) ∷ (tree.FunctionItem (routine (type_at 32 (tree.Struct (name_at 39 "B") []) ((pointer (sign.NotNull 1) None) ∷
     [])) (name_at 42 "g") ((member (type_at 44 (tree.Struct (name_at 51 "B") []) ((pointer (sign.Nullable 1) (Some (tree.Unique 54))) ∷ [])) (name_at 57 "b")) ∷
     []) None [] (Execute (Statement.FreeUnique 62 (name_at 68 "b")) (Execute (Statement.Return 72 (Some (Expression.New 79 (One (Expression.Call (name_at 83
     "B") (MoreExpressions (Expression.Null 85) (MoreExpressions (number 91 2) NoExpressions))))))) NoItems)) 95)) ∷ (main_at 97 (Declare (tree.Local (type_at
-    110 (tree.Struct (name_at 117 "B") []) ((pointer (sign.Nullable 1) (Some (tree.Unique 120))) ∷ [])) (name_at 123 "b") (Initializer.Value (Expression.NewIn 127
+    110 (tree.Struct (name_at 117 "B") []) ((pointer (sign.Nullable 1) (Some (tree.Unique 120))) ∷ [])) (name_at 123 "b")
+    (Initializer.Value (Expression.NewIn 127
     (Expression.UniqueRegion 132) (One (Expression.Call (name_at 147 "B") (MoreExpressions (Expression.Null 149) (MoreExpressions (number 155 1)
     NoExpressions))))))) (Execute (returns 159 (number 166 0)) NoItems)) 169) ∷ [])
     ≡ None
@@ -347,11 +374,13 @@ copy_flow_33 = refl
 -- struct B { int *`U p; int x; }; struct B *`r f(int *`r q) { return NULL; } struct Q<`r> { int *`U *`r m; }; int main() { region<`r> h; struct Q<`r> *`U q =
 -- rnew(unique_region) Q(rnew(h) f(NULL)->p); return 0; }
 copy_flow_34 : first_fault
-    ((tree.StructItem (structure 0 (name_at 7 "B") [] ((member (type_at 11 tree.Int ((pointer (sign.Nullable 1) (Some (tree.Unique 16))) ∷ [])) (name_at 19 "p")) ∷
+    ((tree.StructItem (structure 0 (name_at 7 "B") []
+    ((member (type_at 11 tree.Int ((pointer (sign.Nullable 1) (Some (tree.Unique 16))) ∷ [])) (name_at 19 "p")) ∷
     (member (int_at 22) (name_at 26 "x")) ∷ []))) ∷ (tree.FunctionItem (routine (type_at 32 (tree.Struct (name_at 39 "B") []) ((pointer (sign.Nullable 1) (Some
     (region_at 42 "r"))) ∷ [])) (name_at 45 "f") ((member (type_at 47 tree.Int ((pointer (sign.Nullable 1) (Some (region_at 52 "r"))) ∷ [])) (name_at 55 "q")) ∷
     []) None [] (Execute (returns 60 (Expression.Null 67)) NoItems) 73)) ∷ (tree.StructItem (structure 75 (name_at 82 "Q") ((region_at 84 "r") ∷ []) ((member
-    (type_at 90 tree.Int ((pointer (sign.Nullable 1) (Some (tree.Unique 95))) ∷ (pointer (sign.Nullable 1) (Some (region_at 99 "r"))) ∷ [])) (name_at 102 "m")) ∷
+    (type_at 90 tree.Int ((pointer (sign.Nullable 1) (Some (tree.Unique 95))) ∷ (pointer (sign.Nullable 1) (Some (region_at 99 "r"))) ∷ []))
+    (name_at 102 "m")) ∷
     []))) ∷ (main_at 108 (Declare (tree.Region 121 (region_at 128 "r") (name_at 132 "h")) (Declare (tree.Local (type_at 135 (tree.Struct (name_at 142 "Q")
     ((region_at 144 "r") ∷ [])) ((pointer (sign.Nullable 1) (Some (tree.Unique 149))) ∷ [])) (name_at 152 "q") (Initializer.Value (Expression.NewIn 156
     (Expression.UniqueRegion 161) (One (Expression.Call (name_at 176 "Q") (MoreExpressions (Expression.NewIn 178 (variable_at 183 "h") (One

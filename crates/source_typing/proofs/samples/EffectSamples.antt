@@ -18,9 +18,11 @@ effect_1 = refl
 
 -- int f(int *`r p) { return *p; } int g(int *`r p; {}) { return f(p); } int main() { return 0; }
 effect_2 : typing_fault false
-    ((tree.FunctionItem (routine (int_at 0) (name_at 4 "f") ((member (type_at 6 tree.Int ((pointer (sign.Nullable 1) (Some (region_at 11 "r"))) ∷ [])) (name_at 14
+    ((tree.FunctionItem (routine (int_at 0) (name_at 4 "f")
+    ((member (type_at 6 tree.Int ((pointer (sign.Nullable 1) (Some (region_at 11 "r"))) ∷ [])) (name_at 14
     "p")) ∷ []) None [] (Execute (returns 19 (Expression.Prefixed 26 Dereference (variable_at 27 "p"))) NoItems) 30)) ∷ (tree.FunctionItem (routine (int_at
-    32) (name_at 36 "g") ((member (type_at 38 tree.Int ((pointer (sign.Nullable 1) (Some (region_at 43 "r"))) ∷ [])) (name_at 46 "p")) ∷ []) (Some []) [] (Execute
+    32) (name_at 36 "g") ((member (type_at 38 tree.Int ((pointer (sign.Nullable 1) (Some (region_at 43 "r"))) ∷ [])) (name_at 46 "p")) ∷ [])
+    (Some []) [] (Execute
     (Statement.Return 55 (Some (Expression.Call (name_at 62 "f") (MoreExpressions (variable_at 64 "p") NoExpressions)))) NoItems) 68)) ∷ (main_returns 70) ∷
     [])
     ≡ Some (fault effect_rule 62)

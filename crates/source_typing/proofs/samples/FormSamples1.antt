@@ -89,7 +89,8 @@ form_11 = refl
 
 -- @tagged union U { int *`U p; }; int main() { return 0; }
 form_12 : first_fault
-    ((tree.UnionItem (structure 0 (name_at 14 "U") [] ((member (type_at 18 tree.Int ((pointer (sign.Nullable 1) (Some (tree.Unique 23))) ∷ [])) (name_at 26 "p")) ∷
+    ((tree.UnionItem (structure 0 (name_at 14 "U") []
+    ((member (type_at 18 tree.Int ((pointer (sign.Nullable 1) (Some (tree.Unique 23))) ∷ [])) (name_at 26 "p")) ∷
     []))) ∷ (main_returns 32) ∷ [])
     ≡ Some (fault type_rule 18)
 form_12 = refl
@@ -250,21 +251,24 @@ form_33 = refl
 
 -- int main() { int @x; return 0; }
 form_34 : first_fault
-    ((main_at 0 (Declare (tree.Local (type_at 13 tree.Int ((pointer (sign.NotNull 1) None) ∷ [])) (name_at 18 "x") Initializer.Unset) (Execute (returns 21 (number
+    ((main_at 0 (Declare (tree.Local (type_at 13 tree.Int ((pointer (sign.NotNull 1) None) ∷ [])) (name_at 18 "x") Initializer.Unset)
+    (Execute (returns 21 (number
     28 0)) NoItems)) 31) ∷ [])
     ≡ Some (fault type_rule 13)
 form_34 = refl
 
 -- int main() { int @`U x; return 0; }
 form_35 : first_fault
-    ((main_at 0 (Declare (tree.Local (type_at 13 tree.Int ((pointer (sign.NotNull 1) (Some (tree.Unique 18))) ∷ [])) (name_at 21 "x") Initializer.Unset) (Execute
+    ((main_at 0 (Declare (tree.Local (type_at 13 tree.Int ((pointer (sign.NotNull 1) (Some (tree.Unique 18))) ∷ []))
+    (name_at 21 "x") Initializer.Unset) (Execute
     (returns 24 (number 31 0)) NoItems)) 34) ∷ [])
     ≡ Some (fault type_rule 13)
 form_35 = refl
 
 -- struct S { int @p; }; int main() { struct S s; return 0; }
 form_36 : first_fault
-    ((tree.StructItem (structure 0 (name_at 7 "S") [] ((member (type_at 11 tree.Int ((pointer (sign.NotNull 1) None) ∷ [])) (name_at 16 "p")) ∷ []))) ∷ (main_at 22
+    ((tree.StructItem (structure 0 (name_at 7 "S") [] ((member (type_at 11 tree.Int ((pointer (sign.NotNull 1) None) ∷ [])) (name_at 16 "p")) ∷ [])))
+    ∷ (main_at 22
     (Declare (tree.Local (type_at 35 (tree.Struct (name_at 42 "S") []) []) (name_at 44 "s") Initializer.Unset) (Execute (returns 47 (number 54 0)) NoItems))
     57) ∷ [])
     ≡ Some (fault type_rule 35)

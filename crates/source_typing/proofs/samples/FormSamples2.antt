@@ -14,7 +14,8 @@ use Rattle.source_typing.proofs.samples.SampleTrees.{name_at, region_at, type_at
 
 -- struct S { int @p; }; int main() { struct S a[2]; return 0; }
 form_37 : first_fault
-    ((tree.StructItem (structure 0 (name_at 7 "S") [] ((member (type_at 11 tree.Int ((pointer (sign.NotNull 1) None) ∷ [])) (name_at 16 "p")) ∷ []))) ∷ (main_at 22
+    ((tree.StructItem (structure 0 (name_at 7 "S") [] ((member (type_at 11 tree.Int ((pointer (sign.NotNull 1) None) ∷ [])) (name_at 16 "p")) ∷ [])))
+    ∷ (main_at 22
     (Declare (tree.Local (type_at 35 (tree.Struct (name_at 42 "S") []) []) (name_at 44 "a") (Initializer.Elements 2)) (Execute (returns 50 (number 57 0))
     NoItems)) 60) ∷ [])
     ≡ Some (fault type_rule 35)
@@ -37,7 +38,8 @@ form_39 = refl
 
 -- int @x; int main() {  return 0; }
 form_40 : first_fault
-    ((tree.GlobalItem (global (type_at 0 tree.Int ((pointer (sign.NotNull 1) None) ∷ [])) (name_at 5 "x") Initial.Unset)) ∷ (main_at 8 (Execute (returns 22 (number
+    ((tree.GlobalItem (global (type_at 0 tree.Int ((pointer (sign.NotNull 1) None) ∷ [])) (name_at 5 "x") Initial.Unset))
+    ∷ (main_at 8 (Execute (returns 22 (number
     29 0)) NoItems) 32) ∷ [])
     ≡ Some (fault type_rule 0)
 form_40 = refl
@@ -52,7 +54,8 @@ form_41 = refl
 -- int *`H x; int *`U y; int *z; int main() {  return 0; }
 form_42 : first_fault
     ((tree.GlobalItem (global (type_at 0 tree.Int ((pointer (sign.Nullable 1) (Some (tree.Heap 5))) ∷ [])) (name_at 8 "x") Initial.Unset)) ∷ (tree.GlobalItem
-    (global (type_at 11 tree.Int ((pointer (sign.Nullable 1) (Some (tree.Unique 16))) ∷ [])) (name_at 19 "y") Initial.Unset)) ∷ (tree.GlobalItem (global (type_at
+    (global (type_at 11 tree.Int ((pointer (sign.Nullable 1) (Some (tree.Unique 16))) ∷ [])) (name_at 19 "y") Initial.Unset))
+    ∷ (tree.GlobalItem (global (type_at
     22 tree.Int ((pointer (sign.Nullable 1) None) ∷ [])) (name_at 27 "z") Initial.Unset)) ∷ (main_at 30 (Execute (returns 44 (number 51 0)) NoItems) 54) ∷ [])
     ≡ None
 form_42 = refl
@@ -66,7 +69,8 @@ form_43 = refl
 
 -- int *x = 1; int main() {  return 0; }
 form_44 : first_fault
-    ((tree.GlobalItem (global (type_at 0 tree.Int ((pointer (sign.Nullable 1) None) ∷ [])) (name_at 5 "x") (Initial.Given (Constant.Number 9 1 false)))) ∷ (main_at
+    ((tree.GlobalItem (global (type_at 0 tree.Int ((pointer (sign.Nullable 1) None) ∷ [])) (name_at 5 "x")
+    (Initial.Given (Constant.Number 9 1 false)))) ∷ (main_at
     12 (Execute (returns 26 (number 33 0)) NoItems) 36) ∷ [])
     ≡ Some (fault type_rule 9)
 form_44 = refl
@@ -89,7 +93,8 @@ form_46 = refl
 
 -- int @`U x = NULL; int main() {  return 0; }
 form_47 : first_fault
-    ((tree.GlobalItem (global (type_at 0 tree.Int ((pointer (sign.NotNull 1) (Some (tree.Unique 5))) ∷ [])) (name_at 8 "x") (Initial.Given (Constant.Null 12)))) ∷
+    ((tree.GlobalItem (global (type_at 0 tree.Int ((pointer (sign.NotNull 1) (Some (tree.Unique 5))) ∷ [])) (name_at 8 "x")
+    (Initial.Given (Constant.Null 12)))) ∷
     (main_at 18 (Execute (returns 32 (number 39 0)) NoItems) 42) ∷ [])
     ≡ Some (fault type_rule 0)
 form_47 = refl
@@ -118,7 +123,8 @@ form_50 = refl
 
 -- int main() { int x; int *p = &x; int y = p[0]; return 0; }
 form_51 : first_fault
-    ((main_at 0 (Declare (tree.Local (int_at 13) (name_at 17 "x") Initializer.Unset) (Declare (tree.Local (type_at 20 tree.Int ((pointer (sign.Nullable 1) None) ∷
+    ((main_at 0 (Declare (tree.Local (int_at 13) (name_at 17 "x") Initializer.Unset)
+    (Declare (tree.Local (type_at 20 tree.Int ((pointer (sign.Nullable 1) None) ∷
     [])) (name_at 25 "p") (Initializer.Value (Expression.Prefixed 29 AddressOf (variable_at 30 "x")))) (Declare (tree.Local (int_at 33) (name_at 37 "y")
     (Initializer.Value (Expression.Suffixed (variable_at 41 "p") (Index (number 43 0) NoSuffixes)))) (Execute (returns 47 (number 54 0)) NoItems)))) 57) ∷ [])
     ≡ None
@@ -231,7 +237,8 @@ form_64 = refl
 -- int main() { int *`U p = NULL; int *q = NULL; int x = p == q; return 0; }
 form_65 : first_fault
     ((main_at 0 (Declare (tree.Local (type_at 13 tree.Int ((pointer (sign.Nullable 1) (Some (tree.Unique 18))) ∷ [])) (name_at 21 "p") (Initializer.Value
-    (Expression.Null 25))) (Declare (tree.Local (type_at 31 tree.Int ((pointer (sign.Nullable 1) None) ∷ [])) (name_at 36 "q") (Initializer.Value (Expression.Null
+    (Expression.Null 25))) (Declare (tree.Local (type_at 31 tree.Int ((pointer (sign.Nullable 1) None) ∷ [])) (name_at 36 "q")
+    (Initializer.Value (Expression.Null
     40))) (Declare (tree.Local (int_at 46) (name_at 50 "x") (Initializer.Value (Expression.Chain (variable_at 54 "p") (MoreLinks Equal (variable_at 59 "q")
     NoLinks)))) (Execute (returns 62 (number 69 0)) NoItems)))) 72) ∷ [])
     ≡ Some (fault type_rule 54)

@@ -57,7 +57,8 @@ lent_flow_5 : first_fault
     ((main_at 0 (Declare (tree.Local (type_at 13 tree.Int ((pointer (sign.Nullable 1) (Some (tree.Unique 18))) ∷ [])) (name_at 21 "p") (Initializer.Value
     (Expression.Null 25))) (Declare (tree.Local (type_at 31 tree.Int ((pointer (sign.Nullable 1) (Some (tree.Unique 36))) ∷ [])) (name_at 39 "q")
     (Initializer.Value (Expression.Null 43))) (Execute (Statement.Block 49 (Declare (tree.Alias 51 (region_at 61 "r") (type_at 65 tree.Int ((pointer
-    (sign.Nullable 1) (Some (region_at 70 "r"))) ∷ [])) (name_at 73 "x") (name_at 77 "p")) (Execute (Statement.Exchange (variable_at 80 "q") (variable_at 86 "p"))
+    (sign.Nullable 1) (Some (region_at 70 "r"))) ∷ [])) (name_at 73 "x") (name_at 77 "p"))
+    (Execute (Statement.Exchange (variable_at 80 "q") (variable_at 86 "p"))
     NoItems))) (Execute (returns 91 (number 98 0)) NoItems)))) 101) ∷ [])
     ≡ Some (fault lent_rule 86)
 lent_flow_5 = refl
@@ -66,7 +67,8 @@ lent_flow_5 = refl
 lent_flow_6 : first_fault
     ((main_at 0 (Declare (tree.Local (type_at 13 tree.Int ((pointer (sign.Nullable 1) (Some (tree.Unique 18))) ∷ [])) (name_at 21 "p") (Initializer.Value
     (Expression.Null 25))) (Execute (Statement.Block 31 (Declare (tree.Alias 33 (region_at 43 "r") (type_at 47 tree.Int ((pointer (sign.Nullable 1) (Some
-    (region_at 52 "r"))) ∷ [])) (name_at 55 "x") (name_at 59 "p")) (Declare (tree.Local (type_at 62 tree.Int ((pointer (sign.Nullable 1) (Some (tree.Unique 67)))
+    (region_at 52 "r"))) ∷ [])) (name_at 55 "x") (name_at 59 "p"))
+    (Declare (tree.Local (type_at 62 tree.Int ((pointer (sign.Nullable 1) (Some (tree.Unique 67)))
     ∷ [])) (name_at 70 "q") (Initializer.Value (variable_at 74 "p"))) NoItems))) (Execute (returns 79 (number 86 0)) NoItems))) 89) ∷ [])
     ≡ Some (fault lent_rule 74)
 lent_flow_6 = refl
@@ -74,7 +76,8 @@ lent_flow_6 = refl
 -- int main() { int *`U p = NULL; let alias<`r> int *`r x = p; { let alias<`s> int *`s y = p; } return 0; }
 lent_flow_7 : first_fault
     ((main_at 0 (Declare (tree.Local (type_at 13 tree.Int ((pointer (sign.Nullable 1) (Some (tree.Unique 18))) ∷ [])) (name_at 21 "p") (Initializer.Value
-    (Expression.Null 25))) (Declare (tree.Alias 31 (region_at 41 "r") (type_at 45 tree.Int ((pointer (sign.Nullable 1) (Some (region_at 50 "r"))) ∷ [])) (name_at
+    (Expression.Null 25))) (Declare
+    (tree.Alias 31 (region_at 41 "r") (type_at 45 tree.Int ((pointer (sign.Nullable 1) (Some (region_at 50 "r"))) ∷ [])) (name_at
     53 "x") (name_at 57 "p")) (Execute (Statement.Block 60 (Declare (tree.Alias 62 (region_at 72 "s") (type_at 76 tree.Int ((pointer (sign.Nullable 1) (Some
     (region_at 81 "s"))) ∷ [])) (name_at 84 "y") (name_at 88 "p")) NoItems)) (Execute (returns 93 (number 100 0)) NoItems)))) 103) ∷ [])
     ≡ Some (fault lent_rule 88)
@@ -127,7 +130,8 @@ lent_flow_12 : first_fault
     ((main_at 0 (Declare (tree.NewKey 13 (region_at 35 "r") (name_at 39 "k")) (Declare (tree.Local (type_at 56 tree.Int ((pointer (sign.Nullable 1) (Some
     (region_at 61 "r"))) ∷ [])) (name_at 64 "p") (Initializer.Value (Expression.Null 68))) (Execute (Statement.Block 74 (Declare (tree.Open 76 (region_at 83
     "r") (name_at 87 "h") (name_at 96 "k")) (Execute (Statement.Run (Expression.Assign (variable_at 100 "p") (Expression.NewIn 104 (variable_at 109 "h") (One
-    (number 112 5))))) NoItems))) (Execute (Statement.FreeKey 117 (name_at 127 "k")) (Declare (tree.Local (type_at 131 tree.Int ((pointer (sign.Nullable 1) (Some
+    (number 112 5))))) NoItems))) (Execute (Statement.FreeKey 117 (name_at 127 "k"))
+    (Declare (tree.Local (type_at 131 tree.Int ((pointer (sign.Nullable 1) (Some
     (region_at 136 "r"))) ∷ [])) (name_at 139 "q") (Initializer.Value (Expression.New 143 (One (number 147 6))))) (Execute (Statement.If 150 (Expression.Chain
     (variable_at 154 "q") (MoreLinks Equal (Expression.Null 159) NoLinks)) (returns 165 (number 172 1))) (Execute (returns 175 (number 182 0)) NoItems)))))))
     185) ∷ [])
@@ -166,7 +170,8 @@ lent_flow_16 : first_fault
     ((main_at 0 (Declare (tree.NewKey 13 (region_at 35 "r") (name_at 39 "k")) (Declare (tree.Local (type_at 56 tree.Int ((pointer (sign.Nullable 1) (Some
     (region_at 61 "r"))) ∷ [])) (name_at 64 "p") (Initializer.Value (Expression.Null 68))) (Execute (Statement.Block 74 (Declare (tree.Open 76 (region_at 83
     "r") (name_at 87 "h") (name_at 96 "k")) (Execute (Statement.Run (Expression.Assign (variable_at 100 "p") (Expression.NewIn 104 (variable_at 109 "h") (One
-    (number 112 5))))) NoItems))) (Execute (Statement.FreeKey 117 (name_at 127 "k")) (Declare (tree.Local (type_at 131 tree.Int ((pointer (sign.Nullable 1) (Some
+    (number 112 5))))) NoItems))) (Execute (Statement.FreeKey 117 (name_at 127 "k"))
+    (Declare (tree.Local (type_at 131 tree.Int ((pointer (sign.Nullable 1) (Some
     (region_at 136 "r"))) ∷ [])) (name_at 139 "q") (Initializer.Value (Expression.New 143 (One (number 147 6))))) (Execute (Statement.If 150 (Expression.Chain
     (variable_at 154 "q") (MoreLinks Equal (Expression.Null 159) NoLinks)) (returns 165 (number 172 1))) (Execute (Statement.If 175 (Expression.Chain
     (variable_at 179 "q") (MoreLinks Equal (variable_at 184 "p") NoLinks)) (returns 187 (number 194 2))) (Execute (returns 197 (number 204 0)) NoItems))))))))

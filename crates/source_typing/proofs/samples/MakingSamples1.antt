@@ -34,7 +34,8 @@ making_3 = refl
 
 -- int main() { int h; int *p = rnew(h) 1; return 0; }
 making_4 : first_fault
-    ((main_at 0 (Declare (tree.Local (int_at 13) (name_at 17 "h") Initializer.Unset) (Declare (tree.Local (type_at 20 tree.Int ((pointer (sign.Nullable 1) None) ∷
+    ((main_at 0 (Declare (tree.Local (int_at 13) (name_at 17 "h") Initializer.Unset)
+    (Declare (tree.Local (type_at 20 tree.Int ((pointer (sign.Nullable 1) None) ∷
     [])) (name_at 25 "p") (Initializer.Value (Expression.NewIn 29 (variable_at 34 "h") (One (number 37 1))))) (Execute (returns 40 (number 47 0)) NoItems)))
     50) ∷ [])
     ≡ Some (fault type_rule 29)
@@ -45,7 +46,8 @@ making_4 = refl
 making_5 : first_fault
     ((tree.FunctionItem (routine (type_at 0 tree.Int ((pointer (sign.Nullable 1) (Some (region_at 5 "r"))) ∷ [])) (name_at 8 "f") ((member (type_at 10 tree.Int
     ((pointer (sign.Nullable 1) (Some (region_at 15 "r"))) ∷ [])) (name_at 18 "p")) ∷ []) None [] (Execute (returns 23 (variable_at 30 "p")) NoItems) 33)) ∷
-    (main_at 35 (Declare (tree.Local (int_at 48) (name_at 52 "h") Initializer.Unset) (Declare (tree.Local (type_at 55 tree.Int ((pointer (sign.Nullable 1) None) ∷
+    (main_at 35 (Declare (tree.Local (int_at 48) (name_at 52 "h") Initializer.Unset)
+    (Declare (tree.Local (type_at 55 tree.Int ((pointer (sign.Nullable 1) None) ∷
     [])) (name_at 60 "p") (Initializer.Value (Expression.NewIn 64 (variable_at 69 "h") (One (Expression.Call (name_at 72 "f") (MoreExpressions
     (Expression.Null 74) NoExpressions)))))) (Execute (returns 81 (number 88 0)) NoItems))) 91) ∷ [])
     ≡ Some (fault type_rule 64)
@@ -100,7 +102,8 @@ making_11 = refl
 -- int f(region_t<`r> h; {}) { int *`r p = rnew(h) 1; return 0; } int main() { return 0; }
 making_12 : first_fault
     ((tree.FunctionItem (routine (int_at 0) (name_at 4 "f") ((member (type_at 6 (tree.Handle (region_at 15 "r")) []) (name_at 19 "h")) ∷ []) (Some []) []
-    (Declare (tree.Local (type_at 28 tree.Int ((pointer (sign.Nullable 1) (Some (region_at 33 "r"))) ∷ [])) (name_at 36 "p") (Initializer.Value (Expression.NewIn
+    (Declare (tree.Local (type_at 28 tree.Int ((pointer (sign.Nullable 1) (Some (region_at 33 "r"))) ∷ [])) (name_at 36 "p")
+    (Initializer.Value (Expression.NewIn
     40 (variable_at 45 "h") (One (number 48 1))))) (Execute (returns 51 (number 58 0)) NoItems)) 61)) ∷ (main_returns 63) ∷ [])
     ≡ Some (fault region_rule 45)
 making_12 = refl
@@ -108,16 +111,19 @@ making_12 = refl
 -- int f(region_t<`r> h; {}) { int *`r p = rnew((h)) 1; return 0; } int main() { return 0; }
 making_13 : first_fault
     ((tree.FunctionItem (routine (int_at 0) (name_at 4 "f") ((member (type_at 6 (tree.Handle (region_at 15 "r")) []) (name_at 19 "h")) ∷ []) (Some []) []
-    (Declare (tree.Local (type_at 28 tree.Int ((pointer (sign.Nullable 1) (Some (region_at 33 "r"))) ∷ [])) (name_at 36 "p") (Initializer.Value (Expression.NewIn
+    (Declare (tree.Local (type_at 28 tree.Int ((pointer (sign.Nullable 1) (Some (region_at 33 "r"))) ∷ [])) (name_at 36 "p")
+    (Initializer.Value (Expression.NewIn
     40 (Expression.Grouped 45 (variable_at 46 "h")) (One (number 50 1))))) (Execute (returns 53 (number 60 0)) NoItems)) 63)) ∷ (main_returns 65) ∷ [])
     ≡ Some (fault region_rule 45)
 making_13 = refl
 
 -- struct S<`r> { int *`r p; }; int main() { region<`r> h; struct S<`r> @`r s = rnew(h) S(NULL); struct S<`H> @`r t = s; return 0; }
 making_14 : first_fault
-    ((tree.StructItem (structure 0 (name_at 7 "S") ((region_at 9 "r") ∷ []) ((member (type_at 15 tree.Int ((pointer (sign.Nullable 1) (Some (region_at 20 "r"))) ∷
+    ((tree.StructItem (structure 0 (name_at 7 "S") ((region_at 9 "r") ∷ [])
+    ((member (type_at 15 tree.Int ((pointer (sign.Nullable 1) (Some (region_at 20 "r"))) ∷
     [])) (name_at 23 "p")) ∷ []))) ∷ (main_at 29 (Declare (tree.Region 42 (region_at 49 "r") (name_at 53 "h")) (Declare (tree.Local (type_at 56 (tree.Struct
-    (name_at 63 "S") ((region_at 65 "r") ∷ [])) ((pointer (sign.NotNull 1) (Some (region_at 70 "r"))) ∷ [])) (name_at 73 "s") (Initializer.Value (Expression.NewIn
+    (name_at 63 "S") ((region_at 65 "r") ∷ [])) ((pointer (sign.NotNull 1) (Some (region_at 70 "r"))) ∷ [])) (name_at 73 "s")
+    (Initializer.Value (Expression.NewIn
     77 (variable_at 82 "h") (One (Expression.Call (name_at 85 "S") (MoreExpressions (Expression.Null 87) NoExpressions)))))) (Declare (tree.Local (type_at 94
     (tree.Struct (name_at 101 "S") ((tree.Heap 103) ∷ [])) ((pointer (sign.NotNull 1) (Some (region_at 108 "r"))) ∷ [])) (name_at 111 "t") (Initializer.Value
     (variable_at 115 "s"))) (Execute (returns 118 (number 125 0)) NoItems)))) 128) ∷ [])
@@ -127,9 +133,11 @@ making_14 = refl
 -- what nothing fixes is the region of the enclosing `rnew`
 -- struct S<`r> { int *`r p; }; int main() { region<`r> h; struct S<`r> @`r s = rnew(h) S(NULL); return 0; }
 making_15 : first_fault
-    ((tree.StructItem (structure 0 (name_at 7 "S") ((region_at 9 "r") ∷ []) ((member (type_at 15 tree.Int ((pointer (sign.Nullable 1) (Some (region_at 20 "r"))) ∷
+    ((tree.StructItem (structure 0 (name_at 7 "S") ((region_at 9 "r") ∷ [])
+    ((member (type_at 15 tree.Int ((pointer (sign.Nullable 1) (Some (region_at 20 "r"))) ∷
     [])) (name_at 23 "p")) ∷ []))) ∷ (main_at 29 (Declare (tree.Region 42 (region_at 49 "r") (name_at 53 "h")) (Declare (tree.Local (type_at 56 (tree.Struct
-    (name_at 63 "S") ((region_at 65 "r") ∷ [])) ((pointer (sign.NotNull 1) (Some (region_at 70 "r"))) ∷ [])) (name_at 73 "s") (Initializer.Value (Expression.NewIn
+    (name_at 63 "S") ((region_at 65 "r") ∷ [])) ((pointer (sign.NotNull 1) (Some (region_at 70 "r"))) ∷ [])) (name_at 73 "s")
+    (Initializer.Value (Expression.NewIn
     77 (variable_at 82 "h") (One (Expression.Call (name_at 85 "S") (MoreExpressions (Expression.Null 87) NoExpressions)))))) (Execute (returns 94 (number 101
     0)) NoItems))) 104) ∷ [])
     ≡ None
@@ -137,7 +145,8 @@ making_15 = refl
 
 -- struct S<`r> { int *`r p; }; int main() { region<`r> h; struct S<`r> s = S(NULL); return 0; }
 making_16 : first_fault
-    ((tree.StructItem (structure 0 (name_at 7 "S") ((region_at 9 "r") ∷ []) ((member (type_at 15 tree.Int ((pointer (sign.Nullable 1) (Some (region_at 20 "r"))) ∷
+    ((tree.StructItem (structure 0 (name_at 7 "S") ((region_at 9 "r") ∷ [])
+    ((member (type_at 15 tree.Int ((pointer (sign.Nullable 1) (Some (region_at 20 "r"))) ∷
     [])) (name_at 23 "p")) ∷ []))) ∷ (main_at 29 (Declare (tree.Region 42 (region_at 49 "r") (name_at 53 "h")) (Declare (tree.Local (type_at 56 (tree.Struct
     (name_at 63 "S") ((region_at 65 "r") ∷ [])) []) (name_at 69 "s") (Initializer.Value (Expression.Call (name_at 73 "S") (MoreExpressions (Expression.Null
     75) NoExpressions)))) (Execute (returns 82 (number 89 0)) NoItems))) 92) ∷ [])
@@ -146,8 +155,10 @@ making_16 = refl
 
 -- struct S<`r> { int *`r p; }; int main() { struct S<`H> *`U s = rnew(unique_region) S(NULL); return 0; }
 making_17 : first_fault
-    ((tree.StructItem (structure 0 (name_at 7 "S") ((region_at 9 "r") ∷ []) ((member (type_at 15 tree.Int ((pointer (sign.Nullable 1) (Some (region_at 20 "r"))) ∷
-    [])) (name_at 23 "p")) ∷ []))) ∷ (main_at 29 (Declare (tree.Local (type_at 42 (tree.Struct (name_at 49 "S") ((tree.Heap 51) ∷ [])) ((pointer (sign.Nullable 1)
+    ((tree.StructItem (structure 0 (name_at 7 "S") ((region_at 9 "r") ∷ [])
+    ((member (type_at 15 tree.Int ((pointer (sign.Nullable 1) (Some (region_at 20 "r"))) ∷
+    [])) (name_at 23 "p")) ∷ [])))
+    ∷ (main_at 29 (Declare (tree.Local (type_at 42 (tree.Struct (name_at 49 "S") ((tree.Heap 51) ∷ [])) ((pointer (sign.Nullable 1)
     (Some (tree.Unique 56))) ∷ [])) (name_at 59 "s") (Initializer.Value (Expression.NewIn 63 (Expression.UniqueRegion 68) (One (Expression.Call (name_at 83
     "S") (MoreExpressions (Expression.Null 85) NoExpressions)))))) (Execute (returns 92 (number 99 0)) NoItems)) 102) ∷ [])
     ≡ Some (fault region_rule 83)
@@ -155,7 +166,8 @@ making_17 = refl
 
 -- int f(int *`r p) { return 0; } int main() { int *`U p = NULL; return f(p); }
 making_18 : first_fault
-    ((tree.FunctionItem (routine (int_at 0) (name_at 4 "f") ((member (type_at 6 tree.Int ((pointer (sign.Nullable 1) (Some (region_at 11 "r"))) ∷ [])) (name_at 14
+    ((tree.FunctionItem (routine (int_at 0) (name_at 4 "f")
+    ((member (type_at 6 tree.Int ((pointer (sign.Nullable 1) (Some (region_at 11 "r"))) ∷ [])) (name_at 14
     "p")) ∷ []) None [] (Execute (returns 19 (number 26 0)) NoItems) 29)) ∷ (main_at 31 (Declare (tree.Local (type_at 44 tree.Int ((pointer (sign.Nullable 1)
     (Some (tree.Unique 49))) ∷ [])) (name_at 52 "p") (Initializer.Value (Expression.Null 56))) (Execute (Statement.Return 62 (Some (Expression.Call (name_at
     69 "f") (MoreExpressions (variable_at 71 "p") NoExpressions)))) NoItems)) 75) ∷ [])
@@ -165,7 +177,8 @@ making_18 = refl
 -- the other arguments are converted to the regions that are known
 -- int f(int *`r p, int *`s q) { return 0; } int main() { int x; int *`U u = NULL; return f(&x, u); }
 making_19 : first_fault
-    ((tree.FunctionItem (routine (int_at 0) (name_at 4 "f") ((member (type_at 6 tree.Int ((pointer (sign.Nullable 1) (Some (region_at 11 "r"))) ∷ [])) (name_at 14
+    ((tree.FunctionItem (routine (int_at 0) (name_at 4 "f")
+    ((member (type_at 6 tree.Int ((pointer (sign.Nullable 1) (Some (region_at 11 "r"))) ∷ [])) (name_at 14
     "p")) ∷ (member (type_at 17 tree.Int ((pointer (sign.Nullable 1) (Some (region_at 22 "s"))) ∷ [])) (name_at 25 "q")) ∷ []) None [] (Execute (returns 30
     (number 37 0)) NoItems) 40)) ∷ (main_at 42 (Declare (tree.Local (int_at 55) (name_at 59 "x") Initializer.Unset) (Declare (tree.Local (type_at 62 tree.Int
     ((pointer (sign.Nullable 1) (Some (tree.Unique 67))) ∷ [])) (name_at 70 "u") (Initializer.Value (Expression.Null 74))) (Execute (Statement.Return 80 (Some
@@ -176,10 +189,13 @@ making_19 = refl
 
 -- int f(int *`r o, int *`r p, int *`s q) { return 0; } int main() { int *`H h = NULL; int x; int *`U u = NULL; return f(h, &x, u); }
 making_20 : first_fault
-    ((tree.FunctionItem (routine (int_at 0) (name_at 4 "f") ((member (type_at 6 tree.Int ((pointer (sign.Nullable 1) (Some (region_at 11 "r"))) ∷ [])) (name_at 14
-    "o")) ∷ (member (type_at 17 tree.Int ((pointer (sign.Nullable 1) (Some (region_at 22 "r"))) ∷ [])) (name_at 25 "p")) ∷ (member (type_at 28 tree.Int ((pointer
+    ((tree.FunctionItem (routine (int_at 0) (name_at 4 "f")
+    ((member (type_at 6 tree.Int ((pointer (sign.Nullable 1) (Some (region_at 11 "r"))) ∷ [])) (name_at 14
+    "o")) ∷ (member (type_at 17 tree.Int ((pointer (sign.Nullable 1) (Some (region_at 22 "r"))) ∷ [])) (name_at 25 "p"))
+    ∷ (member (type_at 28 tree.Int ((pointer
     (sign.Nullable 1) (Some (region_at 33 "s"))) ∷ [])) (name_at 36 "q")) ∷ []) None [] (Execute (returns 41 (number 48 0)) NoItems) 51)) ∷ (main_at 53 (Declare
-    (tree.Local (type_at 66 tree.Int ((pointer (sign.Nullable 1) (Some (tree.Heap 71))) ∷ [])) (name_at 74 "h") (Initializer.Value (Expression.Null 78))) (Declare
+    (tree.Local (type_at 66 tree.Int ((pointer (sign.Nullable 1) (Some (tree.Heap 71))) ∷ [])) (name_at 74 "h")
+    (Initializer.Value (Expression.Null 78))) (Declare
     (tree.Local (int_at 84) (name_at 88 "x") Initializer.Unset) (Declare (tree.Local (type_at 91 tree.Int ((pointer (sign.Nullable 1) (Some (tree.Unique 96))) ∷
     [])) (name_at 99 "u") (Initializer.Value (Expression.Null 103))) (Execute (Statement.Return 109 (Some (Expression.Call (name_at 116 "f") (MoreExpressions
     (variable_at 118 "h") (MoreExpressions (Expression.Prefixed 121 AddressOf (variable_at 122 "x")) (MoreExpressions (variable_at 125 "u")
@@ -189,7 +205,8 @@ making_20 = refl
 
 -- int f(int *`r p) { return 0; } int main() { char *`U u = NULL; return f(u); }
 making_21 : first_fault
-    ((tree.FunctionItem (routine (int_at 0) (name_at 4 "f") ((member (type_at 6 tree.Int ((pointer (sign.Nullable 1) (Some (region_at 11 "r"))) ∷ [])) (name_at 14
+    ((tree.FunctionItem (routine (int_at 0) (name_at 4 "f")
+    ((member (type_at 6 tree.Int ((pointer (sign.Nullable 1) (Some (region_at 11 "r"))) ∷ [])) (name_at 14
     "p")) ∷ []) None [] (Execute (returns 19 (number 26 0)) NoItems) 29)) ∷ (main_at 31 (Declare (tree.Local (type_at 44 tree.Char ((pointer (sign.Nullable 1)
     (Some (tree.Unique 50))) ∷ [])) (name_at 53 "u") (Initializer.Value (Expression.Null 57))) (Execute (Statement.Return 63 (Some (Expression.Call (name_at
     70 "f") (MoreExpressions (variable_at 72 "u") NoExpressions)))) NoItems)) 76) ∷ [])
@@ -201,7 +218,8 @@ making_22 : first_fault
     ((tree.FunctionItem (routine (type_at 0 tree.Int ((pointer (sign.Nullable 1) (Some (region_at 5 "r"))) ∷ [])) (name_at 8 "f") ((member (type_at 10 tree.Int
     ((pointer (sign.Nullable 1) (Some (region_at 15 "r"))) ∷ [])) (name_at 18 "p")) ∷ (member (int_at 21) (name_at 25 "q")) ∷ []) None [] (Execute (returns 30
     (variable_at 37 "p")) NoItems) 40)) ∷ (main_at 42 (Declare (tree.Local (int_at 55) (name_at 59 "h") Initializer.Unset) (Declare (tree.Local (type_at 62
-    tree.Int ((pointer (sign.Nullable 1) None) ∷ [])) (name_at 67 "p") (Initializer.Value (Expression.NewIn 71 (variable_at 76 "h") (One (Expression.Call (name_at
+    tree.Int ((pointer (sign.Nullable 1) None) ∷ [])) (name_at 67 "p")
+    (Initializer.Value (Expression.NewIn 71 (variable_at 76 "h") (One (Expression.Call (name_at
     79 "f") (MoreExpressions (Expression.Null 81) (MoreExpressions (Expression.Null 87) NoExpressions))))))) (Execute (returns 94 (number 101 0)) NoItems)))
     104) ∷ [])
     ≡ Some (fault type_rule 87)

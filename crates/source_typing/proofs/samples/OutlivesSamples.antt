@@ -14,7 +14,8 @@ use Rattle.source_typing.proofs.samples.SampleTrees.{main_at, main_returns}
 
 -- int f(int *`r p, int *`s q) { p = q; return *p; } int main() { return 0; }
 outlives_1 : typing_fault false
-    ((tree.FunctionItem (routine (int_at 0) (name_at 4 "f") ((member (type_at 6 tree.Int ((pointer (sign.Nullable 1) (Some (region_at 11 "r"))) ∷ [])) (name_at 14
+    ((tree.FunctionItem (routine (int_at 0) (name_at 4 "f")
+    ((member (type_at 6 tree.Int ((pointer (sign.Nullable 1) (Some (region_at 11 "r"))) ∷ [])) (name_at 14
     "p")) ∷ (member (type_at 17 tree.Int ((pointer (sign.Nullable 1) (Some (region_at 22 "s"))) ∷ [])) (name_at 25 "q")) ∷ []) None [] (Execute (Statement.Run
     (Expression.Assign (variable_at 30 "p") (variable_at 34 "q"))) (Execute (returns 37 (Expression.Prefixed 44 Dereference (variable_at 45 "p"))) NoItems))
     48)) ∷ (main_returns 50) ∷ [])
@@ -24,7 +25,8 @@ outlives_1 = refl
 -- int *`r f(int *`r p, int *`s q) { return q; } int main() { return 0; }
 outlives_2 : typing_fault false
     ((tree.FunctionItem (routine (type_at 0 tree.Int ((pointer (sign.Nullable 1) (Some (region_at 5 "r"))) ∷ [])) (name_at 8 "f") ((member (type_at 10 tree.Int
-    ((pointer (sign.Nullable 1) (Some (region_at 15 "r"))) ∷ [])) (name_at 18 "p")) ∷ (member (type_at 21 tree.Int ((pointer (sign.Nullable 1) (Some (region_at 26
+    ((pointer (sign.Nullable 1) (Some (region_at 15 "r"))) ∷ [])) (name_at 18 "p"))
+    ∷ (member (type_at 21 tree.Int ((pointer (sign.Nullable 1) (Some (region_at 26
     "s"))) ∷ [])) (name_at 29 "q")) ∷ []) None [] (Execute (returns 34 (variable_at 41 "q")) NoItems) 44)) ∷ (main_returns 46) ∷ [])
     ≡ Some (fault outlives_rule 41)
 outlives_2 = refl
@@ -32,9 +34,11 @@ outlives_2 = refl
 -- void f(int *`r *p, int *`r q) { *p = q; } int main() { int x; int *p = &x; { int y; f(&p, &y); } return 0; }
 outlives_3 : typing_fault false
     ((tree.FunctionItem (routine (type_at 0 tree.Void []) (name_at 5 "f") ((member (type_at 7 tree.Int ((pointer (sign.Nullable 1) (Some (region_at 12 "r"))) ∷
-    (pointer (sign.Nullable 1) None) ∷ [])) (name_at 16 "p")) ∷ (member (type_at 19 tree.Int ((pointer (sign.Nullable 1) (Some (region_at 24 "r"))) ∷ [])) (name_at 27
+    (pointer (sign.Nullable 1) None) ∷ [])) (name_at 16 "p"))
+    ∷ (member (type_at 19 tree.Int ((pointer (sign.Nullable 1) (Some (region_at 24 "r"))) ∷ [])) (name_at 27
     "q")) ∷ []) None [] (Execute (Statement.Run (Expression.Assign (Expression.Prefixed 32 Dereference (variable_at 33 "p")) (variable_at 37 "q"))) NoItems)
-    40)) ∷ (main_at 42 (Declare (tree.Local (int_at 55) (name_at 59 "x") Initializer.Unset) (Declare (tree.Local (type_at 62 tree.Int ((pointer (sign.Nullable 1)
+    40)) ∷ (main_at 42 (Declare (tree.Local (int_at 55) (name_at 59 "x") Initializer.Unset)
+    (Declare (tree.Local (type_at 62 tree.Int ((pointer (sign.Nullable 1)
     None) ∷ [])) (name_at 67 "p") (Initializer.Value (Expression.Prefixed 71 AddressOf (variable_at 72 "x")))) (Execute (Statement.Block 75 (Declare
     (tree.Local (int_at 77) (name_at 81 "y") Initializer.Unset) (Execute (Statement.Run (Expression.Call (name_at 84 "f") (MoreExpressions
     (Expression.Prefixed 86 AddressOf (variable_at 87 "p")) (MoreExpressions (Expression.Prefixed 90 AddressOf (variable_at 91 "y")) NoExpressions))))
@@ -44,7 +48,8 @@ outlives_3 = refl
 
 -- int main() { int x; int *p = &x; { int y; p = &y; } return 0; }
 outlives_4 : typing_fault false
-    ((main_at 0 (Declare (tree.Local (int_at 13) (name_at 17 "x") Initializer.Unset) (Declare (tree.Local (type_at 20 tree.Int ((pointer (sign.Nullable 1) None) ∷
+    ((main_at 0 (Declare (tree.Local (int_at 13) (name_at 17 "x") Initializer.Unset)
+    (Declare (tree.Local (type_at 20 tree.Int ((pointer (sign.Nullable 1) None) ∷
     [])) (name_at 25 "p") (Initializer.Value (Expression.Prefixed 29 AddressOf (variable_at 30 "x")))) (Execute (Statement.Block 33 (Declare (tree.Local
     (int_at 35) (name_at 39 "y") Initializer.Unset) (Execute (Statement.Run (Expression.Assign (variable_at 42 "p") (Expression.Prefixed 46 AddressOf
     (variable_at 47 "y")))) NoItems))) (Execute (returns 52 (number 59 0)) NoItems)))) 62) ∷ [])
@@ -53,7 +58,8 @@ outlives_4 = refl
 
 -- int main() { int x; int *p; p = &x; return 0; }
 outlives_5 : typing_fault false
-    ((main_at 0 (Declare (tree.Local (int_at 13) (name_at 17 "x") Initializer.Unset) (Declare (tree.Local (type_at 20 tree.Int ((pointer (sign.Nullable 1) None) ∷
+    ((main_at 0 (Declare (tree.Local (int_at 13) (name_at 17 "x") Initializer.Unset)
+    (Declare (tree.Local (type_at 20 tree.Int ((pointer (sign.Nullable 1) None) ∷
     [])) (name_at 25 "p") Initializer.Unset) (Execute (Statement.Run (Expression.Assign (variable_at 28 "p") (Expression.Prefixed 32 AddressOf (variable_at 33
     "x")))) (Execute (returns 36 (number 43 0)) NoItems)))) 46) ∷ [])
     ≡ Some (fault outlives_rule 32)
@@ -70,7 +76,8 @@ outlives_6 = refl
 
 -- struct S<`r> { int *`r p; }; int main() { int x; struct S<`H> s = S(&x); return 0; }
 outlives_7 : typing_fault false
-    ((tree.StructItem (structure 0 (name_at 7 "S") ((region_at 9 "r") ∷ []) ((member (type_at 15 tree.Int ((pointer (sign.Nullable 1) (Some (region_at 20 "r"))) ∷
+    ((tree.StructItem (structure 0 (name_at 7 "S") ((region_at 9 "r") ∷ [])
+    ((member (type_at 15 tree.Int ((pointer (sign.Nullable 1) (Some (region_at 20 "r"))) ∷
     [])) (name_at 23 "p")) ∷ []))) ∷ (main_at 29 (Declare (tree.Local (int_at 42) (name_at 46 "x") Initializer.Unset) (Declare (tree.Local (type_at 49
     (tree.Struct (name_at 56 "S") ((tree.Heap 58) ∷ [])) []) (name_at 62 "s") (Initializer.Value (Expression.Call (name_at 66 "S") (MoreExpressions
     (Expression.Prefixed 68 AddressOf (variable_at 69 "x")) NoExpressions)))) (Execute (returns 73 (number 80 0)) NoItems))) 83) ∷ [])
@@ -87,10 +94,12 @@ outlives_8 = refl
 
 -- int f(int *`r p, int *`s q : `r > `s) { return 0; } int main() { int x; int *p = &x; { int y; f(&y, p); } return 0; }
 outlives_9 : typing_fault false
-    ((tree.FunctionItem (routine (int_at 0) (name_at 4 "f") ((member (type_at 6 tree.Int ((pointer (sign.Nullable 1) (Some (region_at 11 "r"))) ∷ [])) (name_at 14
+    ((tree.FunctionItem (routine (int_at 0) (name_at 4 "f")
+    ((member (type_at 6 tree.Int ((pointer (sign.Nullable 1) (Some (region_at 11 "r"))) ∷ [])) (name_at 14
     "p")) ∷ (member (type_at 17 tree.Int ((pointer (sign.Nullable 1) (Some (region_at 22 "s"))) ∷ [])) (name_at 25 "q")) ∷ []) None ((bound (region_at 29 "r")
     (region_at 34 "s")) ∷ []) (Execute (returns 40 (number 47 0)) NoItems) 50)) ∷ (main_at 52 (Declare (tree.Local (int_at 65) (name_at 69 "x")
-    Initializer.Unset) (Declare (tree.Local (type_at 72 tree.Int ((pointer (sign.Nullable 1) None) ∷ [])) (name_at 77 "p") (Initializer.Value (Expression.Prefixed
+    Initializer.Unset) (Declare (tree.Local (type_at 72 tree.Int ((pointer (sign.Nullable 1) None) ∷ [])) (name_at 77 "p")
+    (Initializer.Value (Expression.Prefixed
     81 AddressOf (variable_at 82 "x")))) (Execute (Statement.Block 85 (Declare (tree.Local (int_at 87) (name_at 91 "y") Initializer.Unset) (Execute
     (Statement.Run (Expression.Call (name_at 94 "f") (MoreExpressions (Expression.Prefixed 96 AddressOf (variable_at 97 "y")) (MoreExpressions (variable_at
     100 "p") NoExpressions)))) NoItems))) (Execute (returns 106 (number 113 0)) NoItems)))) 116) ∷ [])
@@ -99,8 +108,10 @@ outlives_9 = refl
 
 -- int f(int *`r p, int *`s q, int *`t u : `r > `s, `s > `t) { q = p; u = p; p = u; return 0; } int main() { return 0; }
 outlives_10 : typing_fault false
-    ((tree.FunctionItem (routine (int_at 0) (name_at 4 "f") ((member (type_at 6 tree.Int ((pointer (sign.Nullable 1) (Some (region_at 11 "r"))) ∷ [])) (name_at 14
-    "p")) ∷ (member (type_at 17 tree.Int ((pointer (sign.Nullable 1) (Some (region_at 22 "s"))) ∷ [])) (name_at 25 "q")) ∷ (member (type_at 28 tree.Int ((pointer
+    ((tree.FunctionItem (routine (int_at 0) (name_at 4 "f")
+    ((member (type_at 6 tree.Int ((pointer (sign.Nullable 1) (Some (region_at 11 "r"))) ∷ [])) (name_at 14
+    "p")) ∷ (member (type_at 17 tree.Int ((pointer (sign.Nullable 1) (Some (region_at 22 "s"))) ∷ [])) (name_at 25 "q"))
+    ∷ (member (type_at 28 tree.Int ((pointer
     (sign.Nullable 1) (Some (region_at 33 "t"))) ∷ [])) (name_at 36 "u")) ∷ []) None ((bound (region_at 40 "r") (region_at 45 "s")) ∷ (bound (region_at 49 "s")
     (region_at 54 "t")) ∷ []) (Execute (Statement.Run (Expression.Assign (variable_at 60 "q") (variable_at 64 "p"))) (Execute (Statement.Run
     (Expression.Assign (variable_at 67 "u") (variable_at 71 "p"))) (Execute (Statement.Run (Expression.Assign (variable_at 74 "p") (variable_at 78 "u")))
@@ -110,7 +121,8 @@ outlives_10 = refl
 
 -- int f(int *`r p; {}) { int x; int *q = &x; q = p; return 0; } int main() { return 0; }
 outlives_11 : typing_fault false
-    ((tree.FunctionItem (routine (int_at 0) (name_at 4 "f") ((member (type_at 6 tree.Int ((pointer (sign.Nullable 1) (Some (region_at 11 "r"))) ∷ [])) (name_at 14
+    ((tree.FunctionItem (routine (int_at 0) (name_at 4 "f")
+    ((member (type_at 6 tree.Int ((pointer (sign.Nullable 1) (Some (region_at 11 "r"))) ∷ [])) (name_at 14
     "p")) ∷ []) (Some []) [] (Declare (tree.Local (int_at 23) (name_at 27 "x") Initializer.Unset) (Declare (tree.Local (type_at 30 tree.Int ((pointer
     (sign.Nullable 1) None) ∷ [])) (name_at 35 "q") (Initializer.Value (Expression.Prefixed 39 AddressOf (variable_at 40 "x")))) (Execute (Statement.Run
     (Expression.Assign (variable_at 43 "q") (variable_at 47 "p"))) (Execute (returns 50 (number 57 0)) NoItems)))) 60)) ∷ (main_returns 62) ∷ [])
@@ -133,8 +145,10 @@ outlives_12 = refl
 outlives_13 : typing_fault false
     ((main_at 0 (Declare (tree.Local (type_at 13 tree.Int ((pointer (sign.Nullable 1) (Some (tree.Unique 18))) ∷ [])) (name_at 21 "u") (Initializer.Value
     (Expression.NewIn 25 (Expression.UniqueRegion 30) (One (number 45 1))))) (Execute (Statement.Block 48 (Declare (tree.Alias 50 (region_at 60 "a") (type_at
-    64 tree.Int ((pointer (sign.Nullable 1) (Some (region_at 69 "a"))) ∷ [])) (name_at 72 "p") (name_at 76 "u")) (Declare (tree.Local (int_at 79) (name_at 83 "x")
-    Initializer.Unset) (Declare (tree.Local (type_at 86 tree.Int ((pointer (sign.Nullable 1) None) ∷ [])) (name_at 91 "q") (Initializer.Value (Expression.Prefixed
+    64 tree.Int ((pointer (sign.Nullable 1) (Some (region_at 69 "a"))) ∷ [])) (name_at 72 "p") (name_at 76 "u"))
+    (Declare (tree.Local (int_at 79) (name_at 83 "x")
+    Initializer.Unset) (Declare (tree.Local (type_at 86 tree.Int ((pointer (sign.Nullable 1) None) ∷ [])) (name_at 91 "q")
+    (Initializer.Value (Expression.Prefixed
     95 AddressOf (variable_at 96 "x")))) (Execute (Statement.Run (Expression.Assign (variable_at 99 "q") (variable_at 103 "p"))) NoItems))))) (Execute
     (returns 108 (number 115 0)) NoItems))) 118) ∷ [])
     ≡ Some (fault outlives_rule 103)
@@ -142,7 +156,8 @@ outlives_13 = refl
 
 -- struct S<`r> { int *`r p; }; void f(struct S<`r> *`s a, int *`r b) { a->p = b; } int main() { int x; struct S s = S(&x); { int y; f(&s, &y); } return 0; }
 outlives_14 : typing_fault false
-    ((tree.StructItem (structure 0 (name_at 7 "S") ((region_at 9 "r") ∷ []) ((member (type_at 15 tree.Int ((pointer (sign.Nullable 1) (Some (region_at 20 "r"))) ∷
+    ((tree.StructItem (structure 0 (name_at 7 "S") ((region_at 9 "r") ∷ [])
+    ((member (type_at 15 tree.Int ((pointer (sign.Nullable 1) (Some (region_at 20 "r"))) ∷
     [])) (name_at 23 "p")) ∷ []))) ∷ (tree.FunctionItem (routine (type_at 29 tree.Void []) (name_at 34 "f") ((member (type_at 36 (tree.Struct (name_at 43 "S")
     ((region_at 45 "r") ∷ [])) ((pointer (sign.Nullable 1) (Some (region_at 50 "s"))) ∷ [])) (name_at 53 "a")) ∷ (member (type_at 56 tree.Int ((pointer
     (sign.Nullable 1) (Some (region_at 61 "r"))) ∷ [])) (name_at 64 "b")) ∷ []) None [] (Execute (Statement.Run (Expression.Assign (Expression.Suffixed
@@ -157,7 +172,8 @@ outlives_14 = refl
 
 -- struct S<`r> { int *`r p; }; int main() { region<`r> h; struct S<`r> *`r p = rnew(h) S(NULL); struct S<`H> *`r q = rnew(h) S(NULL); return 0; }
 outlives_15 : typing_fault false
-    ((tree.StructItem (structure 0 (name_at 7 "S") ((region_at 9 "r") ∷ []) ((member (type_at 15 tree.Int ((pointer (sign.Nullable 1) (Some (region_at 20 "r"))) ∷
+    ((tree.StructItem (structure 0 (name_at 7 "S") ((region_at 9 "r") ∷ [])
+    ((member (type_at 15 tree.Int ((pointer (sign.Nullable 1) (Some (region_at 20 "r"))) ∷
     [])) (name_at 23 "p")) ∷ []))) ∷ (main_at 29 (Declare (tree.Region 42 (region_at 49 "r") (name_at 53 "h")) (Declare (tree.Local (type_at 56 (tree.Struct
     (name_at 63 "S") ((region_at 65 "r") ∷ [])) ((pointer (sign.Nullable 1) (Some (region_at 70 "r"))) ∷ [])) (name_at 73 "p") (Initializer.Value
     (Expression.NewIn 77 (variable_at 82 "h") (One (Expression.Call (name_at 85 "S") (MoreExpressions (Expression.Null 87) NoExpressions)))))) (Declare

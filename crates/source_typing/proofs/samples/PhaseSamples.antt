@@ -59,16 +59,19 @@ live_5 = refl
 -- int f(region_t<`r> h; {}) { int *`r p = rnew(h) 1; return 0; } int main() { return 0; }
 live_6 : type_fault
     ((tree.FunctionItem (routine (int_at 0) (name_at 4 "f") ((member (type_at 6 (tree.Handle (region_at 15 "r")) []) (name_at 19 "h")) ∷ []) (Some []) []
-    (Declare (tree.Local (type_at 28 tree.Int ((pointer (sign.Nullable 1) (Some (region_at 33 "r"))) ∷ [])) (name_at 36 "p") (Initializer.Value (Expression.NewIn
+    (Declare (tree.Local (type_at 28 tree.Int ((pointer (sign.Nullable 1) (Some (region_at 33 "r"))) ∷ [])) (name_at 36 "p")
+    (Initializer.Value (Expression.NewIn
     40 (variable_at 45 "h") (One (number 48 1))))) (Execute (returns 51 (number 58 0)) NoItems)) 61)) ∷ (main_returns 63) ∷ [])
     ≡ None
 live_6 = refl
 
 -- int g(int *`a p) { return *p; } int f(int *`b p; {}) { return g(p); } int main() { return 0; }
 live_7 : type_fault
-    ((tree.FunctionItem (routine (int_at 0) (name_at 4 "g") ((member (type_at 6 tree.Int ((pointer (sign.Nullable 1) (Some (region_at 11 "a"))) ∷ [])) (name_at 14
+    ((tree.FunctionItem (routine (int_at 0) (name_at 4 "g")
+    ((member (type_at 6 tree.Int ((pointer (sign.Nullable 1) (Some (region_at 11 "a"))) ∷ [])) (name_at 14
     "p")) ∷ []) None [] (Execute (returns 19 (Expression.Prefixed 26 Dereference (variable_at 27 "p"))) NoItems) 30)) ∷ (tree.FunctionItem (routine (int_at
-    32) (name_at 36 "f") ((member (type_at 38 tree.Int ((pointer (sign.Nullable 1) (Some (region_at 43 "b"))) ∷ [])) (name_at 46 "p")) ∷ []) (Some []) [] (Execute
+    32) (name_at 36 "f") ((member (type_at 38 tree.Int ((pointer (sign.Nullable 1) (Some (region_at 43 "b"))) ∷ [])) (name_at 46 "p")) ∷ [])
+    (Some []) [] (Execute
     (Statement.Return 55 (Some (Expression.Call (name_at 62 "g") (MoreExpressions (variable_at 64 "p") NoExpressions)))) NoItems) 68)) ∷ (main_returns 70) ∷
     [])
     ≡ None
@@ -105,7 +108,8 @@ live_10 = refl
 
 -- struct S *p = NULL; struct S { void x; };
 live_13 : type_fault
-    ((tree.GlobalItem (global (type_at 0 (tree.Struct (name_at 7 "S") []) ((pointer (sign.Nullable 1) None) ∷ [])) (name_at 10 "p") (Initial.Given (Constant.Null
+    ((tree.GlobalItem (global (type_at 0 (tree.Struct (name_at 7 "S") []) ((pointer (sign.Nullable 1) None) ∷ [])) (name_at 10 "p")
+    (Initial.Given (Constant.Null
     14)))) ∷ (tree.StructItem (structure 20 (name_at 27 "S") [] ((member (type_at 31 tree.Void []) (name_at 36 "x")) ∷ []))) ∷ [])
     ≡ Some (fault type_rule 31)
 live_13 = refl

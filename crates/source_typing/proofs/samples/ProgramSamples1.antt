@@ -17,7 +17,8 @@ use Rattle.source_typing.proofs.samples.SampleTrees.{routine, main_at, main_retu
 program_1 : first_fault
     ((main_at 0 (Declare (tree.Region 13 (region_at 20 "a") (name_at 24 "g")) (Declare (tree.Local (type_at 27 tree.Int ((pointer (sign.Nullable 1) (Some
     (region_at 32 "a"))) ∷ [])) (name_at 35 "x") (Initializer.Value (Expression.NewIn 39 (variable_at 44 "g") (One (number 47 1))))) (Declare (tree.Region 50
-    (region_at 57 "b") (name_at 61 "h")) (Declare (tree.Local (type_at 64 tree.Int ((pointer (sign.Nullable 1) (Some (region_at 69 "b"))) ∷ [])) (name_at 72 "y")
+    (region_at 57 "b") (name_at 61 "h"))
+    (Declare (tree.Local (type_at 64 tree.Int ((pointer (sign.Nullable 1) (Some (region_at 69 "b"))) ∷ [])) (name_at 72 "y")
     (Initializer.Value (Expression.NewIn 76 (variable_at 81 "h") (One (number 84 2))))) (Execute (Statement.Run (Expression.Assign (variable_at 87 "y")
     (variable_at 91 "x"))) (Execute (Statement.Run (Expression.Assign (variable_at 94 "x") (variable_at 98 "y"))) (Execute (returns 101 (number 108 0))
     NoItems))))))) 111) ∷ [])
@@ -28,7 +29,8 @@ program_1 = refl
 program_2 : first_fault
     ((main_at 0 (Declare (tree.Region 13 (region_at 20 "a") (name_at 24 "g")) (Declare (tree.Local (type_at 27 tree.Int ((pointer (sign.Nullable 1) (Some
     (region_at 32 "a"))) ∷ [])) (name_at 35 "x") (Initializer.Value (Expression.NewIn 39 (variable_at 44 "g") (One (number 47 1))))) (Declare (tree.Region 50
-    (region_at 57 "b") (name_at 61 "h")) (Declare (tree.Local (type_at 64 tree.Int ((pointer (sign.Nullable 1) (Some (region_at 69 "b"))) ∷ [])) (name_at 72 "y")
+    (region_at 57 "b") (name_at 61 "h"))
+    (Declare (tree.Local (type_at 64 tree.Int ((pointer (sign.Nullable 1) (Some (region_at 69 "b"))) ∷ [])) (name_at 72 "y")
     (Initializer.Value (Expression.NewIn 76 (variable_at 81 "h") (One (number 84 2))))) (Execute (Statement.Run (Expression.Assign (variable_at 87 "y")
     (variable_at 91 "x"))) (Execute (returns 94 (number 101 0)) NoItems)))))) 104) ∷ [])
     ≡ None
@@ -75,9 +77,11 @@ program_6 = refl
 
 -- int g(int *`a p) { return *p; } int f(int *`b p; {}) { return g(p); } int main() { int x = 5; return f(&x); }
 program_7 : first_fault
-    ((tree.FunctionItem (routine (int_at 0) (name_at 4 "g") ((member (type_at 6 tree.Int ((pointer (sign.Nullable 1) (Some (region_at 11 "a"))) ∷ [])) (name_at 14
+    ((tree.FunctionItem (routine (int_at 0) (name_at 4 "g")
+    ((member (type_at 6 tree.Int ((pointer (sign.Nullable 1) (Some (region_at 11 "a"))) ∷ [])) (name_at 14
     "p")) ∷ []) None [] (Execute (returns 19 (Expression.Prefixed 26 Dereference (variable_at 27 "p"))) NoItems) 30)) ∷ (tree.FunctionItem (routine (int_at
-    32) (name_at 36 "f") ((member (type_at 38 tree.Int ((pointer (sign.Nullable 1) (Some (region_at 43 "b"))) ∷ [])) (name_at 46 "p")) ∷ []) (Some []) [] (Execute
+    32) (name_at 36 "f") ((member (type_at 38 tree.Int ((pointer (sign.Nullable 1) (Some (region_at 43 "b"))) ∷ [])) (name_at 46 "p")) ∷ [])
+    (Some []) [] (Execute
     (Statement.Return 55 (Some (Expression.Call (name_at 62 "g") (MoreExpressions (variable_at 64 "p") NoExpressions)))) NoItems) 68)) ∷ (main_at 70 (Declare
     (tree.Local (int_at 83) (name_at 87 "x") (Initializer.Value (number 91 5))) (Execute (Statement.Return 94 (Some (Expression.Call (name_at 101 "f")
     (MoreExpressions (Expression.Prefixed 103 AddressOf (variable_at 104 "x")) NoExpressions)))) NoItems)) 108) ∷ [])
@@ -86,7 +90,8 @@ program_7 = refl
 
 -- int g(int *`a p) { return *p; } int f(int *`b p) { return g(p); } int main() { int x = 5; return f(&x); }
 program_8 : first_fault
-    ((tree.FunctionItem (routine (int_at 0) (name_at 4 "g") ((member (type_at 6 tree.Int ((pointer (sign.Nullable 1) (Some (region_at 11 "a"))) ∷ [])) (name_at 14
+    ((tree.FunctionItem (routine (int_at 0) (name_at 4 "g")
+    ((member (type_at 6 tree.Int ((pointer (sign.Nullable 1) (Some (region_at 11 "a"))) ∷ [])) (name_at 14
     "p")) ∷ []) None [] (Execute (returns 19 (Expression.Prefixed 26 Dereference (variable_at 27 "p"))) NoItems) 30)) ∷ (tree.FunctionItem (routine (int_at
     32) (name_at 36 "f") ((member (type_at 38 tree.Int ((pointer (sign.Nullable 1) (Some (region_at 43 "b"))) ∷ [])) (name_at 46 "p")) ∷ []) None [] (Execute
     (Statement.Return 51 (Some (Expression.Call (name_at 58 "g") (MoreExpressions (variable_at 60 "p") NoExpressions)))) NoItems) 64)) ∷ (main_at 66 (Declare
@@ -97,7 +102,8 @@ program_8 = refl
 
 -- int f(int *`a p, int *`b q : `a > `b) { q = p; return *q; } int main() { int x = 1; region<`r> h; int *`r y = rnew(h) 2; return f(y, &x); }
 program_9 : first_fault
-    ((tree.FunctionItem (routine (int_at 0) (name_at 4 "f") ((member (type_at 6 tree.Int ((pointer (sign.Nullable 1) (Some (region_at 11 "a"))) ∷ [])) (name_at 14
+    ((tree.FunctionItem (routine (int_at 0) (name_at 4 "f")
+    ((member (type_at 6 tree.Int ((pointer (sign.Nullable 1) (Some (region_at 11 "a"))) ∷ [])) (name_at 14
     "p")) ∷ (member (type_at 17 tree.Int ((pointer (sign.Nullable 1) (Some (region_at 22 "b"))) ∷ [])) (name_at 25 "q")) ∷ []) None ((bound (region_at 29 "a")
     (region_at 34 "b")) ∷ []) (Execute (Statement.Run (Expression.Assign (variable_at 40 "q") (variable_at 44 "p"))) (Execute (returns 47 (Expression.Prefixed
     54 Dereference (variable_at 55 "q"))) NoItems)) 58)) ∷ (main_at 60 (Declare (tree.Local (int_at 73) (name_at 77 "x") (Initializer.Value (number 81 1)))
@@ -110,7 +116,8 @@ program_9 = refl
 
 -- int f(int *`a p, int *`b q : `a > `b) { q = p; return *q; } int main() { int x = 1; region<`r> h; int *`r y = rnew(h) 2; return f(&x, y); }
 program_10 : first_fault
-    ((tree.FunctionItem (routine (int_at 0) (name_at 4 "f") ((member (type_at 6 tree.Int ((pointer (sign.Nullable 1) (Some (region_at 11 "a"))) ∷ [])) (name_at 14
+    ((tree.FunctionItem (routine (int_at 0) (name_at 4 "f")
+    ((member (type_at 6 tree.Int ((pointer (sign.Nullable 1) (Some (region_at 11 "a"))) ∷ [])) (name_at 14
     "p")) ∷ (member (type_at 17 tree.Int ((pointer (sign.Nullable 1) (Some (region_at 22 "b"))) ∷ [])) (name_at 25 "q")) ∷ []) None ((bound (region_at 29 "a")
     (region_at 34 "b")) ∷ []) (Execute (Statement.Run (Expression.Assign (variable_at 40 "q") (variable_at 44 "p"))) (Execute (returns 47 (Expression.Prefixed
     54 Dereference (variable_at 55 "q"))) NoItems)) 58)) ∷ (main_at 60 (Declare (tree.Local (int_at 73) (name_at 77 "x") (Initializer.Value (number 81 1)))
@@ -221,7 +228,8 @@ program_21 = refl
 
 -- struct A { struct B<`H> *p; }; struct B { struct C *q; }; int main() { return 0; }
 program_22 : first_fault
-    ((tree.StructItem (structure 0 (name_at 7 "A") [] ((member (type_at 11 (tree.Struct (name_at 18 "B") ((tree.Heap 20) ∷ [])) ((pointer (sign.Nullable 1) None) ∷
+    ((tree.StructItem (structure 0 (name_at 7 "A") []
+    ((member (type_at 11 (tree.Struct (name_at 18 "B") ((tree.Heap 20) ∷ [])) ((pointer (sign.Nullable 1) None) ∷
     [])) (name_at 25 "p")) ∷ []))) ∷ (tree.StructItem (structure 31 (name_at 38 "B") [] ((member (type_at 42 (tree.Struct (name_at 49 "C") []) ((pointer
     (sign.Nullable 1) None) ∷ [])) (name_at 52 "q")) ∷ []))) ∷ (main_returns 58) ∷ [])
     ≡ Some (fault name_rule 49)
@@ -229,7 +237,8 @@ program_22 = refl
 
 -- struct A { struct B<`H> *p; }; struct B { struct A *q; }; int main() { return 0; }
 program_23 : first_fault
-    ((tree.StructItem (structure 0 (name_at 7 "A") [] ((member (type_at 11 (tree.Struct (name_at 18 "B") ((tree.Heap 20) ∷ [])) ((pointer (sign.Nullable 1) None) ∷
+    ((tree.StructItem (structure 0 (name_at 7 "A") []
+    ((member (type_at 11 (tree.Struct (name_at 18 "B") ((tree.Heap 20) ∷ [])) ((pointer (sign.Nullable 1) None) ∷
     [])) (name_at 25 "p")) ∷ []))) ∷ (tree.StructItem (structure 31 (name_at 38 "B") [] ((member (type_at 42 (tree.Struct (name_at 49 "A") []) ((pointer
     (sign.Nullable 1) None) ∷ [])) (name_at 52 "q")) ∷ []))) ∷ (main_returns 58) ∷ [])
     ≡ Some (fault region_rule 11)
@@ -251,7 +260,8 @@ program_25 = refl
 
 -- struct A { struct B *b; }; struct B { struct A a; }; int main() { return 0; }
 program_26 : first_fault
-    ((tree.StructItem (structure 0 (name_at 7 "A") [] ((member (type_at 11 (tree.Struct (name_at 18 "B") []) ((pointer (sign.Nullable 1) None) ∷ [])) (name_at 21
+    ((tree.StructItem (structure 0 (name_at 7 "A") []
+    ((member (type_at 11 (tree.Struct (name_at 18 "B") []) ((pointer (sign.Nullable 1) None) ∷ [])) (name_at 21
     "b")) ∷ []))) ∷ (tree.StructItem (structure 27 (name_at 34 "B") [] ((member (type_at 38 (tree.Struct (name_at 45 "A") []) []) (name_at 47 "a")) ∷ []))) ∷
     (main_returns 53) ∷ [])
     ≡ None
@@ -276,7 +286,8 @@ program_28 = refl
 -- struct P { int x; }; int f(struct P *`b p) { int x = *p; return 0; } int main() { return 0; }
 program_29 : first_fault
     ((tree.StructItem (structure 0 (name_at 7 "P") [] ((member (int_at 11) (name_at 15 "x")) ∷ []))) ∷ (tree.FunctionItem (routine (int_at 21) (name_at 25 "f")
-    ((member (type_at 27 (tree.Struct (name_at 34 "P") []) ((pointer (sign.Nullable 1) (Some (region_at 37 "b"))) ∷ [])) (name_at 40 "p")) ∷ []) None [] (Declare
+    ((member (type_at 27 (tree.Struct (name_at 34 "P") []) ((pointer (sign.Nullable 1) (Some (region_at 37 "b"))) ∷ [])) (name_at 40 "p")) ∷ [])
+    None [] (Declare
     (tree.Local (int_at 45) (name_at 49 "x") (Initializer.Value (Expression.Prefixed 53 Dereference (variable_at 54 "p")))) (Execute (returns 57 (number 64
     0)) NoItems)) 67)) ∷ (main_returns 69) ∷ [])
     ≡ Some (fault type_rule 53)
@@ -284,7 +295,8 @@ program_29 = refl
 
 -- int main(void *x) { return 0; }
 program_30 : first_fault
-    ((tree.FunctionItem (routine (int_at 0) (name_at 4 "main") ((member (type_at 9 tree.Void ((pointer (sign.Nullable 1) None) ∷ [])) (name_at 15 "x")) ∷ []) None
+    ((tree.FunctionItem (routine (int_at 0) (name_at 4 "main")
+    ((member (type_at 9 tree.Void ((pointer (sign.Nullable 1) None) ∷ [])) (name_at 15 "x")) ∷ []) None
     [] (Execute (returns 20 (number 27 0)) NoItems) 30)) ∷ [])
     ≡ Some (fault type_rule 9)
 program_30 = refl
@@ -305,9 +317,11 @@ program_32 = refl
 -- a missing region of an initializer that is not checked
 -- int main() { int *p = f(1); char c = p; return 0; } int *f(int x, int x) { return NULL; }
 program_33 : first_fault
-    ((main_at 0 (Declare (tree.Local (type_at 13 tree.Int ((pointer (sign.Nullable 1) None) ∷ [])) (name_at 18 "p") (Initializer.Value (Expression.Call (name_at 22
+    ((main_at 0 (Declare (tree.Local (type_at 13 tree.Int ((pointer (sign.Nullable 1) None) ∷ [])) (name_at 18 "p")
+    (Initializer.Value (Expression.Call (name_at 22
     "f") (MoreExpressions (number 24 1) NoExpressions)))) (Declare (tree.Local (type_at 28 tree.Char []) (name_at 33 "c") (Initializer.Value (variable_at 37
-    "p"))) (Execute (returns 40 (number 47 0)) NoItems))) 50) ∷ (tree.FunctionItem (routine (type_at 52 tree.Int ((pointer (sign.Nullable 1) None) ∷ [])) (name_at
+    "p"))) (Execute (returns 40 (number 47 0)) NoItems))) 50)
+    ∷ (tree.FunctionItem (routine (type_at 52 tree.Int ((pointer (sign.Nullable 1) None) ∷ [])) (name_at
     57 "f") ((member (int_at 59) (name_at 63 "x")) ∷ (member (int_at 66) (name_at 70 "x")) ∷ []) None [] (Execute (returns 75 (Expression.Null 82)) NoItems)
     88)) ∷ [])
     ≡ Some (fault name_rule 70)

@@ -42,7 +42,8 @@ program_37 = refl
 -- `NULL` fixes no region
 -- int f(int *`r p, int *`r q) { return 0; } int main() { int x; *f(NULL, &x); return 0; }
 program_38 : first_fault
-    ((tree.FunctionItem (routine (int_at 0) (name_at 4 "f") ((member (type_at 6 tree.Int ((pointer (sign.Nullable 1) (Some (region_at 11 "r"))) ∷ [])) (name_at 14
+    ((tree.FunctionItem (routine (int_at 0) (name_at 4 "f")
+    ((member (type_at 6 tree.Int ((pointer (sign.Nullable 1) (Some (region_at 11 "r"))) ∷ [])) (name_at 14
     "p")) ∷ (member (type_at 17 tree.Int ((pointer (sign.Nullable 1) (Some (region_at 22 "r"))) ∷ [])) (name_at 25 "q")) ∷ []) None [] (Execute (returns 30
     (number 37 0)) NoItems) 40)) ∷ (main_at 42 (Declare (tree.Local (int_at 55) (name_at 59 "x") Initializer.Unset) (Execute (Statement.Run
     (Expression.Prefixed 62 Dereference (Expression.Call (name_at 63 "f") (MoreExpressions (Expression.Null 65) (MoreExpressions (Expression.Prefixed 71
@@ -53,7 +54,8 @@ program_38 = refl
 -- the effect of the call has a closed dynamic region
 -- int g(int *`a p) { return 0; } int main() { let NewDynamicRegion{<`r> k} = new_ukey(); int *`r p = NULL; return g(p); }
 program_39 : first_fault
-    ((tree.FunctionItem (routine (int_at 0) (name_at 4 "g") ((member (type_at 6 tree.Int ((pointer (sign.Nullable 1) (Some (region_at 11 "a"))) ∷ [])) (name_at 14
+    ((tree.FunctionItem (routine (int_at 0) (name_at 4 "g")
+    ((member (type_at 6 tree.Int ((pointer (sign.Nullable 1) (Some (region_at 11 "a"))) ∷ [])) (name_at 14
     "p")) ∷ []) None [] (Execute (returns 19 (number 26 0)) NoItems) 29)) ∷ (main_at 31 (Declare (tree.NewKey 44 (region_at 66 "r") (name_at 70 "k")) (Declare
     (tree.Local (type_at 87 tree.Int ((pointer (sign.Nullable 1) (Some (region_at 92 "r"))) ∷ [])) (name_at 95 "p") (Initializer.Value (Expression.Null 99)))
     (Execute (Statement.Return 105 (Some (Expression.Call (name_at 112 "g") (MoreExpressions (variable_at 114 "p") NoExpressions)))) NoItems))) 118) ∷ [])
@@ -63,7 +65,8 @@ program_39 = refl
 -- int g(int *`a p) { return 0; } int main() { let NewDynamicRegion{<`r> k} = new_ukey(); int *`r p = NULL; { region<`r> h = open(k); g(p); } free_ukey(k);
 -- return 0; }
 program_40 : first_fault
-    ((tree.FunctionItem (routine (int_at 0) (name_at 4 "g") ((member (type_at 6 tree.Int ((pointer (sign.Nullable 1) (Some (region_at 11 "a"))) ∷ [])) (name_at 14
+    ((tree.FunctionItem (routine (int_at 0) (name_at 4 "g")
+    ((member (type_at 6 tree.Int ((pointer (sign.Nullable 1) (Some (region_at 11 "a"))) ∷ [])) (name_at 14
     "p")) ∷ []) None [] (Execute (returns 19 (number 26 0)) NoItems) 29)) ∷ (main_at 31 (Declare (tree.NewKey 44 (region_at 66 "r") (name_at 70 "k")) (Declare
     (tree.Local (type_at 87 tree.Int ((pointer (sign.Nullable 1) (Some (region_at 92 "r"))) ∷ [])) (name_at 95 "p") (Initializer.Value (Expression.Null 99)))
     (Execute (Statement.Block 105 (Declare (tree.Open 107 (region_at 114 "r") (name_at 118 "h") (name_at 127 "k")) (Execute (Statement.Run (Expression.Call

@@ -13,7 +13,8 @@ use Rattle.source_typing.proofs.samples.SampleTrees.{main_returns}
 
 -- int f(int *p; {}) { return *p; } int main() { return 0; }
 region_1 : typing_fault false
-    ((tree.FunctionItem (routine (int_at 0) (name_at 4 "f") ((member (type_at 6 tree.Int ((pointer (sign.Nullable 1) None) ∷ [])) (name_at 11 "p")) ∷ []) (Some [])
+    ((tree.FunctionItem (routine (int_at 0) (name_at 4 "f") ((member (type_at 6 tree.Int ((pointer (sign.Nullable 1) None) ∷ [])) (name_at 11 "p"))
+    ∷ []) (Some [])
     [] (Execute (returns 20 (Expression.Prefixed 27 Dereference (variable_at 28 "p"))) NoItems) 31)) ∷ (main_returns 33) ∷ [])
     ≡ Some (fault region_rule 27)
 region_1 = refl
@@ -61,7 +62,8 @@ region_6 = refl
 
 -- struct S<`r> { int *`r p; }; int main() { struct S<`H,`H> s; return 0; }
 region_7 : typing_fault false
-    ((tree.StructItem (structure 0 (name_at 7 "S") ((region_at 9 "r") ∷ []) ((member (type_at 15 tree.Int ((pointer (sign.Nullable 1) (Some (region_at 20 "r"))) ∷
+    ((tree.StructItem (structure 0 (name_at 7 "S") ((region_at 9 "r") ∷ [])
+    ((member (type_at 15 tree.Int ((pointer (sign.Nullable 1) (Some (region_at 20 "r"))) ∷
     [])) (name_at 23 "p")) ∷ []))) ∷ (main_at 29 (Declare (tree.Local (type_at 42 (tree.Struct (name_at 49 "S") ((tree.Heap 51) ∷ (tree.Heap 54) ∷ [])) [])
     (name_at 58 "s") Initializer.Unset) (Execute (returns 61 (number 68 0)) NoItems)) 71) ∷ [])
     ≡ Some (fault region_rule 42)
@@ -102,7 +104,8 @@ region_11 = refl
 
 -- int f(int *`r p; {}) { return 0; } int g(int *`r p; {}) { return f(p) + *p; } int main() { return 0; }
 region_12 : typing_fault false
-    ((tree.FunctionItem (routine (int_at 0) (name_at 4 "f") ((member (type_at 6 tree.Int ((pointer (sign.Nullable 1) (Some (region_at 11 "r"))) ∷ [])) (name_at 14
+    ((tree.FunctionItem (routine (int_at 0) (name_at 4 "f")
+    ((member (type_at 6 tree.Int ((pointer (sign.Nullable 1) (Some (region_at 11 "r"))) ∷ [])) (name_at 14
     "p")) ∷ []) (Some []) [] (Execute (returns 23 (number 30 0)) NoItems) 33)) ∷ (tree.FunctionItem (routine (int_at 35) (name_at 39 "g") ((member (type_at 41
     tree.Int ((pointer (sign.Nullable 1) (Some (region_at 46 "r"))) ∷ [])) (name_at 49 "p")) ∷ []) (Some []) [] (Execute (Statement.Return 58 (Some
     (Expression.Chain (Expression.Call (name_at 65 "f") (MoreExpressions (variable_at 67 "p") NoExpressions)) (MoreLinks Add (Expression.Prefixed 72

@@ -97,7 +97,8 @@ size_4 : first_fault
     (name_at 297 "D") [] ((member (type_at 301 (tree.Struct (name_at 308 "C") []) []) (name_at 310 "a")) ∷ (member (type_at 313 (tree.Struct (name_at 320 "C")
     []) []) (name_at 322 "b")) ∷ (member (type_at 325 tree.Int ((pointer (sign.Nullable 1) None) ∷ [])) (name_at 330 "p")) ∷ []))) ∷ (tree.StructItem (structure
     336 (name_at 343 "E") [] ((member (type_at 347 (tree.Struct (name_at 354 "D") []) []) (name_at 356 "d")) ∷ (member (type_at 359 tree.Int ((pointer
-    (sign.NotNull 1) None) ∷ [])) (name_at 364 "q")) ∷ []))) ∷ (main_at 370 (Declare (tree.Local (type_at 383 (tree.Struct (name_at 390 "E") []) []) (name_at 392
+    (sign.NotNull 1) None) ∷ [])) (name_at 364 "q")) ∷ [])))
+    ∷ (main_at 370 (Declare (tree.Local (type_at 383 (tree.Struct (name_at 390 "E") []) []) (name_at 392
     "e") Initializer.Unset) (Execute (returns 395 (number 402 0)) NoItems)) 405) ∷ [])
     ≡ Some (fault size_rule 297)
 size_4 = refl
@@ -135,7 +136,8 @@ size_8 = refl
 -- @tagged union U { char a; char *b; }; union U *a[1025]; int main() { return 0; }
 size_9 : first_fault
     ((tree.UnionItem (structure 0 (name_at 14 "U") [] ((member (type_at 18 tree.Char []) (name_at 23 "a")) ∷ (member (type_at 26 tree.Char ((pointer
-    (sign.Nullable 1) None) ∷ [])) (name_at 32 "b")) ∷ []))) ∷ (tree.GlobalItem (global (type_at 38 (tree.Union (name_at 44 "U") []) ((pointer (sign.Nullable 1) None)
+    (sign.Nullable 1) None) ∷ [])) (name_at 32 "b")) ∷ [])))
+    ∷ (tree.GlobalItem (global (type_at 38 (tree.Union (name_at 44 "U") []) ((pointer (sign.Nullable 1) None)
     ∷ [])) (name_at 47 "a") (Initial.Elements 1025))) ∷ (main_returns 56) ∷ [])
     ≡ Some (fault size_rule 38)
 size_9 = refl

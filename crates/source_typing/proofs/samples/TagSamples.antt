@@ -19,7 +19,8 @@ tag_1 = refl
 -- a function whose parameter names it
 -- int f(struct f *p) { return 0; } int main() { f(); return 0; }
 tag_2 : first_fault
-    ((tree.FunctionItem (routine (int_at 0) (name_at 4 "f") ((member (type_at 6 (tree.Struct (name_at 13 "f") []) (pointer (sign.Nullable 1) None ∷ [])) (name_at
+    ((tree.FunctionItem (routine (int_at 0) (name_at 4 "f")
+    ((member (type_at 6 (tree.Struct (name_at 13 "f") []) (pointer (sign.Nullable 1) None ∷ [])) (name_at
     16 "p")) ∷ []) None [] (Execute (returns 21 (number 28 0)) NoItems) 31)) ∷ (main_at 33 (Execute (Statement.Run (Expression.Call (name_at 46 "f")
     NoExpressions)) (Execute (returns 51 (number 58 0)) NoItems)) 61) ∷ [])
     ≡ Some (fault type_rule 13)
@@ -28,7 +29,8 @@ tag_2 = refl
 -- two functions whose parameters name each other
 -- int f(struct g *p) { return 0; } int g(struct f *p) { return 0; } int main() { return 0; }
 tag_3 : first_fault
-    ((tree.FunctionItem (routine (int_at 0) (name_at 4 "f") ((member (type_at 6 (tree.Struct (name_at 13 "g") []) (pointer (sign.Nullable 1) None ∷ [])) (name_at
+    ((tree.FunctionItem (routine (int_at 0) (name_at 4 "f")
+    ((member (type_at 6 (tree.Struct (name_at 13 "g") []) (pointer (sign.Nullable 1) None ∷ [])) (name_at
     16 "p")) ∷ []) None [] (Execute (returns 21 (number 28 0)) NoItems) 31)) ∷ (tree.FunctionItem (routine (int_at 33) (name_at 37 "g") ((member (type_at 39
     (tree.Struct (name_at 46 "f") []) (pointer (sign.Nullable 1) None ∷ [])) (name_at 49 "p")) ∷ []) None [] (Execute (returns 54 (number 61 0)) NoItems) 64)) ∷
     (main_returns 66) ∷ [])

@@ -53,7 +53,8 @@ type_6 = refl
 
 -- int main() { int @p; return 0; }
 type_7 : typing_fault false
-    ((main_at 0 (Declare (tree.Local (type_at 13 tree.Int ((pointer (sign.NotNull 1) None) ∷ [])) (name_at 18 "p") Initializer.Unset) (Execute (returns 21 (number
+    ((main_at 0 (Declare (tree.Local (type_at 13 tree.Int ((pointer (sign.NotNull 1) None) ∷ [])) (name_at 18 "p") Initializer.Unset)
+    (Execute (returns 21 (number
     28 0)) NoItems)) 31) ∷ [])
     ≡ Some (fault type_rule 13)
 type_7 = refl
@@ -157,7 +158,8 @@ type_21 = refl
 
 -- struct S<`r> { int *`r p; }; int f(struct S s) { return 0; } int main() { return 0; }
 type_22 : typing_fault false
-    ((tree.StructItem (structure 0 (name_at 7 "S") ((region_at 9 "r") ∷ []) ((member (type_at 15 tree.Int ((pointer (sign.Nullable 1) (Some (region_at 20 "r"))) ∷
+    ((tree.StructItem (structure 0 (name_at 7 "S") ((region_at 9 "r") ∷ [])
+    ((member (type_at 15 tree.Int ((pointer (sign.Nullable 1) (Some (region_at 20 "r"))) ∷
     [])) (name_at 23 "p")) ∷ []))) ∷ (tree.FunctionItem (routine (int_at 29) (name_at 33 "f") ((member (type_at 35 (tree.Struct (name_at 42 "S") []) [])
     (name_at 44 "s")) ∷ []) None [] (Execute (returns 49 (number 56 0)) NoItems) 59)) ∷ (main_returns 61) ∷ [])
     ≡ Some (fault type_rule 35)
@@ -213,7 +215,8 @@ type_28 = refl
 
 -- @tagged union U { int *`U a; }; int main() { return 0; }
 type_29 : typing_fault false
-    ((tree.UnionItem (structure 0 (name_at 14 "U") [] ((member (type_at 18 tree.Int ((pointer (sign.Nullable 1) (Some (tree.Unique 23))) ∷ [])) (name_at 26 "a")) ∷
+    ((tree.UnionItem (structure 0 (name_at 14 "U") []
+    ((member (type_at 18 tree.Int ((pointer (sign.Nullable 1) (Some (tree.Unique 23))) ∷ [])) (name_at 26 "a")) ∷
     []))) ∷ (main_returns 32) ∷ [])
     ≡ Some (fault type_rule 18)
 type_29 = refl

@@ -52,7 +52,8 @@ type_36 = refl
 
 -- int @p = NULL; int main() { return 0; }
 type_37 : typing_fault false
-    ((tree.GlobalItem (global (type_at 0 tree.Int ((pointer (sign.NotNull 1) None) ∷ [])) (name_at 5 "p") (Initial.Given (Constant.Null 9)))) ∷ (main_returns 15) ∷
+    ((tree.GlobalItem (global (type_at 0 tree.Int ((pointer (sign.NotNull 1) None) ∷ [])) (name_at 5 "p") (Initial.Given (Constant.Null 9))))
+    ∷ (main_returns 15) ∷
     [])
     ≡ Some (fault type_rule 0)
 type_37 = refl
@@ -66,7 +67,8 @@ type_38 = refl
 
 -- int *`r p = NULL; int main() { return 0; }
 type_39 : typing_fault false
-    ((tree.GlobalItem (global (type_at 0 tree.Int ((pointer (sign.Nullable 1) (Some (region_at 5 "r"))) ∷ [])) (name_at 8 "p") (Initial.Given (Constant.Null 12))))
+    ((tree.GlobalItem (global (type_at 0 tree.Int ((pointer (sign.Nullable 1) (Some (region_at 5 "r"))) ∷ [])) (name_at 8 "p")
+    (Initial.Given (Constant.Null 12))))
     ∷ (main_returns 18) ∷ [])
     ≡ Some (fault type_rule 0)
 type_39 = refl
@@ -138,7 +140,8 @@ type_48 = refl
 
 -- int f(int *p) { return 0; } int main() { int y = f(1); y = NULL; return 0; }
 type_49 : typing_fault false
-    ((tree.FunctionItem (routine (int_at 0) (name_at 4 "f") ((member (type_at 6 tree.Int ((pointer (sign.Nullable 1) None) ∷ [])) (name_at 11 "p")) ∷ []) None []
+    ((tree.FunctionItem (routine (int_at 0) (name_at 4 "f") ((member (type_at 6 tree.Int ((pointer (sign.Nullable 1) None) ∷ [])) (name_at 11 "p"))
+    ∷ []) None []
     (Execute (returns 16 (number 23 0)) NoItems) 26)) ∷ (main_at 28 (Declare (tree.Local (int_at 41) (name_at 45 "y") (Initializer.Value (Expression.Call
     (name_at 49 "f") (MoreExpressions (number 51 1) NoExpressions)))) (Execute (Statement.Run (Expression.Assign (variable_at 55 "y") (Expression.Null 59)))
     (Execute (returns 65 (number 72 0)) NoItems))) 75) ∷ [])

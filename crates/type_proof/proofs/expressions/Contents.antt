@@ -170,6 +170,7 @@ module _ (n : ℕ) (d : Tables) (g : Env) (scope : Scope) (f : NameOf → Region
               (λ s q.
               let c : (u.own ≡ false) × ((copy_if (u.own || inside) place (u.place s).states).states ≡ (u.place s).states) =
               not_either u.own inside place (u.place s).states (passed_second u.place (copy_if (u.own || inside) place) s q) in
-              subst (λ (s2 : States). Gives n d g scope f b low s s2 (Thin (NeverNull 1) r a.type) (e.place >>= λ s. give (memory.Thin (Some s) ∷ []))) (sym c.1)
+              subst (λ (s2 : States). Gives n d g scope f b low s s2 (Thin (NeverNull 1) r a.type)
+              (e.place >>= λ s. give (memory.Thin (Some s) ∷ []))) (sym c.1)
               (gives_address n d g scope f b low s (u.place s).states r a.type e.place
               (y.pointed c.0 r z s (passed_first u.place (copy_if (u.own || inside) place) s q))))

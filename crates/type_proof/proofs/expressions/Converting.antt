@@ -4,7 +4,8 @@ use Rattle.std.proofs.Common.{◌≡◌, ◌<◌, ◌≤◌, ℕ, arith, Bool, t
 use Rattle.std.specs.Prelude.{◌-◌, nat_le, ◌*◌, length}
 use Rattle.std.proofs.lemmas.Bool.{leb-true, le-leb}
 use Rattle.cyc_words.specs.declared.faults.Kind.TheVariants.{NullException}
-use Rattle.source_meaning.specs.Shapes.{Shared, Alone, count_of, Reach, MayBeNull, NeverNull, single, Shape, ThinShape, FatShape, HandleShape, KeyShape, StructShape, UnionShape}
+use Rattle.source_meaning.specs.Shapes.{Shared, Alone, count_of, Reach, MayBeNull, NeverNull, single, Shape, ThinShape, FatShape, HandleShape, KeyShape}
+use Rattle.source_meaning.specs.Shapes.{StructShape, UnionShape}
 use Rattle.source_meaning.specs.Memory as memory
 use Rattle.source_meaning.specs.Memory.{Region, Spot, Span, Scalar, Memory, beyond}
 use Rattle.source_meaning.specs.Steps.{World, Act, ◌>>=◌, ◌>>◌, give, check}
@@ -179,15 +180,18 @@ module _ {B : Type 0} (n : ℕ) (d : Tables) (world : World) (f : NameOf → Reg
           (λ l few. go (memory.Thin (Some at) ∷ []) (typed l few))
 
       by : (b : Reach) → count_of b ≡ count_of c → Runs n (fat_to_thin b (length (cells_of world (shape_of t))) (Some s) >>= λ v. give (v ∷ []) >>= h) m Q
-      by (MayBeNull count) same = subst (λ j. Runs n (elements_from (length (cells_of world (shape_of t))) j (Some s) >>= λ a. h (memory.Thin (Some a) ∷ [])) m Q)
+      by (MayBeNull count) same = subst
+          (λ j. Runs n (elements_from (length (cells_of world (shape_of t))) j (Some s) >>= λ a. h (memory.Thin (Some a) ∷ [])) m Q)
           (sym same) found
-      by (NeverNull count) same = subst (λ j. Runs n (elements_from (length (cells_of world (shape_of t))) j (Some s) >>= λ a. h (memory.Thin (Some a) ∷ [])) m Q)
+      by (NeverNull count) same = subst
+          (λ j. Runs n (elements_from (length (cells_of world (shape_of t))) j (Some s) >>= λ a. h (memory.Thin (Some a) ∷ [])) m Q)
           (sym same) found
 
   -- `NULL` stays `NULL`, or an exception is raised
   null_thin_goes : (c : Reach) (q : NameOf) (t : StaticType) (from : Shape) → Going (Thin c q t)
       → Runs n (converted world (ThinShape c Shared (shape_of t)) from (memory.Wide None ∷ []) >>= h) m Q
-  null_thin_goes (MayBeNull count) q t from go = record { by = λ next p. (go (memory.Thin None ∷ []) (inl (record { allowed = refl; is = refl }), tt)).by next p }
+  null_thin_goes (MayBeNull count) q t from go =
+      record { by = λ next p. (go (memory.Thin None ∷ []) (inl (record { allowed = refl; is = refl }), tt)).by next p }
   null_thin_goes (NeverNull count) q t from go = record { by = λ next p. safe_raised n NullException }
 
   pub fat_thin_goes : (c : Reach) (r q : NameOf) (t : StaticType) (vs : List Scalar) → IsObjectType t → Agrees world d
@@ -257,14 +261,17 @@ module _ {B : Type 0} (n : ℕ) (d : Tables) (world : World) (f : NameOf → Reg
     where
       goes : HasType d w (holder 0) v (renamed f (Unique a t))
           → Runs n (converted world (ThinShape (single c) Alone (shape_of t)) (ThinShape (single a) Alone (shape_of t)) (v ∷ []) >>= h) m Q
-      goes (inl z) = subst (λ (y : Scalar). Runs n (converted world (ThinShape (single c) Alone (shape_of t)) (ThinShape (single a) Alone (shape_of t)) (y ∷ []) >>= h) m Q)
+      goes (inl z) = subst (λ (y : Scalar).
+          Runs n (converted world (ThinShape (single c) Alone (shape_of t)) (ThinShape (single a) Alone (shape_of t)) (y ∷ []) >>= h) m Q)
           (sym z.is)
           (unique_null_goes c t (ThinShape (single a) Alone (shape_of t)) go)
-      goes (inr z) = subst (λ (y : Scalar). Runs n (converted world (ThinShape (single c) Alone (shape_of t)) (ThinShape (single a) Alone (shape_of t)) (y ∷ []) >>= h) m Q)
+      goes (inr z) = subst (λ (y : Scalar).
+          Runs n (converted world (ThinShape (single c) Alone (shape_of t)) (ThinShape (single a) Alone (shape_of t)) (y ∷ []) >>= h) m Q)
           (sym z.is)
           (record {
             by = λ next p.
-                subst (λ (b : Bool). Safe n ((check b >> (Rattle.source_meaning.specs.Conversions.thin_to_thin (single c) (count_of (single a)) (Some at) >>= λ v. give (v ∷ [])
+                subst (λ (b : Bool). Safe n ((check b >> (Rattle.source_meaning.specs.Conversions.thin_to_thin (single c) (count_of (single a))
+                (Some at) >>= λ v. give (v ∷ [])
                 >>= h)) next m))
                 (sym (shape_itself t e))
                 (thin_passes (single c) (count_of (single a)) at few next p (go (memory.Thin (Some at) ∷ []) typed));

@@ -106,7 +106,8 @@ module _ (n : ℕ) (d : Tables) (g : Env) (scope : Scope) (f : NameOf → Region
           let x : Scene d g scope f b low s k w m = scene_now w m z in
           runs_write_laid d n k m.activations 0 w m (index_in a) (Unsigned ∷ []) (Integer AsUnsigned i ∷ []) h Q z.inv (live_now w m z) (z.typed, tt)
           (integer_typed d f w (flying k 0) AsUnsigned i)
-          (λ w' m' i' g'. go w' m' (between_later w m w' m' z i' (grows_base x.base g') (stands_kept d g scope f b low s k w m w' m' x g')) (grows_base x.base g'))
+          (λ w' m' i' g'. go w' m' (between_later w m w' m' z i' (grows_base x.base g') (stands_kept d g scope f b low s k w m w' m' x g'))
+          (grows_base x.base g'))
 
       -- so many from the i-th on, which lies here
       pub runs_elements : {B : Type 0} (count i : ℕ) (o at : Spot) (w : Ghost) (m : Memory) (h : Act B) (Q : B → Memory → Type 0) → at
@@ -131,7 +132,8 @@ module _ (n : ℕ) (d : Tables) (g : Env) (scope : Scope) (f : NameOf → Region
                   (elements (length ts) count (i + 1) o (index_in a) element >> h) Q y.inv
                   (ap m2.state there ∙ live s k y.ghost m2 y.inv (scene_now y.ghost m2 z2)) new counted2
                   (subst (λ (p : Spot). BlankAt y.ghost m2 p (ts ++ repeated count ts)) here
-                  (blank_kept k b w m y.ghost m2 at (ts ++ repeated count ts) (subst (λ (p : Spot). p.object < m.objects p.region) (sym here) counted) g2 blank))
+                  (blank_kept k b w m y.ghost m2 at (ts ++ repeated count ts)
+                  (subst (λ (p : Spot). p.object < m.objects p.region) (sym here) counted) g2 blank))
                   y.holds.0 z2.grows
                   (λ w3 m3 i3 u.
                   runs_elements count (i + 1) o (beyond (beyond o (i * length ts)) (length ts)) w3 m3 h Q

@@ -216,12 +216,14 @@ module _ (n : ℕ) (d : Tables) (g : Env) (scope : Scope) (f : NameOf → Region
               × Standing d g scope f (ua.look (uc.look s).states).states w' m'))
           found held s first second t seat to all same (IsThin {n = m} {r = r}) bound word count live =
               subst (λ (all : ℕ). Finds n d g scope f b low s (ua.look (uc.look s).states).states to r (reach all)) (sym bound)
-              (finds_subscripted n d g scope f b low s (uc.look s).states (ua.look (uc.look s).states).states m r to c.type cells index.look e.look word fits.0 count
+              (finds_subscripted n d g scope f b low s (uc.look s).states (ua.look (uc.look s).states).states m r to c.type cells index.look e.look word
+              fits.0 count
               (strictly g r strict live) (y.look s first)
               (subst (λ (q : StaticType). Shows n d g scope f b low (uc.look s).states (ua.look (uc.look s).states).states q e.look) same
               (p.look (uc.look s).states second)))
           found held s first second t seat to all same (IsFat {r = r}) bound word count live =
-              finds_indexed n d g scope f b low s (uc.look s).states (ua.look (uc.look s).states).states r to c.type cells all index.look e.look word fits.0 count
+              finds_indexed n d g scope f b low s (uc.look s).states (ua.look (uc.look s).states).states r to c.type cells all index.look e.look word
+              fits.0 count
               (strictly g r strict live) (y.look s first)
               (subst (λ (q : StaticType). Shows n d g scope f b low (uc.look s).states (ua.look (uc.look s).states).states q e.look) same
               (p.look (uc.look s).states second))

@@ -118,7 +118,8 @@ module _ (n : ℕ) (d : Tables) (g : Env) (scope : Scope) (f : NameOf → Region
 
           fills : (k : ℕ) (w : Ghost) (m : Memory) (birth c : ℕ) (w2 : Ghost) (m2 : Memory) → Inv d w2 m2 → Grows k b w m w2 m2 → f r ≡ Born birth
               → m2.state (Born birth) ≡ Live → Scene d g scope f b low s3 k w2 m2
-              → Runs n (rest c (next_spot m2 (Born birth))) (with_object m2 (Born birth) (array_of c (map blank_cell (map shape_of (cells_type d f t))))) (post k w m)
+              → Runs n (rest c (next_spot m2 (Born birth))) (with_object m2 (Born birth) (array_of c (map blank_cell (map shape_of (cells_type d f t)))))
+              (post k w m)
           fills k w m birth c w2 m2 i2 g2 region lives x2 =
               let at : Spot = next_spot m2 (Born birth) in
               let made_there : Memory = with_object m2 (Born birth) (array_of c (map blank_cell (map shape_of (cells_type d f t)))) in

@@ -160,7 +160,8 @@ module _ (n : ℕ) (d : Tables) (g : Env) (scope : Scope) (f : NameOf → Region
     sound = inl (sound_index n d g scope f b low at v (λ s k w k2 z. z.indices x at m e) h.type h.seat);
   }
 
-  pub denotes_null : (v : Value) → Valued v Null → Denotes v (value_use nothing) (value_sense (ThinShape (MayBeNull 1) Shared VoidShape) (give (memory.Thin None ∷ [])))
+  pub denotes_null : (v : Value) → Valued v Null
+      → Denotes v (value_use nothing) (value_sense (ThinShape (MayBeNull 1) Shared VoidShape) (give (memory.Thin None ∷ [])))
   denotes_null v h = denotes_value v nothing Null _ (give (memory.Thin None ∷ [])) tt tt h refl
       (gives_at_once n d g scope f b low Null (memory.Thin None ∷ []) (λ k w. (refl, tt)))
 
@@ -263,7 +264,8 @@ module _ (n : ℕ) (d : Tables) (g : Env) (scope : Scope) (f : NameOf → Region
       by : (l : Option Local) → find_local g.locals x.text ≡ l → IsObjectType t
           → (c : ℕ) (z : Bound g.regions.count f (entity_of scope x.text) (ArrayShape c (shape_of t)) t r)
           → Denotes v (use_of_name g x l) (value_sense (FatShape (shape_of t)) (give (span_at c z.at ∷ [])))
-      by None q it c z = denotes_unplaced x.at (is_moved g (variable x.at (find g.tables x.text))) v (value_sense (FatShape (shape_of t)) (give (span_at c z.at ∷ [])))
+      by None q it c z = denotes_unplaced x.at (is_moved g (variable x.at (find g.tables x.text))) v
+          (value_sense (FatShape (shape_of t)) (give (span_at c z.at ∷ [])))
           (denotes_value v nothing (Fat r t) (FatShape (shape_of t)) (give (span_at c z.at ∷ [])) it (z.within, z.below) (value_of x.at (Fat r t) v e) refl
           (gives_array n d g scope f b low x.text t r c z m (ap (is_own g.tables) q))) (value_of x.at (Fat r t) v e).seat
       by (Some l) q it c z =

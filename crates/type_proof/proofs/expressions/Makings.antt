@@ -16,7 +16,8 @@ use Rattle.source_typing.specs.Making as rules
 use Rattle.source_typing.specs.Making.{Goal, To, NoHandle, made_to, live_goal, handled_of}
 use Rattle.source_typing.specs.Regions.{TheHeap}
 use Rattle.source_typing.specs.Scope.{Env, Value, is_live}
-use Rattle.source_typing.specs.Types.{StaticType, Int, Unsigned, Char, Void, Null, Thin, Fat, Unique, Handle, Key, Struct, Union, is_integer, is_makeable, renamed}
+use Rattle.source_typing.specs.Types.{StaticType, Int, Unsigned, Char, Void, Null, Thin, Fat, Unique, Handle, Key, Struct, Union, is_integer, is_makeable}
+use Rattle.source_typing.specs.Types.{renamed}
 use Rattle.source_typing.specs.Types.{shape_of}
 use Rattle.source_typing.specs.Verdicts.{Of, after, if_fits}
 use Rattle.source_typing.proofs.Inversion.{of_is}
@@ -263,7 +264,8 @@ module _ (n : ℕ) (d : Tables) (g : Env) (scope : Scope) (f : NameOf → Region
           (λ s q. y.value (p s).states (passed_second p u.value s q))
       by (inl y) =
           let shape : e.shape ≡ shape_of a.type = y.shape (object_some a.type it) in
-          denotes_value n d g scope f b low v (λ s. then_passed (p s) u.value) (Thin (NeverNull 1) r a.type) (ThinShape (NeverNull 1) Shared e.shape) _ it (below, h.below) z.1
+          denotes_value n d g scope f b low v (λ s. then_passed (p s) u.value) (Thin (NeverNull 1) r a.type) (ThinShape (NeverNull 1) Shared e.shape) _ it
+          (below, h.below) z.1
           (ap (ThinShape (NeverNull 1) Shared) shape)
           (λ s q. gives_new s (p s).states (u.value (p s).states).states a.type r to e agrees live below shape (aims s (passed_first p u.value s q))
           (y.value is (p s).states (passed_second p u.value s q)))

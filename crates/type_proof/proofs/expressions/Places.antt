@@ -20,7 +20,8 @@ use Rattle.type_proof.proofs.invariant.Growth.{grows_refl, grows_trans, grows_le
 use Rattle.type_proof.proofs.invariant.Cells.{cell, seen, runs_read, Copied, runs_read_laid, runs_write_laid}
 use Rattle.type_proof.proofs.invariant.Arguments.{Agrees}
 use Rattle.type_proof.proofs.invariant.Names.{NameOf}
-use Rattle.type_proof.proofs.invariant.Sound.{shape_renamed, Holder, Looked, cells_type, PlaceStands, Gives, Shows, Stores, FindsAny, Sound, gives_shows, none_first}
+use Rattle.type_proof.proofs.invariant.Sound.{shape_renamed, Holder, Looked, cells_type, PlaceStands, Gives, Shows, Stores, FindsAny, Sound, gives_shows}
+use Rattle.type_proof.proofs.invariant.Sound.{none_first}
 use Rattle.type_proof.proofs.invariant.Sound.{none_second}
 use Rattle.type_proof.proofs.invariant.Standing.{Standing, all_kept}
 use Rattle.type_proof.proofs.invariant.Scenes.{IndexStands, Scene, scene_later, scene_more}

@@ -275,7 +275,8 @@ module _ (n : ℕ) (d : Tables) (g : Env) (scope : Scope) (f : NameOf → Region
   -- ---- `*e` and `&e`
 
   -- NULL raises, and else the cell is there, in a region that is live
-  pub finds_contents : (s s2 : States) (c : Reach) (r : NameOf) (t : StaticType) (cells : ℕ) (act : Act (List Scalar)) → IsObjectType t → g.regions.live r ≡ true
+  pub finds_contents : (s s2 : States) (c : Reach) (r : NameOf) (t : StaticType) (cells : ℕ) (act : Act (List Scalar)) → IsObjectType t
+      → g.regions.live r ≡ true
       → Shows n d g scope f b low s s2 (Thin c r t) act → Finds n d g scope f b low s s2 t r (act >>= one >>= λ p. accessed cells p)
   finds_contents s s2 c r t cells act e live shows = λ k w m i x. record {
     by = λ next q. (runs_value s s2 (Thin c r t) act (λ p. accessed cells p) k w m (post k w m) e shows i x
@@ -306,6 +307,7 @@ module _ (n : ℕ) (d : Tables) (g : Env) (scope : Scope) (f : NameOf → Region
       ghost = y.ghost;
       inv = y.inv;
       grows = y.grows;
-      holds = (let z : PlaceOk d f t r a y.ghost m1 = y.holds.0 in ((inr (record { at = a; is = refl; reaches = z.0; elements = only_one d y.ghost a (f r) (renamed f t) z.0 }), tt), y.holds.1));
+      holds = (let z : PlaceOk d f t r a y.ghost m1 = y.holds.0 in
+          ((inr (record { at = a; is = refl; reaches = z.0; elements = only_one d y.ghost a (f r) (renamed f t) z.0 }), tt), y.holds.1));
     }));
   }

@@ -103,7 +103,8 @@ module _ (n : ℕ) (d : Tables) (g : Env) (scope : Scope) (f : NameOf → Region
     pub some : AreSome es → (is_testable a.type ≡ true) × Valued v Int
 
   -- a prefix
-  pub prefixed_sound : (i : Enclosing) (at : ℕ) (p : Prefix) (e : Sense) (a v : Value) (u : Use) (y : Verdict Value) → y ≡ Of a → Denotes n d g scope f b low a u e
+  pub prefixed_sound : (i : Enclosing) (at : ℕ) (p : Prefix) (e : Sense) (a v : Value) (u : Use) (y : Verdict Value) → y ≡ Of a
+      → Denotes n d g scope f b low a u e
       → rules.prefixed (within i g) at p a ≡ Of v → Denotes n d g scope f b low v (prefixed_use (within i g) at p y u) (calls.prefixed scope.world p e)
   prefixed_sound i at prefix.Negate e a v u y same h j = denotes_signed n d g scope f b low i setting.strict Subtract at 0 a v u e by h j
     where

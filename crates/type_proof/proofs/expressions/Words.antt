@@ -151,8 +151,10 @@ shape_itself Unsigned e = refl
 shape_itself Char e = refl
 shape_itself Void e = absurd e
 shape_itself Null e = absurd e
-shape_itself (Thin (MayBeNull n) r t) e = subst (λ b. b && same_shape (shape_of t) (shape_of t) ≡ true) (Rattle.std.proofs.Common.sym (eq-eqb n n refl)) (shape_itself t e)
-shape_itself (Thin (NeverNull n) r t) e = subst (λ b. b && same_shape (shape_of t) (shape_of t) ≡ true) (Rattle.std.proofs.Common.sym (eq-eqb n n refl)) (shape_itself t e)
+shape_itself (Thin (MayBeNull n) r t) e = subst (λ b. b && same_shape (shape_of t) (shape_of t) ≡ true) (Rattle.std.proofs.Common.sym (eq-eqb n n refl))
+    (shape_itself t e)
+shape_itself (Thin (NeverNull n) r t) e = subst (λ b. b && same_shape (shape_of t) (shape_of t) ≡ true) (Rattle.std.proofs.Common.sym (eq-eqb n n refl))
+    (shape_itself t e)
 shape_itself (Fat r t) e = shape_itself t e
 shape_itself (Unique true t) e = shape_itself t e
 shape_itself (Unique false t) e = shape_itself t e

@@ -10,7 +10,8 @@ use Rattle.source_typing.specs.Types as types
 use Rattle.source_typing.specs.Types.{Unique, shape_of}
 use Rattle.type_proof.specs.Flat.{Tables}
 use Rattle.type_proof.proofs.invariant.Facts.{at_region, at_spot, same_at, same_here}
-use Rattle.type_proof.proofs.invariant.Invariant.{IsNull, RunType, heap, Owner, Nobody, Flying, Returned, Pinned, InCell, Kept, Reached, Private, Ghost, HasType}
+use Rattle.type_proof.proofs.invariant.Invariant.{IsNull, RunType, heap, Owner, Nobody, Flying, Returned, Pinned, InCell, Kept, Reached, Private, Ghost}
+use Rattle.type_proof.proofs.invariant.Invariant.{HasType}
 use Rattle.type_proof.proofs.invariant.Invariant.{Reaches, CellOk, Steady, ByLoan, Resting, StateOk, Known, Inv, Grows}
 use Rattle.type_proof.proofs.invariant.Values.{laid_kept, single_one}
 use Rattle.type_proof.proofs.invariant.Moves.{out_of, into, owned_by, Turns, inv_turn, Alone}

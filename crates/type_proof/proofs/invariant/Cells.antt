@@ -25,7 +25,8 @@ abbrev pub cell : RunType → Content → Cell
 cell t c = record { shape = shape_of t; content = c }
 
 -- a value's shape is its type's
-thin_is : (n : Reach) (v : Scalar) (owner : _) (to : Shape) → IsNull (may_be_null n) v → is_of (Rattle.source_meaning.specs.Shapes.Shape.ThinShape n owner to) v ≡ true
+thin_is : (n : Reach) (v : Scalar) (owner : _) (to : Shape) → IsNull (may_be_null n) v
+    → is_of (Rattle.source_meaning.specs.Shapes.Shape.ThinShape n owner to) v ≡ true
 thin_is (MayBeNull count) v owner to h = ap (is_of (Rattle.source_meaning.specs.Shapes.Shape.ThinShape (MayBeNull count) owner to)) h.is
 thin_is (NeverNull count) v owner to h = absurd (false≢true h.allowed)
 

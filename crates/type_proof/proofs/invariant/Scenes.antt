@@ -12,7 +12,8 @@ use Rattle.source_typing.specs.Types.{StaticType, Unsigned, renamed, shape_of}
 use Rattle.type_proof.specs.Flat.{Tables, flat}
 pub use Rattle.source_typing.specs.Named.{AllBelow, TypeBelow}
 pub use Rattle.type_proof.proofs.invariant.Alikes.{Alike, renamed_alike}
-use Rattle.type_proof.proofs.invariant.Standing.{Alongside, Rooms, AllWithin, AllCounted, counted_more, LocalsBelow, Standing, SameAll, is_own, all_more, all_kept, all_same}
+use Rattle.type_proof.proofs.invariant.Standing.{Alongside, Rooms, AllWithin, AllCounted, counted_more, LocalsBelow, Standing, SameAll, is_own, all_more}
+use Rattle.type_proof.proofs.invariant.Standing.{all_kept, all_same}
 use Rattle.type_proof.proofs.invariant.Facts.{at_region}
 use Rattle.type_proof.proofs.invariant.Births.{bearing, with_birth}
 use Rattle.type_proof.proofs.invariant.Invariant.{RunType, heap, Kept, Reached, Private, Owner, Ghost, Laid, AllLaid, Inv, Grows}

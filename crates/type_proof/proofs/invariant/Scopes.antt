@@ -4,7 +4,8 @@ use Rattle.std.specs.Cmp.Derive.{both_true}
 use Rattle.std.specs.Prelude.{◌&&◌, if◌then◌else◌}
 use Rattle.std.proofs.lemmas.Bool.{cases_Bool, and_parts, false≢true}
 use Rattle.cyc_words.specs.Events.{RegionNew, RegionFree}
-use Rattle.source_meaning.specs.Memory.{Region, Frame, Born, Object, State, Live, Closed, Dead, Memory, same_region, with_object, with_state, is_live, state_is_live}
+use Rattle.source_meaning.specs.Memory.{Region, Frame, Born, Object, State, Live, Closed, Dead, Memory, same_region, with_object, with_state, is_live}
+use Rattle.source_meaning.specs.Memory.{state_is_live}
 use Rattle.source_meaning.specs.Steps.{Step, Flow, Act, give, ◌>>=◌, ◌>>◌, show}
 use Rattle.source_meaning.specs.Making.{set_state}
 use Rattle.source_meaning.specs.Regions.{in_region, in_block, region_born, region_freed}

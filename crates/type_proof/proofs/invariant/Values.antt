@@ -7,7 +7,8 @@ use Rattle.type_proof.proofs.invariant.Facts.{at_start}
 use Rattle.source_typing.specs.Types as types
 use Rattle.source_typing.specs.Types.{Int, Unsigned, Char, Void, Null, Fat, Unique, Handle, Key, Struct, Union, shape_of}
 use Rattle.type_proof.specs.Flat.{Tables, flat}
-use Rattle.type_proof.proofs.invariant.Invariant.{ReachesOn, RunType, Ghost, Owner, Nobody, InCell, Kept, Reached, Private, heap, Laid, AllLaid, Reaches, Member, HasPlain}
+use Rattle.type_proof.proofs.invariant.Invariant.{ReachesOn, RunType, Ghost, Owner, Nobody, InCell, Kept, Reached, Private, heap, Laid, AllLaid, Reaches}
+use Rattle.type_proof.proofs.invariant.Invariant.{Member, HasPlain}
 use Rattle.type_proof.proofs.invariant.Invariant.{HasType, HaveTypes, ContentOk}
 
 -- one object is one element, the first

@@ -63,7 +63,8 @@ runs_shared {B = B} n d world f w m o v c t h Q it typed go = by typed
     null true e p = record { by = λ next q. p.by next q }
     null false e p = absurd cc
 
-    leads : (a : Bool) (s : Spot) (next : B → Memory → Step) → Safe n (h (memory.Thin (Some s)) next m) → Safe n ((thin_to_thin (single a) (count_of (single a)) (Some s) >>= h) next m)
+    leads : (a : Bool) (s : Spot) (next : B → Memory → Step) → Safe n (h (memory.Thin (Some s)) next m)
+        → Safe n ((thin_to_thin (single a) (count_of (single a)) (Some s) >>= h) next m)
     leads true s next p = p
     leads false s next p = p
 
@@ -72,7 +73,8 @@ runs_shared {B = B} n d world f w m o v c t h Q it typed go = by typed
         (null c z.allowed (subst (λ (u : Scalar). Runs n (h u) m Q) z.is go))
     by (inr z) = subst (λ (u : Scalar). Runs n (act u) m Q) (sym z.is) (record {
       by = λ next q.
-          subst (λ (a : Bool). Safe n ((check a >> thin_to_thin (single c) (count_of (single c)) (Some (record { region = Born z.block; object = 0; cell = 0 })) >>= h) next m))
+          subst (λ (a : Bool). Safe n ((check a >> thin_to_thin (single c) (count_of (single c)) (Some (record { region = Born z.block; object = 0; cell = 0 }))
+          >>= h) next m))
           (sym (shape_itself t it))
           (leads c (record { region = Born z.block; object = 0; cell = 0 }) next ((subst (λ (u : Scalar). Runs n (h u) m Q) z.is go).by next q));
     })

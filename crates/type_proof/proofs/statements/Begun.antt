@@ -171,7 +171,8 @@ runs_begun d n k b K w m r o ts rest Q same i l begins first go =
     (begun_slice w m1 at ts (λ j. untyped d w m (beyond at j) i (omega arith) (w.types (beyond at j)) refl) (λ j.
     ap (λ (c : Bool). if c && nat_eq (m.objects r) (m.objects r) then o (0 + j) else m.cells (beyond at j)) (region_itself r)
     ∙ (ap (λ (c : Bool). if c then o (0 + j) else m.cells (beyond at j)) (eq-eqb (m.objects r) (m.objects r) refl) ∙ (ap o (omega arith) ∙ first j)))) in
-    let done = go at z.ghost m1 z.inv (z.grows w m (omega arith) (grows_object d k b w m r o i)) (record { region = refl; object = refl; first = refl; counted = there })
+    let done = go at z.ghost m1 z.inv (z.grows w m (omega arith) (grows_object d k b w m r o i))
+    (record { region = refl; object = refl; first = refl; counted = there })
     (λ y q e. old_cells m r o y (i.counted y q e)) z.values z.full in
     record {
       by = λ next q. (runs_check n (is_live m r) (λ next2 m2. rest at next2 m1) m Q (ap state_is_live l)

@@ -45,7 +45,8 @@ use Rattle.type_proof.proofs.invariant.Scenes.{
 }
 use Rattle.type_proof.proofs.invariant.Objects.{FullAt}
 use Rattle.type_proof.proofs.invariant.Received.{kept_as, laid_new, stands_new}
-use Rattle.type_proof.proofs.invariant.Standing.{owns, is_own, InRoom, Room, ApartFrom, EntityWithin, EntityCounted, WhatBelow, LocalsBelow, LocalStands, SameAll, Standing, all_same, all_more}
+use Rattle.type_proof.proofs.invariant.Standing.{owns, is_own, InRoom, Room, ApartFrom, EntityWithin, EntityCounted, WhatBelow, LocalsBelow, LocalStands}
+use Rattle.type_proof.proofs.invariant.Standing.{SameAll, Standing, all_same, all_more}
 use Rattle.type_proof.proofs.invariant.Standing as standing
 use Rattle.type_proof.proofs.Entries.{IsObjectType, MeansEntry, MeansPlain}
 
@@ -206,7 +207,8 @@ module _ (d : Tables) (world : World) (tables : typing.Tables) (g : Env) (scope 
         → ApartFrom at scope.locals → at.object < m.objects at.region
         → Scene d (extended g x t) (with_binding scope x.text (Variable (shape_of t) at)) f b b (begins_as top (Stored t g.frame) ∷ s) k w m
     scene_local b top s k w m vs same z full apart counted =
-        scene_named d world tables g scope f x (Stored t g.frame) (Variable (shape_of t) at) gives h (λ y. object) (new_bound (shape_of t)) h.frame_lives (λ q. cc)
+        scene_named d world tables g scope f x (Stored t g.frame) (Variable (shape_of t) at) gives h (λ y. object) (new_bound (shape_of t))
+        h.frame_lives (λ q. cc)
         b (begins_as top (Stored t g.frame)) s k w m z
         (λ o. local_laid w (laid_new g.tables d f t w m at vs full (reached (is_copyable g.tables t) o))) (new_room b s k w m z apart)
         (new_within b s k w m z) counted below
@@ -218,7 +220,8 @@ module _ (d : Tables) (world : World) (tables : typing.Tables) (g : Env) (scope 
         → Scene d (arrayed g x t) (with_binding scope x.text (Variable (ArrayShape n (shape_of t)) at)) f b b (a ∷ s) k w m
     scene_array n b a s k w m z laid apart counted =
         scene_named d world tables g scope f x (Arrayed t g.frame) (Variable (ArrayShape n (shape_of t)) at) gives h (λ y. object)
-        (n, new_bound (ArrayShape n (shape_of t))) h.frame_lives (λ q. cc) b a s k w m z (λ o. array_laid w n laid) (new_room b s k w m z apart) (new_within b s k w m z)
+        (n, new_bound (ArrayShape n (shape_of t))) h.frame_lives (λ q. cc) b a s k w m z (λ o. array_laid w n laid) (new_room b s k w m z apart)
+        (new_within b s k w m z)
         counted tt tt
 
 -- ---- a block is entered

@@ -39,5 +39,6 @@ each-preserved c =
 pub each-preserved-then-is_done : goal.each-preserved-then-is_done
 each-preserved-then-is_done c =
     let is : c.each.rest.now ≡ c.in-Some.statement.now ∷ c.in-Some.others.now = search rules in
-    operation_done c.each.rest.now c.in-Some.statement.now c.in-Some.others.now is c.each.invariant c.in-Do.field-0 c.in-Do.operation c.in-Do.is (due.Go (now.Leave flow.Falls))
+    operation_done c.each.rest.now c.in-Some.statement.now c.in-Some.others.now is c.each.invariant c.in-Do.field-0 c.in-Do.operation c.in-Do.is
+    (due.Go (now.Leave flow.Falls))
     (known_of c.operate_on_words.new.frame c.operate_on_words.new.memory) refl (c.in_ok-is_done.ensures.done c.if-is_done.true)

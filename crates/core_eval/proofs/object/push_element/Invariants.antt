@@ -4,5 +4,6 @@ use Rattle.core_eval.proofs.object.push_element.Given as goal
 
 abbrev pub invariant-each : goal.invariant-each
 invariant-each l = record {
-  whole : l.slots.items ++ map (slot_from l.is_begun (l.element * l.bytes)) (drop l.cell-index l.cells) ≡ l.fn.slots.items ++ map (slot_from l.is_begun (l.element * l.bytes)) l.cells;
+  whole : l.slots.items ++ map (slot_from l.is_begun (l.element * l.bytes)) (drop l.cell-index l.cells) ≡ l.fn.slots.items
+      ++ map (slot_from l.is_begun (l.element * l.bytes)) l.cells;
 }

@@ -55,7 +55,8 @@ returns c =
     let kept : map long_block_of c.keep_block.new.blocks.items ≡ with_long_block longs (length rs) 0 l 1 =
     c.in_ok-keep_block.ensures
     ∙ ap (λ (x : Layout). with_long_block (map long_block_of born.long_blocks.items) (c.in_ok-birth.birth - 1) c.in_ok-object.object x 1) c.as_ref.ensures
-    ∙ ap (λ (bs : Vec code.LongBlock Global). with_long_block (map long_block_of bs.items) (c.in_ok-birth.birth - 1) c.in_ok-object.object l 1) after.long_blocks
+    ∙ ap (λ (bs : Vec code.LongBlock Global). with_long_block (map long_block_of bs.items) (c.in_ok-birth.birth - 1) c.in_ok-object.object l 1)
+    after.long_blocks
     ∙ ap (λ n. with_long_block longs n c.in_ok-object.object l 1) number ∙ ap (λ n. with_long_block longs (length rs) n l 1) first in
     given_after c.give.result f f' t
     (content_of (value.Pointer (record { area = area.Region (c.in_ok-birth.birth - 1); object = c.in_ok-object.object; byte = 0; cell = 0 }))) task m m'

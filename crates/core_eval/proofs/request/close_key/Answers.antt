@@ -9,7 +9,8 @@ pub returns-in-Birth : goal.returns-in-Birth
 returns-in-Birth c =
     let x = c.args.key.0 in
     let after = c.turn_region.ensures in
-    turn_answered c.done.result c.args.frame.now c.args.memory.now c.turn_region.new.self (core.KeyClose x) x standing.Opened (Some standing.Closed) (key_closes x)
+    turn_answered c.done.result c.args.frame.now c.args.memory.now c.turn_region.new.self (core.KeyClose x) x standing.Opened (Some standing.Closed)
+    (key_closes x)
     c.temp.result c.temp.ensures c.in-Birth.birth c.in-Birth.is c.turn_region.result c.done.ensures
     (record {
       blocks = after.blocks;

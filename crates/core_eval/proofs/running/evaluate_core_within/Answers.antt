@@ -51,7 +51,8 @@ returns-in-Err-clause-never_stuck g c =
     unstuck c.in-Err.ending (program_tree c.args.program.now) c.args.fuel _ _ _ _ (returns-in-Err-clause-evaluated g c)
 
 pub returns-in-Some-clause-evaluated : goal.returns-in-Some-clause-evaluated
-returns-in-Some-clause-evaluated g c = stage_stopped c.units.invariant.stage c.finish-ending.result _ c.finish-ending.ensures.same c.finish-ending.ensures.written
+returns-in-Some-clause-evaluated g c = stage_stopped c.units.invariant.stage c.finish-ending.result _ c.finish-ending.ensures.same
+    c.finish-ending.ensures.written
 
 pub returns-in-Some-clause-never_stuck : goal.returns-in-Some-clause-never_stuck
 returns-in-Some-clause-never_stuck g c =

@@ -12,7 +12,8 @@ waits-init c = reached _ _ _
 
 pub waits-preserved : goal.waits-preserved
 waits-preserved c =
-    ended c.waits.frame c.waits.memory c.waits.invariant (wait_of c.in-Some.pending) (waits_of c.next.new.stack.items) c.in-Some.ensures.some c.end_within.new.memory c.in_default-end_within.ensures.within
+    ended c.waits.frame c.waits.memory c.waits.invariant (wait_of c.in-Some.pending) (waits_of c.next.new.stack.items) c.in-Some.ensures.some
+    c.end_within.new.memory c.in_default-end_within.ensures.within
 
 pub returns-in_default : goal.returns-in_default
 returns-in_default c =
@@ -34,6 +35,7 @@ returns-in-Some-end_within c =
       regions = c.leave_call.ensures.regions;
       long_blocks = c.leave_call.ensures.long_blocks;
     } in
-    gone_on c.waits.frame c.waits.memory c.waits.invariant (wait_of c.in-Some.pending) (waits_of c.next.new.stack.items) c.in-Some.ensures.some c.take_caller.result
+    gone_on c.waits.frame c.waits.memory c.waits.invariant (wait_of c.in-Some.pending) (waits_of c.next.new.stack.items) c.in-Some.ensures.some
+    c.take_caller.result
     (optional_tree c.in-Some-end_within.caller.to) c.in-Some-end_within.caller.saved c.take_caller.new.frame m m' c.in-Some-end_within.ensures.caller
     c.in-Some-end_within.ensures.same left c.take_caller.ensures

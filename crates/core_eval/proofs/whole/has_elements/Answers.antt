@@ -35,7 +35,8 @@ each-preserved c =
     record {
       area = ap (λ (q : Place). q.area) c.in_ok-at.ensures ∙ c.each.invariant.area;
       object = ap (λ (q : Place). q.object) c.in_ok-at.ensures ∙ c.each.invariant.object;
-      whole = λ d. element_passed slots cells l.bytes at.cell at.byte c.each.counter c.args.count _ within (c.each.invariant.whole d) c.in_ok-at.at.cell c.in_ok-at.at.byte
+      whole = λ d. element_passed slots cells l.bytes at.cell at.byte c.each.counter c.args.count _ within (c.each.invariant.whole d) c.in_ok-at.at.cell
+          c.in_ok-at.at.byte
           (cells_at stored p at cells at.cell at.byte c.each.invariant.area c.each.invariant.object ∙ sym (c.in_ok-are_cells.ensures.laid d) ∙ laid)
           (ap (λ (q : Place). q.cell) c.in_ok-at.ensures) (ap (λ (q : Place). q.byte) c.in_ok-at.ensures);
       alike = λ d. alike_passed slots cells at.cell c.each.counter c.args.count _ within (c.each.invariant.alike d) c.in_ok-at.at.cell

@@ -13,6 +13,9 @@ loop-i-preserved c =
           (let end : c.if-not-is_space.end ≡ i + 1 = w.end-is in
           (other_more s i c.loop-i-test.true (sym c.is_space.ensures ∙ w.if-not-is_space.true) ∙ ap (λ k. take k s) (sym end), omega arith))
       | else-not-is_space w ↦
-          (let end : c.if-not-is_space.end ≡ c.loop-i.end = w.end-is in
-          (space_more s i c.loop-i.end c.loop-i-test.true (sym c.is_space.ensures ∙ w.if-not-is_space.false) c.loop-i.invariant.0 ∙ ap (λ k. take k s) (sym end), omega arith))
+          (let end : c.if-not-is_space.end ≡ c.loop-i.end = w.end-is in (
+            space_more s i c.loop-i.end c.loop-i-test.true (sym c.is_space.ensures ∙ w.if-not-is_space.false) c.loop-i.invariant.0
+                ∙ ap (λ k. take k s) (sym end),
+            omega arith,
+          ))
     ]

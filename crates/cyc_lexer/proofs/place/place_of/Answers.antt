@@ -10,4 +10,8 @@ loop-byte-preserved c =
     let below : c.loop-byte.byte-index < length xs = omega arith in
     let lines = line_ends-more xs c.loop-byte.byte-index below in
     let columns = since_line_end-more xs c.loop-byte.byte-index below in
-    elim c.if-byte-eq10.branch [ then-byte-eq10 w ↦ (grind (arith, nat_tests), grind (arith, nat_tests)) | else-byte-eq10 w ↦ (grind (arith, nat_tests), grind (arith, nat_tests)) ]
+    elim c.if-byte-eq10.branch [
+      | then-byte-eq10 w ↦ (grind (arith, nat_tests), grind (arith, nat_tests))
+      | else-byte-eq10 w ↦
+          (grind (arith, nat_tests), grind (arith, nat_tests))
+    ]

@@ -8,8 +8,11 @@ use Rattle.cyc_lexer.proofs.TextSteps.{over_gap, over_token, fault_here, all_rea
 use Rattle.cyc_lexer.proofs.text.tokens.Goals as goal
 
 pub loop-at-init : goal.loop-at-init
-loop-at-init c =
-    (omega arith, subst (λ (ts : List TokenTree). Lexing 0 c.args.text.now ts 0 c.args.text.now) (sym (ap (map token_tree) c.new-found.ensures.items)) (Lexing.stays 0 c.args.text.now))
+loop-at-init c = (
+  omega arith,
+  subst (λ (ts : List TokenTree). Lexing 0 c.args.text.now ts 0 c.args.text.now) (sym (ap (map token_tree) c.new-found.ensures.items))
+      (Lexing.stays 0 c.args.text.now),
+)
 
 pub overflow_add-at : goal.overflow_add-at
 overflow_add-at c =
@@ -26,21 +29,24 @@ loop-at-preserved-in-Some c =
 
 pub slice_bounds-push-end : goal.slice_bounds-push-end
 slice_bounds-push-end c =
-    let goes = over_token c.args.text.now (map token_tree c.loop-at.found.items) c.loop-at.at c.in-Some-next_token.kind c.in-Some-next_token.length c.loop-at.invariant.0 c.loop-at.invariant.1
+    let goes = over_token c.args.text.now (map token_tree c.loop-at.found.items) c.loop-at.at c.in-Some-next_token.kind c.in-Some-next_token.length
+    c.loop-at.invariant.0 c.loop-at.invariant.1
     (sym c.next_token.ensures ∙ c.in-Some-next_token.is) in
     let within = goes.within in
     omega (arith, length-take {A = ℕ}, length-drop {A = ℕ})
 
 pub overflow_add-at-in-Some-next_token : goal.overflow_add-at-in-Some-next_token
 overflow_add-at-in-Some-next_token c =
-    let goes = over_token c.args.text.now (map token_tree c.loop-at.found.items) c.loop-at.at c.in-Some-next_token.kind c.in-Some-next_token.length c.loop-at.invariant.0 c.loop-at.invariant.1
+    let goes = over_token c.args.text.now (map token_tree c.loop-at.found.items) c.loop-at.at c.in-Some-next_token.kind c.in-Some-next_token.length
+    c.loop-at.invariant.0 c.loop-at.invariant.1
     (sym c.next_token.ensures ∙ c.in-Some-next_token.is) in
     let within = goes.within in
     omega arith
 
 pub loop-at-smaller : goal.loop-at-smaller
 loop-at-smaller c =
-    let goes = over_token c.args.text.now (map token_tree c.loop-at.found.items) c.loop-at.at c.in-Some-next_token.kind c.in-Some-next_token.length c.loop-at.invariant.0 c.loop-at.invariant.1
+    let goes = over_token c.args.text.now (map token_tree c.loop-at.found.items) c.loop-at.at c.in-Some-next_token.kind c.in-Some-next_token.length
+    c.loop-at.invariant.0 c.loop-at.invariant.1
     (sym c.next_token.ensures ∙ c.in-Some-next_token.is) in
     let some = goes.some in
     omega arith
@@ -50,7 +56,8 @@ loop-at-preserved c =
     let text = c.args.text.now in
     let at = c.loop-at.at in
     let n = c.in-Some-next_token.length in
-    let goes = over_token c.args.text.now (map token_tree c.loop-at.found.items) c.loop-at.at c.in-Some-next_token.kind c.in-Some-next_token.length c.loop-at.invariant.0 c.loop-at.invariant.1
+    let goes = over_token c.args.text.now (map token_tree c.loop-at.found.items) c.loop-at.at c.in-Some-next_token.kind c.in-Some-next_token.length
+    c.loop-at.invariant.0 c.loop-at.invariant.1
     (sym c.next_token.ensures ∙ c.in-Some-next_token.is) in
     let pushed = ap (map token_tree) c.in_ok-push.ensures.items ∙ map_push token_tree c.loop-at.found.items _ in
     (goes.within, subst (λ (ts : List TokenTree). Lexing 0 text ts (at + n) (drop (at + n) text)) (sym pushed) goes.so_far)

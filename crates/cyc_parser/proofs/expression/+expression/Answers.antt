@@ -10,12 +10,14 @@ use Rattle.cyc_parser.specs.Levels.{levels_from, levels_left}
 use Rattle.cyc_parser.specs.Reading.{next_place}
 use Rattle.cyc_parser.specs.Tests.{is_sign, is_operator, begins_suffix, begins_unary}
 use Rattle.cyc_parser.specs.Reader.{Fails, Gives, next_is, passes, behind}
-use Rattle.cyc_parser.specs.ReadExpressions.{level_over, all_of, any_of, suffix_by, suffixes_by, links_by, chain_by, all_of_by, any_of_by, expression_at, unary_at}
+use Rattle.cyc_parser.specs.ReadExpressions.{level_over, all_of, any_of, suffix_by, suffixes_by, links_by, chain_by, all_of_by, any_of_by, expression_at}
+use Rattle.cyc_parser.specs.ReadExpressions.{unary_at}
 use Rattle.cyc_parser.proofs.Chains.{is_all_of, is_any_of, is_one_of_all, is_one_of_any}
 use Rattle.cyc_parser.proofs.ReadLoops.{pushed, fails_so, is_done}
 use Rattle.cyc_parser.proofs.ReadSome.{refused, last_pushed, goes_behind}
 use Rattle.cyc_parser.proofs.ReadSteps.{is_too_deep, other_fails, other_pushed, others_done}
-use Rattle.cyc_parser.proofs.ReadChains.{link_by, above, operator_stands, no_operator_stands, operand_fails, link_read, chain_none, chain_first_fails, chain_links_fail, chain_read, expression_none, unary_none, expression_below, unary_below}
+use Rattle.cyc_parser.proofs.ReadChains.{link_by, above, operator_stands, no_operator_stands, operand_fails, link_read, chain_none, chain_first_fails}
+use Rattle.cyc_parser.proofs.ReadChains.{chain_links_fail, chain_read, expression_none, unary_none, expression_below, unary_below}
 use Rattle.cyc_parser.proofs.expression.+expression.Goals as goal
 
 -- ---- the nesting
@@ -49,7 +51,8 @@ unfolding any_of_by
 any_of-returns-in_err-all_of-clause-reads t c =
     let p = err_from_is_err_and c.from_residual-in_err-all_of.result c.from_residual-in_err-all_of.ensures.1 in
     rw (p.1, p.2) (other_fails sign.OrOr (all_of_by (unary_at c.args.depth)) any_of c.args.cursor.now c.all_of.new.cursor c.others.cursor
-    c.eat.new.self _ (map expression_tree c.others.others.items) (next_place c.others.cursor) c.in_err-all_of.field-0.0 c.others.invariant.first (sym c.others-test.ensures.next)
+    c.eat.new.self _ (map expression_tree c.others.others.items) (next_place c.others.cursor) c.in_err-all_of.field-0.0 c.others.invariant.first
+    (sym c.others-test.ensures.next)
     c.others-test.ensures.reads c.in_err-all_of.ensures.reads c.others.invariant.read)
 
 pub any_of-others-preserved : goal.any_of-others-preserved
@@ -57,7 +60,8 @@ any_of-others-preserved t c = record {
   first = c.others.invariant.first;
   shorter = omega (arith, c.in_ok-all_of.ensures.shorter, c.others-test.ensures.shorter, c.others.invariant.shorter);
   read = other_pushed expression_tree sign.OrOr (all_of_by (unary_at c.args.depth)) c.others.cursor c.eat.new.self c.all_of-in-others.new.cursor
-      c.others.others.items c.push.new.self.items c.in_ok-all_of.field-0 (next_place c.others.cursor) _ c.in_ok-push.ensures.items (sym c.others-test.ensures.next)
+      c.others.others.items c.push.new.self.items c.in_ok-all_of.field-0 (next_place c.others.cursor) _ c.in_ok-push.ensures.items
+      (sym c.others-test.ensures.next)
       c.others-test.ensures.reads c.in_ok-all_of.ensures.reads (omega (
         arith,
         c.in_ok-all_of.ensures.shorter,
@@ -84,7 +88,8 @@ unfolding all_of_by
 all_of-returns-in_err-chain-clause-reads t c =
     let p = err_from_is_err_and c.from_residual-in_err-chain.result c.from_residual-in_err-chain.ensures.1 in
     rw (p.1, p.2) (other_fails sign.AndAnd (chain_by (unary_at c.args.depth) 8) all_of c.args.cursor.now c.chain.new.cursor
-    c.others.cursor c.eat.new.self _ (map expression_tree c.others.others.items) (next_place c.others.cursor) c.in_err-chain.field-0.0 c.others.invariant.first (sym c.others-test.ensures.next)
+    c.others.cursor c.eat.new.self _ (map expression_tree c.others.others.items) (next_place c.others.cursor) c.in_err-chain.field-0.0 c.others.invariant.first
+    (sym c.others-test.ensures.next)
     c.others-test.ensures.reads c.in_err-chain.ensures.reads c.others.invariant.read)
 
 pub all_of-others-preserved : goal.all_of-others-preserved
@@ -92,7 +97,8 @@ all_of-others-preserved t c = record {
   first = c.others.invariant.first;
   shorter = omega (arith, c.in_ok-chain.ensures.shorter, c.others-test.ensures.shorter, c.others.invariant.shorter);
   read = other_pushed expression_tree sign.AndAnd (chain_by (unary_at c.args.depth) 8) c.others.cursor c.eat.new.self c.chain-in-others.new.cursor
-      c.others.others.items c.push.new.self.items c.in_ok-chain.field-0 (next_place c.others.cursor) _ c.in_ok-push.ensures.items (sym c.others-test.ensures.next)
+      c.others.others.items c.push.new.self.items c.in_ok-chain.field-0 (next_place c.others.cursor) _ c.in_ok-push.ensures.items
+      (sym c.others-test.ensures.next)
       c.others-test.ensures.reads c.in_ok-chain.ensures.reads (omega (arith, c.in_ok-chain.ensures.shorter, c.others-test.ensures.shorter))
       c.others.invariant.read;
 }

@@ -7,7 +7,8 @@ use Rattle.cyc_parser.proofs.ReadLists.{behind_commas}
 use Rattle.cyc_parser.proofs.function.parameters.Given as goal
 
 abbrev pub invariant-more : goal.invariant-more
-invariant-more l = (with_front (map member_tree l.parameters.items) (behind_commas typed_name l.cursor) ≡ parameters l.fn.cursor) × (length l.cursor ≤ length l.fn.cursor)
+invariant-more l = (with_front (map member_tree l.parameters.items) (behind_commas typed_name l.cursor) ≡ parameters l.fn.cursor)
+    × (length l.cursor ≤ length l.fn.cursor)
 
 abbrev pub decreases-more : goal.decreases-more
 decreases-more l = length l.cursor

@@ -19,7 +19,12 @@ pub returns-in_err-sign-2-clause-reads : goal.returns-in_err-sign-2-clause-reads
 returns-in_err-sign-2-clause-reads c =
     let p = err_from_is_err_and c.from_residual-in_err-sign-2.result c.from_residual-in_err-sign-2.ensures.1 in
     let ms = map member_tree c.in_ok-members.members.items in
-    rw (p.1, p.2, ended c.in_ok-sign.field-0 ms c.args.cursor.now c.sign.new.self c.some_members.new.cursor c.in_ok-sign.ensures.reads c.in_ok-members.ensures.reads)
+    rw (
+      p.1,
+      p.2,
+      ended c.in_ok-sign.field-0 ms c.args.cursor.now c.sign.new.self c.some_members.new.cursor c.in_ok-sign.ensures.reads
+          c.in_ok-members.ensures.reads,
+    )
     (first_fails c.in_err-sign-2.field-0.0 (sign sign_of.RightBrace c.some_members.new.cursor) (λ x. read (sign sign_of.Semicolon) (λ _. done ms) x.1)
     c.in_err-sign-2.ensures.reads)
 

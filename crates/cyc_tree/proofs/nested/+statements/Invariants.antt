@@ -8,4 +8,5 @@ abbrev pub invariant-items_nesting-each : goal.invariant-items_nesting-each
 invariant-items_nesting-each l = IsGreatestWith (λ is. greatest_depth (items_starts 0 (items_of (map item_tree is)))) l.items l.item-index l.greatest
 
 abbrev pub invariant-clauses_nesting-each : goal.invariant-clauses_nesting-each
-invariant-clauses_nesting-each l = IsGreatestWith (λ cs. greatest_depth (clauses_starts 0 (clauses_of (map clause_tree cs)))) l.clauses l.clause-index l.greatest
+invariant-clauses_nesting-each l = IsGreatestWith (λ cs. greatest_depth (clauses_starts 0 (clauses_of (map clause_tree cs)))) l.clauses
+    l.clause-index l.greatest

@@ -144,7 +144,8 @@ statement::lower_statement-returns-in-While-clause-writes t c sound =
     let test_is : test ≡ tested = c.lower_test-test.ensures.part two.sound ∙ ap (λ n. expression_code w names condition n own) to_is in
     let turn_is : turn ≡ body =
     c.lower_part-turn.ensures.part three.sound
-    ∙ ap (λ (r : RegionsAround). statement_code w result names r (next_of b) (source_tree c.deref-in-While.result.now)) (c.in_loop.ensures.regions c.args.opened.now)
+    ∙ ap (λ (r : RegionsAround). statement_code w result names r (next_of b) (source_tree c.deref-in-While.result.now))
+    (c.in_loop.ensures.regions c.args.opened.now)
     ∙ ap (statement_code w result names inside (next_of b)) part_is
     ∙ ap (λ n. statement_code w result names inside n part) (apart_next a b values one) in
     let loop =

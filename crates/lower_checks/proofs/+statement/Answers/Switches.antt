@@ -269,7 +269,8 @@ switch::lower_switch-returns-clause-writes t c sound =
     let written = switch_written b x y v (place_code w names e d (next_of b)) (tag_load (d + 1) d) cases others p q r one two last in
     let part = map statement_tree c.end-all.result.items in
     let part_are : part ≡ whole (next_of a) = part_is a b v part whole values begun written c.end-all.ensures.part in
-    let apart = part_apart a b v f (map statement_tree c.begin_at-outer.result.items) (whole (next_of b)) values begun c.begin_at-outer.ensures.aside written ended in
+    let apart = part_apart a b v f (map statement_tree c.begin_at-outer.result.items) (whole (next_of b)) values begun c.begin_at-outer.ensures.aside
+    written ended in
     let leave = subst (λ ss. IsEmitted f z (core.Leave (all_of ss) ∷ [])) part_are four in
     apart_emit a f z (core.Leave (all_of (whole (next_of a))) ∷ []) values apart leave
 

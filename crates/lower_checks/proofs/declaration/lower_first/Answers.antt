@@ -21,7 +21,8 @@ lower_unset-requires c = record {
       let names = names_in c.args.scope.now in
       let of = type_tree c.in-Local-default-default-None.of in
       let both = subst (λ (d : Declaration). TakesDeclaration w names d) (ap declaration_tree c.in-Local-default-default-None.is) (c.requires.taken sound) in
-      subst (IsVariable w.unions w.structs) (sym c.one.ensures) (object_named w.unions w.structs (settled (written of)) (object_settled w.unions w.structs of both.0));
+      subst (IsVariable w.unions w.structs) (sym c.one.ensures)
+      (object_named w.unions w.structs (settled (written of)) (object_settled w.unions w.structs of both.0));
 }
 
 pub lower_unset-requires-in-Local-default-default-Array : goal.lower_unset-requires-in-Local-default-default-Array

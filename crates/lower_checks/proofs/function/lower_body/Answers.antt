@@ -6,7 +6,8 @@ use Rattle.cyc_core.specs.Trees.{statement_tree}
 use Rattle.source_meaning.specs.Shapes.{Shape, part_of, part_shapes}
 use Rattle.source_meaning.specs.Programs.{world_of, routine_of}
 use Rattle.source_lowering.specs.Lowered.{Named}
-use Rattle.source_lowering.specs.Programs.{RegionsAround, no_regions, block_shapes, locals_of, parameter_names, parameters_code, item_values, items_code, end_code}
+use Rattle.source_lowering.specs.Programs.{RegionsAround, no_regions, block_shapes, locals_of, parameter_names, parameters_code, item_values, items_code}
+use Rattle.source_lowering.specs.Programs.{end_code}
 use Rattle.source_lowering.specs.Lowerable.{TakesItems}
 use Rattle.source_lowering.specs.Objects.{AreVariables}
 use Rattle.cyc_tree.specs.Room.{item_room}

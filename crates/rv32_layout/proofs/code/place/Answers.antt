@@ -42,7 +42,8 @@ returns-clause-has c = λ once.
     let lines = c.args.labelled.now.lines in
     let wide = wide_in lines in
     let is : c.as_slice.result.now ≡ shortened wide lines = c.as_slice.ensures.value ∙ c.in_ok-relaxed.ensures.lines in
-    let within : code_length (shortened wide lines) ≤ code_limit = omega (arith, c.in_ok-relaxed.ensures.placeable.within, ap code_length c.in_ok-relaxed.ensures.lines) in
+    let within : code_length (shortened wide lines) ≤ code_limit =
+    omega (arith, c.in_ok-relaxed.ensures.placeable.within, ap code_length c.in_ok-relaxed.ensures.lines) in
     record {
       wide = wide;
       each = all_said lines;

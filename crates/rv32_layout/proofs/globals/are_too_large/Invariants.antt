@@ -8,6 +8,7 @@ use Rattle.rv32_layout.proofs.globals.are_too_large.Given as goal
 
 abbrev pub invariant-each : goal.invariant-each
 invariant-each l = record {
-  whole : l.at + length (data_bytes (data_offsets (map datum_tree l.globals)) l.at (map datum_tree (drop l.global-index l.globals))) ≡ length (data_bytes (data_offsets (map datum_tree l.globals)) 0 (map datum_tree l.globals));
+  whole : l.at + length (data_bytes (data_offsets (map datum_tree l.globals)) l.at (map datum_tree (drop l.global-index l.globals)))
+      ≡ length (data_bytes (data_offsets (map datum_tree l.globals)) 0 (map datum_tree l.globals));
   within : l.at ≤ data_limit;
 }

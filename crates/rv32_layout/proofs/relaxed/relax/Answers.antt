@@ -11,7 +11,8 @@ use Rattle.rv32_layout.proofs.relaxed.relax.Goals as goal
 pub returns-then-is_too_large-clause-too_large : goal.returns-then-is_too_large-clause-too_large
 returns-then-is_too_large-clause-too_large c = λ _.
     let all = c.args.labelled.now.lines in
-    let over : code_limit < code_length (shortened (none_wide c.lines-all.result.now) c.lines-all.result.now) = grind (arith, c.is_too_large.ensures, c.if-is_too_large.true) in
+    let over : code_limit < code_length (shortened (none_wide c.lines-all.result.now) c.lines-all.result.now) =
+    grind (arith, c.is_too_large.ensures, c.if-is_too_large.true) in
     omega (
       arith,
       over,

@@ -31,7 +31,8 @@ returns c =
     let many = as_many fs fs in
     let number = main_is p _ c.in_ok-functions.ensures c.number-main.result c.number-main.ensures in
     let answers : (k : ℕ) → k < length fs → IsAnswer c.args.frames.now (calls_among fs fs) k (known c.in_ok-each.each.items k) =
-    λ k low. subst (λ (rs : List (List ℕ)). IsAnswer c.args.frames.now rs k (known c.in_ok-each.each.items k)) rows (c.in_ok-each.ensures.right k (omega arith)) in
+    λ k low. subst (λ (rs : List (List ℕ)). IsAnswer c.args.frames.now rs k (known c.in_ok-each.each.items k)) rows
+    (c.in_ok-each.ensures.right k (omega arith)) in
     record {
       main = number;
       calls = are_rows p _ c.in_ok-functions.ensures c.in_ok-calls.calls.items c.in_ok-calls.calls.items refl listed;

@@ -40,8 +40,10 @@ pub loop-is_last-smaller : goal.loop-is_last-smaller
 loop-is_last-smaller c =
     let left = c.in_ok-left.left in
     let waiting = c.loop-is_last.waiting in
-    let long : length c.turned-waiting.result.items ≡ length left.items = ap (λ (ks : List ℕ). length ks) c.turned-waiting.ensures ∙ length-reverse left.items in
-    subst (λ (n : ℕ). n + (if nat_eq c.len.result c.len-in-loop-is_last.result then 0 else 1) < length waiting.items + (if c.loop-is_last.is_last then 0 else 1))
+    let long : length c.turned-waiting.result.items ≡ length left.items = ap (λ (ks : List ℕ). length ks) c.turned-waiting.ensures
+    ∙ length-reverse left.items in
+    subst (λ (n : ℕ). n + (if nat_eq c.len.result c.len-in-loop-is_last.result then 0 else 1) < length waiting.items
+    + (if c.loop-is_last.is_last then 0 else 1))
     (sym long)
     (is_smaller (length left.items) (length waiting.items) _ (nat_eq (length left.items) (length waiting.items)) c.loop-is_last.is_last
     (same_test c.len.result c.len-in-loop-is_last.result (length left.items) (length waiting.items)

@@ -4,7 +4,8 @@ use Rattle.cyc_tree.specs.View.{expression_tree, expressions_of, link_tree, link
 use Rattle.source_meaning.specs.Callees.{expression_callees, expressions_callees, links_callees, suffixes_callees}
 use Rattle.source_meaning.specs.Strings.{expression_strings, expressions_strings, links_strings, suffixes_strings}
 use Rattle.tree_walk.specs.Listing.{Lists, link_callees, link_strings, suffix_callees, suffix_strings}
-use Rattle.tree_walk.proofs.Listing.{callees_of_expressions, callees_of_links, callees_of_suffixes, one_more, strings_of_expressions, strings_of_links, strings_of_suffixes}
+use Rattle.tree_walk.proofs.Listing.{callees_of_expressions, callees_of_links, callees_of_suffixes, one_more, strings_of_expressions, strings_of_links}
+use Rattle.tree_walk.proofs.Listing.{strings_of_suffixes}
 use Rattle.tree_walk.proofs.expressions.+expressions.Goals as goal
 
 -- those of one more are listed

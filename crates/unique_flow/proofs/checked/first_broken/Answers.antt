@@ -8,7 +8,8 @@ use Rattle.unique_flow.proofs.checked.first_broken.Goals as goal
 pub returns-in-Some : goal.returns-in-Some
 returns-in-Some c =
     let p = c.args.program.now in
-    first_is_sooner p c.args.broken c.in_ok-flow.flow c.requires c.in_ok-flow.ensures ∙ ap (λ (f : Option Fault). faults_of f) (sym c.sooner.ensures ∙ c.in-Some.is)
+    first_is_sooner p c.args.broken c.in_ok-flow.flow c.requires c.in_ok-flow.ensures ∙ ap (λ (f : Option Fault). faults_of f)
+    (sym c.sooner.ensures ∙ c.in-Some.is)
 
 pub returns-in-None : goal.returns-in-None
 returns-in-None c = absurd (sooner_is_some c.args.broken c.in_ok-flow.flow (sym c.sooner.ensures ∙ c.in-None.is))

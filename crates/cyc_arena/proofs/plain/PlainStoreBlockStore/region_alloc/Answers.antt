@@ -14,13 +14,15 @@ use Rattle.cyc_arena.proofs.plain.PlainStoreBlockStore.region_alloc.Goals as goa
 pub left_in-left-requires-clause-place : goal.left_in-left-requires-clause-place
 left_in-left-requires-clause-place c =
     let takes : takes_blocks c.args.handle (standing_at c.self.inside.standing.items c.args.handle) ≡ true = cc in
-    last_place _ c.args.handle c.args.bytes _ _ 0 c.self.invariant takes (short_room c.args.bytes c.room_for-room.result (c.room_for-room.ensures.room c.if-bytes-gt-LIMIT.false) c.if-room-gt-PAGE.false)
+    last_place _ c.args.handle c.args.bytes _ _ 0 c.self.invariant takes
+    (short_room c.args.bytes c.room_for-room.result (c.room_for-room.ensures.room c.if-bytes-gt-LIMIT.false) c.if-room-gt-PAGE.false)
     (c.room_for-room.ensures.room c.if-bytes-gt-LIMIT.false) c.index-last.ensures
 
 pub index_mut-requires : goal.index_mut-requires
 index_mut-requires c =
     let takes : takes_blocks c.args.handle (standing_at c.self.inside.standing.items c.args.handle) ≡ true = cc in
-    let page = (cut _ c.args.handle c.args.bytes _ _ _ c.self.invariant takes (short_room c.args.bytes c.room_for-room.result (c.room_for-room.ensures.room c.if-bytes-gt-LIMIT.false) c.if-room-gt-PAGE.false)
+    let page = (cut _ c.args.handle c.args.bytes _ _ _ c.self.invariant takes
+    (short_room c.args.bytes c.room_for-room.result (c.room_for-room.ensures.room c.if-bytes-gt-LIMIT.false) c.if-room-gt-PAGE.false)
     (c.room_for-room.ensures.room c.if-bytes-gt-LIMIT.false) c.index-last.ensures
     c.left_in-left.ensures c.if-room-left.true).page in
     omega (arith, page)
@@ -28,7 +30,8 @@ index_mut-requires c =
 pub overflow_mul-result-then-room-left : goal.overflow_mul-result-then-room-left
 overflow_mul-result-then-room-left c =
     let takes : takes_blocks c.args.handle (standing_at c.self.inside.standing.items c.args.handle) ≡ true = cc in
-    let low = (cut _ c.args.handle c.args.bytes _ _ _ c.self.invariant takes (short_room c.args.bytes c.room_for-room.result (c.room_for-room.ensures.room c.if-bytes-gt-LIMIT.false) c.if-room-gt-PAGE.false)
+    let low = (cut _ c.args.handle c.args.bytes _ _ _ c.self.invariant takes
+    (short_room c.args.bytes c.room_for-room.result (c.room_for-room.ensures.room c.if-bytes-gt-LIMIT.false) c.if-room-gt-PAGE.false)
     (c.room_for-room.ensures.room c.if-bytes-gt-LIMIT.false) c.index-last.ensures
     c.left_in-left.ensures c.if-room-left.true).low in
     omega (arith, low)
@@ -36,7 +39,8 @@ overflow_mul-result-then-room-left c =
 pub overflow_add-result-then-room-left-2 : goal.overflow_add-result-then-room-left-2
 overflow_add-result-then-room-left-2 c =
     let takes : takes_blocks c.args.handle (standing_at c.self.inside.standing.items c.args.handle) ≡ true = cc in
-    let low = (cut _ c.args.handle c.args.bytes _ _ _ c.self.invariant takes (short_room c.args.bytes c.room_for-room.result (c.room_for-room.ensures.room c.if-bytes-gt-LIMIT.false) c.if-room-gt-PAGE.false)
+    let low = (cut _ c.args.handle c.args.bytes _ _ _ c.self.invariant takes
+    (short_room c.args.bytes c.room_for-room.result (c.room_for-room.ensures.room c.if-bytes-gt-LIMIT.false) c.if-room-gt-PAGE.false)
     (c.room_for-room.ensures.room c.if-bytes-gt-LIMIT.false) c.index-last.ensures
     c.left_in-left.ensures c.if-room-left.true).low in
     omega (arith, low)
@@ -44,7 +48,8 @@ overflow_add-result-then-room-left-2 c =
 pub overflow_add-result-then-room-left : goal.overflow_add-result-then-room-left
 overflow_add-result-then-room-left c =
     let takes : takes_blocks c.args.handle (standing_at c.self.inside.standing.items c.args.handle) ≡ true = cc in
-    let low = (cut _ c.args.handle c.args.bytes _ _ _ c.self.invariant takes (short_room c.args.bytes c.room_for-room.result (c.room_for-room.ensures.room c.if-bytes-gt-LIMIT.false) c.if-room-gt-PAGE.false)
+    let low = (cut _ c.args.handle c.args.bytes _ _ _ c.self.invariant takes
+    (short_room c.args.bytes c.room_for-room.result (c.room_for-room.ensures.room c.if-bytes-gt-LIMIT.false) c.if-room-gt-PAGE.false)
     (c.room_for-room.ensures.room c.if-bytes-gt-LIMIT.false) c.index-last.ensures
     c.left_in-left.ensures c.if-room-left.true).low in
     omega (arith, low)
@@ -52,7 +57,8 @@ overflow_add-result-then-room-left c =
 pub invariant_of-self : goal.invariant_of-self
 invariant_of-self c =
     let takes : takes_blocks c.args.handle (standing_at c.self.inside.standing.items c.args.handle) ≡ true = cc in
-    (cut _ c.args.handle c.args.bytes _ _ _ c.self.invariant takes (short_room c.args.bytes c.room_for-room.result (c.room_for-room.ensures.room c.if-bytes-gt-LIMIT.false) c.if-room-gt-PAGE.false)
+    (cut _ c.args.handle c.args.bytes _ _ _ c.self.invariant takes
+    (short_room c.args.bytes c.room_for-room.result (c.room_for-room.ensures.room c.if-bytes-gt-LIMIT.false) c.if-room-gt-PAGE.false)
     (c.room_for-room.ensures.room c.if-bytes-gt-LIMIT.false) c.index-last.ensures c.left_in-left.ensures
     c.if-room-left.true).sound
 
@@ -61,7 +67,8 @@ returns-then-room-left-clause-does c =
     let takes : takes_blocks c.args.handle (standing_at c.self.inside.standing.items c.args.handle) ≡ true = cc in
     does_along (λ m. region_alloc c.args.handle c.args.bytes (Grants (arena_base + 4096 * (c.index-last.result.now - 1) +
     (4096 - c.left_in-left.result))) m) _ _ _ _ c.self.view_is
-    (cut _ c.args.handle c.args.bytes _ _ _ c.self.invariant takes (short_room c.args.bytes c.room_for-room.result (c.room_for-room.ensures.room c.if-bytes-gt-LIMIT.false) c.if-room-gt-PAGE.false)
+    (cut _ c.args.handle c.args.bytes _ _ _ c.self.invariant takes
+    (short_room c.args.bytes c.room_for-room.result (c.room_for-room.ensures.room c.if-bytes-gt-LIMIT.false) c.if-room-gt-PAGE.false)
     (c.room_for-room.ensures.room c.if-bytes-gt-LIMIT.false) c.index-last.ensures c.left_in-left.ensures
     c.if-room-left.true).does
 
@@ -69,41 +76,49 @@ pub returns-then-room-left-clause-full : goal.returns-then-room-left-clause-full
 returns-then-room-left-clause-full c =
     let takes : takes_blocks c.args.handle (standing_at c.self.inside.standing.items c.args.handle) ≡ true = cc in
     test_along (λ m. is_block_refused c.args.handle c.args.bytes m) false _ _ c.self.view_is
-    (cut _ c.args.handle c.args.bytes _ _ _ c.self.invariant takes (short_room c.args.bytes c.room_for-room.result (c.room_for-room.ensures.room c.if-bytes-gt-LIMIT.false) c.if-room-gt-PAGE.false)
+    (cut _ c.args.handle c.args.bytes _ _ _ c.self.invariant takes
+    (short_room c.args.bytes c.room_for-room.result (c.room_for-room.ensures.room c.if-bytes-gt-LIMIT.false) c.if-room-gt-PAGE.false)
     (c.room_for-room.ensures.room c.if-bytes-gt-LIMIT.false) c.index-last.ensures c.left_in-left.ensures
     c.if-room-left.true).free
 
 pub invariant_of-self-in-Some : goal.invariant_of-self-in-Some
 invariant_of-self-in-Some c =
     let takes : takes_blocks c.args.handle (standing_at c.self.inside.standing.items c.args.handle) ≡ true = cc in
-    (taken_as _ c.args.handle c.args.bytes _ _ _ c.self.invariant takes (short_room c.args.bytes c.room_for-room.result (c.room_for-room.ensures.room c.if-bytes-gt-LIMIT.false) c.if-room-gt-PAGE.false)
+    (taken_as _ c.args.handle c.args.bytes _ _ _ c.self.invariant takes
+    (short_room c.args.bytes c.room_for-room.result (c.room_for-room.ensures.room c.if-bytes-gt-LIMIT.false) c.if-room-gt-PAGE.false)
     (c.room_for-room.ensures.room c.if-bytes-gt-LIMIT.false) c.index-last.ensures c.in-Some.page
     c.left_in-left.ensures c.if-room-left.false
-    (subst (λ xs. Finds 0 xs (Some c.in-Some.page)) c.deref.ensures.value c.in-Some.ensures.found) (subst (λ xs. IsLowest 0 xs (Some c.in-Some.page)) c.deref.ensures.value c.in-Some.ensures.lowest) _ c.used_with-self-inside.ensures).sound
+    (subst (λ xs. Finds 0 xs (Some c.in-Some.page)) c.deref.ensures.value c.in-Some.ensures.found)
+    (subst (λ xs. IsLowest 0 xs (Some c.in-Some.page)) c.deref.ensures.value c.in-Some.ensures.lowest) _ c.used_with-self-inside.ensures).sound
 
 pub returns-in-Some-clause-does : goal.returns-in-Some-clause-does
 returns-in-Some-clause-does c =
     let takes : takes_blocks c.args.handle (standing_at c.self.inside.standing.items c.args.handle) ≡ true = cc in
     does_along (λ m. region_alloc c.args.handle c.args.bytes (Grants (arena_base + 4096 * c.in-Some.page)) m) _ _ _ _ c.self.view_is
-    (taken_as _ c.args.handle c.args.bytes _ _ _ c.self.invariant takes (short_room c.args.bytes c.room_for-room.result (c.room_for-room.ensures.room c.if-bytes-gt-LIMIT.false) c.if-room-gt-PAGE.false)
+    (taken_as _ c.args.handle c.args.bytes _ _ _ c.self.invariant takes
+    (short_room c.args.bytes c.room_for-room.result (c.room_for-room.ensures.room c.if-bytes-gt-LIMIT.false) c.if-room-gt-PAGE.false)
     (c.room_for-room.ensures.room c.if-bytes-gt-LIMIT.false) c.index-last.ensures c.in-Some.page
     c.left_in-left.ensures c.if-room-left.false
-    (subst (λ xs. Finds 0 xs (Some c.in-Some.page)) c.deref.ensures.value c.in-Some.ensures.found) (subst (λ xs. IsLowest 0 xs (Some c.in-Some.page)) c.deref.ensures.value c.in-Some.ensures.lowest) _ c.used_with-self-inside.ensures).does
+    (subst (λ xs. Finds 0 xs (Some c.in-Some.page)) c.deref.ensures.value c.in-Some.ensures.found)
+    (subst (λ xs. IsLowest 0 xs (Some c.in-Some.page)) c.deref.ensures.value c.in-Some.ensures.lowest) _ c.used_with-self-inside.ensures).does
 
 pub returns-in-Some-clause-full : goal.returns-in-Some-clause-full
 returns-in-Some-clause-full c =
     let takes : takes_blocks c.args.handle (standing_at c.self.inside.standing.items c.args.handle) ≡ true = cc in
     test_along (λ m. is_block_refused c.args.handle c.args.bytes m) false _ _ c.self.view_is
-    (taken_as _ c.args.handle c.args.bytes _ _ _ c.self.invariant takes (short_room c.args.bytes c.room_for-room.result (c.room_for-room.ensures.room c.if-bytes-gt-LIMIT.false) c.if-room-gt-PAGE.false)
+    (taken_as _ c.args.handle c.args.bytes _ _ _ c.self.invariant takes
+    (short_room c.args.bytes c.room_for-room.result (c.room_for-room.ensures.room c.if-bytes-gt-LIMIT.false) c.if-room-gt-PAGE.false)
     (c.room_for-room.ensures.room c.if-bytes-gt-LIMIT.false) c.index-last.ensures c.in-Some.page
     c.left_in-left.ensures c.if-room-left.false
-    (subst (λ xs. Finds 0 xs (Some c.in-Some.page)) c.deref.ensures.value c.in-Some.ensures.found) (subst (λ xs. IsLowest 0 xs (Some c.in-Some.page)) c.deref.ensures.value c.in-Some.ensures.lowest) _ c.used_with-self-inside.ensures).free
+    (subst (λ xs. Finds 0 xs (Some c.in-Some.page)) c.deref.ensures.value c.in-Some.ensures.found)
+    (subst (λ xs. IsLowest 0 xs (Some c.in-Some.page)) c.deref.ensures.value c.in-Some.ensures.lowest) _ c.used_with-self-inside.ensures).free
 
 pub returns-in-None-clause-full : goal.returns-in-None-clause-full
 returns-in-None-clause-full c =
     let takes : takes_blocks c.args.handle (standing_at c.self.inside.standing.items c.args.handle) ≡ true = cc in
     test_along (λ m. is_block_refused c.args.handle c.args.bytes m) true _ _ c.self.view_is
-    (refused _ c.args.handle c.args.bytes _ _ _ c.self.invariant takes (short_room c.args.bytes c.room_for-room.result (c.room_for-room.ensures.room c.if-bytes-gt-LIMIT.false) c.if-room-gt-PAGE.false)
+    (refused _ c.args.handle c.args.bytes _ _ _ c.self.invariant takes
+    (short_room c.args.bytes c.room_for-room.result (c.room_for-room.ensures.room c.if-bytes-gt-LIMIT.false) c.if-room-gt-PAGE.false)
     (c.room_for-room.ensures.room c.if-bytes-gt-LIMIT.false) c.index-last.ensures
     c.left_in-left.ensures c.if-room-left.false
     (subst (λ xs. Finds 0 xs None) c.deref.ensures.value c.in-None.ensures.found))

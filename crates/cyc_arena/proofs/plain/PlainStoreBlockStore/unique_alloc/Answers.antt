@@ -38,21 +38,27 @@ index_mut-requires-in-Some-find-2 c =
 pub invariant_of-self-in-Some-find : goal.invariant_of-self-in-Some-find
 invariant_of-self-in-Some-find c = (front_granted_as _ c.args.bytes _ c.self.invariant c.if-bytes-gt-PAGE.false c.class_for-size.ensures
     (subst (λ xs. Finds (2 * c.class_for-size.result + 2) xs None) c.deref.ensures.value c.in-None.ensures.found) c.in-Some-find.page
-    (subst (λ xs. Finds 0 xs (Some c.in-Some-find.page)) c.deref-in-None.ensures.value c.in-Some-find.ensures.found) (subst (λ xs. IsLowest 0 xs (Some c.in-Some-find.page)) c.deref-in-None.ensures.value c.in-Some-find.ensures.lowest) _ c.fill.ensures _ c.used_with-self-inside.ensures).sound
+    (subst (λ xs. Finds 0 xs (Some c.in-Some-find.page)) c.deref-in-None.ensures.value c.in-Some-find.ensures.found)
+    (subst (λ xs. IsLowest 0 xs (Some c.in-Some-find.page)) c.deref-in-None.ensures.value c.in-Some-find.ensures.lowest) _ c.fill.ensures _
+    c.used_with-self-inside.ensures).sound
 
 pub returns-in-Some-find-clause-does : goal.returns-in-Some-find-clause-does
 returns-in-Some-find-clause-does c =
     does_along (λ m. unique_alloc c.args.bytes (Grants (arena_base + 4096 * c.in-Some-find.page)) m) _ _ _ _ c.self.view_is
     (front_granted_as _ c.args.bytes _ c.self.invariant c.if-bytes-gt-PAGE.false c.class_for-size.ensures
     (subst (λ xs. Finds (2 * c.class_for-size.result + 2) xs None) c.deref.ensures.value c.in-None.ensures.found) c.in-Some-find.page
-    (subst (λ xs. Finds 0 xs (Some c.in-Some-find.page)) c.deref-in-None.ensures.value c.in-Some-find.ensures.found) (subst (λ xs. IsLowest 0 xs (Some c.in-Some-find.page)) c.deref-in-None.ensures.value c.in-Some-find.ensures.lowest) _ c.fill.ensures _ c.used_with-self-inside.ensures).does
+    (subst (λ xs. Finds 0 xs (Some c.in-Some-find.page)) c.deref-in-None.ensures.value c.in-Some-find.ensures.found)
+    (subst (λ xs. IsLowest 0 xs (Some c.in-Some-find.page)) c.deref-in-None.ensures.value c.in-Some-find.ensures.lowest) _ c.fill.ensures _
+    c.used_with-self-inside.ensures).does
 
 pub returns-in-Some-find-clause-full : goal.returns-in-Some-find-clause-full
 returns-in-Some-find-clause-full c =
     test_along (λ m. is_full_for_slot c.args.bytes m.counts) false _ _ c.self.view_is
     (front_granted_as _ c.args.bytes _ c.self.invariant c.if-bytes-gt-PAGE.false c.class_for-size.ensures
     (subst (λ xs. Finds (2 * c.class_for-size.result + 2) xs None) c.deref.ensures.value c.in-None.ensures.found) c.in-Some-find.page
-    (subst (λ xs. Finds 0 xs (Some c.in-Some-find.page)) c.deref-in-None.ensures.value c.in-Some-find.ensures.found) (subst (λ xs. IsLowest 0 xs (Some c.in-Some-find.page)) c.deref-in-None.ensures.value c.in-Some-find.ensures.lowest) _ c.fill.ensures _ c.used_with-self-inside.ensures).free
+    (subst (λ xs. Finds 0 xs (Some c.in-Some-find.page)) c.deref-in-None.ensures.value c.in-Some-find.ensures.found)
+    (subst (λ xs. IsLowest 0 xs (Some c.in-Some-find.page)) c.deref-in-None.ensures.value c.in-Some-find.ensures.lowest) _ c.fill.ensures _
+    c.used_with-self-inside.ensures).free
 
 pub returns-in-None-find-clause-full : goal.returns-in-None-find-clause-full
 returns-in-None-find-clause-full c =

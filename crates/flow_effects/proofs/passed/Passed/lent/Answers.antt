@@ -10,4 +10,5 @@ pub returns : goal.returns
 returns c =
     let x : Touch = record { effect = Holds; caused = caused_of c.lent_from.result } in
     ap (λ t. passage_in t c.args.self.always) c.in_ok-table.ensures
-    ∙ lent_is c.args.at c.args.number x (table_at c.args.self.table) c.args.self.always refl (c.lent_from.ensures ∙ ap (λ t. lent_from c.args.at t.caused.lent) c.at.ensures)
+    ∙ lent_is c.args.at c.args.number x (table_at c.args.self.table) c.args.self.always refl
+    (c.lent_from.ensures ∙ ap (λ t. lent_from c.args.at t.caused.lent) c.at.ensures)

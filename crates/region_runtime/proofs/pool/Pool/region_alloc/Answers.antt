@@ -12,7 +12,8 @@ use Rattle.region_runtime.proofs.Words.{free_seen, live_page}
 use Rattle.region_runtime.proofs.Serves.{serves_live}
 use Rattle.region_runtime.proofs.Along.{apart, bytes_along, next_within, pages_few}
 use Rattle.region_runtime.proofs.Placed.{short_room}
-use Rattle.region_runtime.proofs.Told.{cut_touched, grow_touched, last_in, last_fits, last_some, PlaceSays, cut_says, grow_says, hand_other, count_small, run_says}
+use Rattle.region_runtime.proofs.Told.{cut_touched, grow_touched, last_in, last_fits, last_some, PlaceSays, cut_says, grow_says, hand_other, count_small}
+use Rattle.region_runtime.proofs.Told.{run_says}
 use Rattle.region_runtime.proofs.pool.Pool.region_alloc.Goals as goal
 
 pub returns-then-not-serves-clause-bytes : goal.returns-then-not-serves-clause-bytes
@@ -61,7 +62,8 @@ cut-requires-clause-page c =
     let s = last_some (pool_of c.self.inside.book) c.args.self.now (pool_of c.self.inside.book) c.self.view_is c.self.invariant refl refl h c.args.bytes
     (ap (λ t. takes_blocks c.args.handle.0 (standing_by (owner_of t.word) c.args.handle.0)) (sym c.begin.ensures.shape) ∙ sym c.serves.ensures.value
     ∙ c.if-not-serves.false)
-    c.room_for-room.result (short_room c.args.bytes c.room_for-room.result (c.room_for-room.ensures.room c.if-bytes-gt-LIMIT.false) c.if-room-gt-PAGE.false) (c.room_for-room.ensures.room c.if-bytes-gt-LIMIT.false)
+    c.room_for-room.result (short_room c.args.bytes c.room_for-room.result (c.room_for-room.ensures.room c.if-bytes-gt-LIMIT.false) c.if-room-gt-PAGE.false)
+    (c.room_for-room.ensures.room c.if-bytes-gt-LIMIT.false)
     c.last-last.result c.left.result last_is left_is c.if-room-left.true in
     let l = last_in (pool_of c.self.inside.book) c.self.invariant h in
     subst (λ r. c.last-last.result - 1 < length r.words / 16) (sym raws) (omega (arith, s, l, last_is))
@@ -78,7 +80,8 @@ cut-requires-clause-within c =
     let f = last_fits (pool_of c.self.inside.book) c.args.self.now (pool_of c.self.inside.book) c.self.view_is c.self.invariant refl refl h c.args.bytes
     (ap (λ t. takes_blocks c.args.handle.0 (standing_by (owner_of t.word) c.args.handle.0)) (sym c.begin.ensures.shape) ∙ sym c.serves.ensures.value
     ∙ c.if-not-serves.false)
-    c.room_for-room.result (short_room c.args.bytes c.room_for-room.result (c.room_for-room.ensures.room c.if-bytes-gt-LIMIT.false) c.if-room-gt-PAGE.false) (c.room_for-room.ensures.room c.if-bytes-gt-LIMIT.false)
+    c.room_for-room.result (short_room c.args.bytes c.room_for-room.result (c.room_for-room.ensures.room c.if-bytes-gt-LIMIT.false) c.if-room-gt-PAGE.false)
+    (c.room_for-room.ensures.room c.if-bytes-gt-LIMIT.false)
     c.last-last.result c.left.result last_is left_is c.if-room-left.true in
     subst (λ k. used_of k.word (c.last-last.result - 1) + c.room_for-room.result ≤ 4096) (sym shapes) f
 
@@ -96,7 +99,8 @@ cut_said c =
     (c.cut.ensures.bytes ∙ ap (λ r. r.bytes) raws) h c.args.bytes
     (ap (λ t. takes_blocks c.args.handle.0 (standing_by (owner_of t.word) c.args.handle.0)) (sym c.begin.ensures.shape) ∙ sym c.serves.ensures.value
     ∙ c.if-not-serves.false)
-    c.room_for-room.result (short_room c.args.bytes c.room_for-room.result (c.room_for-room.ensures.room c.if-bytes-gt-LIMIT.false) c.if-room-gt-PAGE.false) (c.room_for-room.ensures.room c.if-bytes-gt-LIMIT.false) c.last-last.result c.left.result last_is left_is
+    c.room_for-room.result (short_room c.args.bytes c.room_for-room.result (c.room_for-room.ensures.room c.if-bytes-gt-LIMIT.false) c.if-room-gt-PAGE.false)
+    (c.room_for-room.ensures.room c.if-bytes-gt-LIMIT.false) c.last-last.result c.left.result last_is left_is
     c.if-room-left.true c.cut.result (c.cut.ensures.value
     ∙ ap (λ k. 268435456 + 4096 * (c.last-last.result - 1) + used_of k.word (c.last-last.result - 1)) shapes)
     (c.cut.ensures.shape ∙ ap (λ k. with_word (c.last-last.result - 1) 2 (used_of k.word (c.last-last.result - 1) + c.room_for-room.result) k) shapes)
@@ -243,7 +247,8 @@ grow_said c =
     (c.grow.ensures.bytes ∙ ap (λ r. r.bytes) (c.take-page.ensures.raw ∙ raws)) h c.args.bytes
     (ap (λ t. takes_blocks c.args.handle.0 (standing_by (owner_of t.word) c.args.handle.0)) (sym c.begin.ensures.shape) ∙ sym c.serves.ensures.value
     ∙ c.if-not-serves.false)
-    c.room_for-room.result (short_room c.args.bytes c.room_for-room.result (c.room_for-room.ensures.room c.if-bytes-gt-LIMIT.false) c.if-room-gt-PAGE.false) (c.room_for-room.ensures.room c.if-bytes-gt-LIMIT.false) c.last-last.result c.left.result last_is left_is
+    c.room_for-room.result (short_room c.args.bytes c.room_for-room.result (c.room_for-room.ensures.room c.if-bytes-gt-LIMIT.false) c.if-room-gt-PAGE.false)
+    (c.room_for-room.ensures.room c.if-bytes-gt-LIMIT.false) c.last-last.result c.left.result last_is left_is
     c.if-room-left.false c.take-page.result (free_seen t _ _ shapes c.is_full.ensures c.if-is_full.false) (c.take-page.ensures.page ∙ ap next_page shapes)
     (c.grow.ensures.shape ∙ ap (with_page h c.take-page.result c.room_for-room.result) (c.take-page.ensures.shape ∙ ap without_page shapes))
 
@@ -286,7 +291,8 @@ returns-then-room-left-clause-touches c =
     cut_touched (pool_of c.self.inside.book) c.args.self.now (pool_of c.self.inside.book) c.self.view_is c.self.invariant refl refl h c.args.bytes
     (ap (λ t. takes_blocks c.args.handle.0 (standing_by (owner_of t.word) c.args.handle.0)) (sym c.begin.ensures.shape) ∙ sym c.serves.ensures.value
     ∙ c.if-not-serves.false)
-    c.room_for-room.result (short_room c.args.bytes c.room_for-room.result (c.room_for-room.ensures.room c.if-bytes-gt-LIMIT.false) c.if-room-gt-PAGE.false) (c.room_for-room.ensures.room c.if-bytes-gt-LIMIT.false) c.last-last.result c.left.result last_is left_is
+    c.room_for-room.result (short_room c.args.bytes c.room_for-room.result (c.room_for-room.ensures.room c.if-bytes-gt-LIMIT.false) c.if-room-gt-PAGE.false)
+    (c.room_for-room.ensures.room c.if-bytes-gt-LIMIT.false) c.last-last.result c.left.result last_is left_is
     c.if-room-left.true c.cut.new.self.touched (omega (arith, z, a, b, d, k, r))
 
 pub returns-clause-touches : goal.returns-clause-touches
@@ -303,7 +309,8 @@ returns-clause-touches c =
     grow_touched (pool_of c.self.inside.book) c.args.self.now (pool_of c.self.inside.book) c.self.view_is c.self.invariant refl refl h c.args.bytes
     (ap (λ t. takes_blocks c.args.handle.0 (standing_by (owner_of t.word) c.args.handle.0)) (sym c.begin.ensures.shape) ∙ sym c.serves.ensures.value
     ∙ c.if-not-serves.false)
-    c.room_for-room.result (short_room c.args.bytes c.room_for-room.result (c.room_for-room.ensures.room c.if-bytes-gt-LIMIT.false) c.if-room-gt-PAGE.false) (c.room_for-room.ensures.room c.if-bytes-gt-LIMIT.false) c.last-last.result c.left.result last_is left_is
+    c.room_for-room.result (short_room c.args.bytes c.room_for-room.result (c.room_for-room.ensures.room c.if-bytes-gt-LIMIT.false) c.if-room-gt-PAGE.false)
+    (c.room_for-room.ensures.room c.if-bytes-gt-LIMIT.false) c.last-last.result c.left.result last_is left_is
     c.if-room-left.false c.grow.new.self.touched (omega (arith, z, a, b, d, j, k, m, r))
 
 -- ---- a run of pages

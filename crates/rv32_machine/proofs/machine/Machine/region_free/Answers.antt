@@ -12,4 +12,5 @@ pub returns-clause-served : goal.returns-clause-served
 returns-clause-served g c =
     let held = g.S.BlockStore.holdings c.self.inside.store in
     let does = c.region_free-done.ensures.does in
-    served false _ _ _ _ _ _ c.finished.ensures (never_full (RegionFree c.args.handle) _ held _ refl does) (never_lacks (RegionFree c.args.handle) _ held _ refl does)
+    served false _ _ _ _ _ _ c.finished.ensures (never_full (RegionFree c.args.handle) _ held _ refl does)
+    (never_lacks (RegionFree c.args.handle) _ held _ refl does)

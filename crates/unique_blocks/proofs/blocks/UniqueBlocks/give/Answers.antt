@@ -79,11 +79,17 @@ returns-then-live-class-clause-given c =
     grind (arith, nat_tests)) in
     let place = c.place_for-place.ensures.place in
     let at = address_of p c.args.class c.args.slot in
-    subst (λ i. IsSlotGiven c.args.self.now (record { pool = c.set_next.new.pool; heads = slice_set heads i (p + 1); touched = c.set_next.new.touched }) c.args.class at) (sym place)
-    (subst (λ u. IsSlotGiven u (record { pool = c.set_next.new.pool; heads = slice_set heads (place_of c.args.class) (p + 1); touched = c.set_next.new.touched }) c.args.class at) c.self.view_is
+    subst (λ i. IsSlotGiven c.args.self.now (record { pool = c.set_next.new.pool; heads = slice_set heads i (p + 1); touched = c.set_next.new.touched })
+    c.args.class at) (sym place)
+    (subst (λ u. IsSlotGiven u (record {
+      pool = c.set_next.new.pool;
+      heads = slice_set heads (place_of c.args.class) (p + 1);
+      touched = c.set_next.new.touched;
+    }) c.args.class at) c.self.view_is
     (back_says old heads p c.args.class c.args.slot c.self.invariant class c.requires.some (place_low c.args.class) c.requires.slot live
     c.give_slot-live.new.pool c.set_next.new.pool c.give_slot-live.ensures.kept c.set_next.ensures.kept c.give_slot-live.ensures.slots
-    (c.set_next.ensures.slots ∙ ap (λ i. with_next p (slice_index heads i) (slots_of c.give_slot-live.new.pool)) place) full c.self.inside.touched c.set_next.new.touched))
+    (c.set_next.ensures.slots ∙ ap (λ i. with_next p (slice_index heads i) (slots_of c.give_slot-live.new.pool)) place) full c.self.inside.touched
+    c.set_next.new.touched))
 
 pub returns-else-live-class-clause-given : goal.returns-else-live-class-clause-given
 returns-else-live-class-clause-given c =
@@ -92,7 +98,8 @@ returns-else-live-class-clause-given c =
     let live = ap (λ u. (slots_in u).bit c.args.page c.args.slot) c.self.view_is ∙ c.requires.live in
     let full : nat_eq (word_of old p 9) (4096 / c.args.class) ≡ false = (let a = c.give_slot-live.ensures.live in let b = c.if-live-class.false in
     grind (arith, nat_tests)) in
-    subst (λ u. IsSlotGiven u (record { pool = c.give_slot-live.new.pool; heads = heads; touched = c.give_slot-live.new.touched }) c.args.class (address_of p c.args.class c.args.slot)) c.self.view_is
+    subst (λ u. IsSlotGiven u (record { pool = c.give_slot-live.new.pool; heads = heads; touched = c.give_slot-live.new.touched }) c.args.class
+    (address_of p c.args.class c.args.slot)) c.self.view_is
     (more_says old heads p c.args.class c.args.slot c.self.invariant class c.requires.some (place_low c.args.class) c.requires.slot live
     c.give_slot-live.new.pool c.give_slot-live.ensures.kept c.give_slot-live.ensures.slots full c.self.inside.touched c.give_slot-live.new.touched)
 
@@ -103,10 +110,12 @@ pub set_next-requires-clause-few : goal.set_next-requires-clause-few
 set_next-requires-clause-few c = let v = ap (λ u. u.touched) c.self.view_is in let a = c.give_slot-live.ensures.counts in omega (arith, v, a)
 
 pub returns-then-live-class-clause-least : goal.returns-then-live-class-clause-least
-returns-then-live-class-clause-least c = let v = ap (λ u. u.touched) c.self.view_is in let a = c.give_slot-live.ensures.counts in let b = c.set_next.ensures.counts in omega (arith, v, a, b)
+returns-then-live-class-clause-least c = let v = ap (λ u. u.touched) c.self.view_is in let a = c.give_slot-live.ensures.counts in let b =
+    c.set_next.ensures.counts in omega (arith, v, a, b)
 
 pub returns-then-live-class-clause-most : goal.returns-then-live-class-clause-most
-returns-then-live-class-clause-most c = let v = ap (λ u. u.touched) c.self.view_is in let a = c.give_slot-live.ensures.counts in let b = c.set_next.ensures.counts in omega (arith, v, a, b)
+returns-then-live-class-clause-most c = let v = ap (λ u. u.touched) c.self.view_is in let a = c.give_slot-live.ensures.counts in let b =
+    c.set_next.ensures.counts in omega (arith, v, a, b)
 
 pub returns-else-live-class-clause-least : goal.returns-else-live-class-clause-least
 returns-else-live-class-clause-least c = let v = ap (λ u. u.touched) c.self.view_is in let a = c.give_slot-live.ensures.counts in omega (arith, v, a)

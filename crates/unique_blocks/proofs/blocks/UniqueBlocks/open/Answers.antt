@@ -32,7 +32,8 @@ returns-in-Some-clause-opened c = λ e.
     let low = subst (λ i. i < 8) c.requires.place c.requires.few in
     let empty = ap (slice_index heads) (sym c.requires.place) ∙ ap (λ u. slice_index u.heads c.args.place) c.self.view_is ∙ c.requires.empty in
     let t = c.in-Some.ensures in let m = c.self.inside.touched in let n = c.cut.new.touched in
-    subst (λ i. IsOpened c.args.self.now (record { pool = c.cut.new.pool; heads = slice_set heads i (c.in-Some.page + 1); touched = n }) k) (sym c.requires.place)
+    subst (λ i. IsOpened c.args.self.now (record { pool = c.cut.new.pool; heads = slice_set heads i (c.in-Some.page + 1); touched = n }) k)
+    (sym c.requires.place)
     (subst (λ u. IsOpened u (record { pool = c.cut.new.pool; heads = slice_set heads (place_of k) (c.in-Some.page + 1); touched = n }) k) c.self.view_is
     (open_says old heads k c.self.invariant c.requires.class low empty m n c.take_page.new.self c.cut.new.pool c.in-Some.page t.gets c.cut.ensures.kept
     c.cut.ensures.slots t.full t.tags t.bytes t.fresh).told)

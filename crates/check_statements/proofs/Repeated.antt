@@ -1,7 +1,7 @@
 -- Whether a member is named more than once: by the members, or by the clauses that name them.
 use Rattle.std.proofs.Common.{◌≡◌, ℕ, zero, suc, ◌≤◌, ◌+◌, List, [], ◌∷◌, Bool, Option, None, Some, true, false, refl, sym, ap, subst, ◌∙◌, arith, map}
 use Rattle.std.specs.Prelude.{bytes_eq, if◌then◌else◌, is_none, is_some, nat_eq, nat_le, option_map, ◌&&◌, ◌||◌}
-use Rattle.std.proofs.lemmas.Bool.{and_parts}
+use Rattle.std.proofs.lemmas.Bool.{and_parts, or_right}
 use Rattle.std.proofs.lemmas.Slice.Eq.{bytes_eq-Decides}
 use Rattle.cyc_tree.specs.Tree.{Case, Clauses, Default, MoreClauses, NoClauses, Pattern}
 use Rattle.cyc_tree.proofs.PartForms.{clause_parts}
@@ -21,10 +21,6 @@ same_if : (a b : Bool) → (a ≡ true → b ≡ true) → (b ≡ true → a ≡
 same_if true b there back = sym (there refl)
 same_if false true there back = back refl
 same_if false false there back = refl
-
-or_true : (b : Bool) → (b || true) ≡ true
-or_true true = refl
-or_true false = refl
 
 pub one_is_few : (n : ℕ) → nat_eq n 1 ≡ (nat_le n 1 && nat_eq n 1)
 one_is_few zero = refl
@@ -103,7 +99,7 @@ module _ (times : List ℕ → ℕ) where
   once_named ps once (Case f y) = by (part_in ps f.text) refl
     where
       by : (o : Option Part) → part_in ps f.text ≡ o → (nat_le (times f.text) 1 || is_none (part_in ps f.text)) ≡ true
-      by None is = ap (λ o. nat_le (times f.text) 1 || is_none o) is ∙ or_true (nat_le (times f.text) 1)
+      by None is = ap (λ o. nat_le (times f.text) 1 || is_none o) is ∙ or_right (nat_le (times f.text) 1) true refl
       by (Some p) is = ap (λ b. b || is_none (part_in ps f.text)) (once f.text (ap is_some is))
   once_named ps once Default = refl
 

@@ -2,6 +2,7 @@
 use Rattle.std.proofs.Common.{◌≡◌, ℕ, zero, suc, ◌+◌, ◌-◌, ◌*◌, ◌/◌, ◌%◌, ◌<◌, ◌≤◌, Bool, true, false, length, Some, None, Ok, nat_eq, nat_lt, refl, sym, ap}
 use Rattle.std.proofs.Common.{subst, ◌∙◌, arith, length-set}
 use Rattle.std.specs.Prelude.{slice_index, slice_set, ◌||◌, if◌then◌else◌}
+use Rattle.std.proofs.lemmas.Bool.{or_right}
 use Rattle.std.proofs.lemmas.Bool.Decides.{nat_tests}
 use Rattle.std.proofs.lemmas.Grind.{common_steps}
 use Rattle.arena_laws.specs.Counts.{put, room_of, run_of, is_large, is_too_long, is_full_for_room}
@@ -206,11 +207,7 @@ module _ (k : Holdings) (h bytes room : ℕ) (takes : takes_blocks h (k.standing
   none_for_run f =
       let n : nat_lt k.counts.fresh (run_of (room_of bytes)) ≡ true = subst (λ r. nat_lt k.counts.fresh (run_of r) ≡ true) rounded
       (grind (arith, nat_tests)) in
-      let t = takes in let l = is_run in sym (rw (t, l, n) (or_true (is_too_long bytes)))
-    where
-      or_true : (b : Bool) → (b || true) ≡ true
-      or_true true = refl
-      or_true false = refl
+      let t = takes in let l = is_run in sym (rw (t, l, n) (or_right (is_too_long bytes) true refl))
 
   module _ (f : run_of room ≤ k.counts.fresh) where
     spare : is_full_for_room h (room_of bytes) k.counts ≡ false

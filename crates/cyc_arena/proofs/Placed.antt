@@ -32,6 +32,7 @@ use Rattle.std.proofs.Common.{
 }
 use Rattle.std.proofs.lemmas.List.{get_or_read}
 use Rattle.std.specs.Prelude.{slice_index, slice_set, ◌&&◌, ◌||◌, if◌then◌else◌}
+use Rattle.std.proofs.lemmas.Bool.{or_right}
 use Rattle.std.proofs.lemmas.Bool.Decides.{nat_tests}
 use Rattle.std.proofs.lemmas.Grind.{common_steps}
 use Rattle.arena_laws.specs.declared.standing.Standing.{Standing}
@@ -372,8 +373,4 @@ module _ (s : Plain) (h room : ℕ) (sound : IsSound s) (takes : takes_blocks h 
     none_refused found bytes e =
         let n : block_needs_page h (room_of bytes) (holdings_of s).counts ≡ true = subst (λ r. block_needs_page h r (holdings_of s).counts
         ≡ true) e needs_page in
-        rw (takes, subst (λ r. is_large r ≡ false) e (not_large room most), n, all_taken s sound found) (or_true (is_too_long bytes))
-      where
-        or_true : (b : Bool) → (b || true) ≡ true
-        or_true true = refl
-        or_true false = refl
+        rw (takes, subst (λ r. is_large r ≡ false) e (not_large room most), n, all_taken s sound found) (or_right (is_too_long bytes) true refl)

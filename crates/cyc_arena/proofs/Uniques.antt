@@ -2,6 +2,7 @@
 use Rattle.std.proofs.Common.{◌≡◌, ℕ, zero, ◌+◌, ◌*◌, ◌/◌, ◌%◌, ◌≤◌, Bool, true, false, List, length, Some, None, Ok, refl, sym, ap, subst, ◌∙◌, arith}
 use Rattle.std.proofs.Common.{length-set}
 use Rattle.std.specs.Prelude.{slice_set, ◌&&◌, ◌||◌}
+use Rattle.std.proofs.lemmas.Bool.{or_right}
 use Rattle.std.proofs.lemmas.Bool.Decides.{nat_tests}
 use Rattle.arena_laws.proofs.Classes.{class_is}
 use Rattle.arena_laws.specs.Classes.{IsClass}
@@ -32,11 +33,7 @@ not_refused : (c : Counts) (bytes : ℕ) → is_too_long_alone bytes ≡ false �
 not_refused c bytes l f = rw (l, f) refl
 
 refused_true : (c : Counts) (bytes : ℕ) → slot_needs_page (class_of bytes) c ≡ true → is_full c ≡ true → true ≡ is_full_for_slot bytes c
-refused_true c bytes n f = rw (n, f) (sym (or_true (is_too_long_alone bytes)))
-  where
-    or_true : (b : Bool) → (b || true) ≡ true
-    or_true true = refl
-    or_true false = refl
+refused_true c bytes n f = rw (n, f) (sym (or_right (is_too_long_alone bytes) true refl))
 
 is_short : (bytes : ℕ) → bytes ≤ 4096 → is_too_long_alone bytes ≡ false
 is_short bytes l = grind (arith, nat_tests)

@@ -7,11 +7,8 @@ use Rattle.cyc_lexer.specs.Reading.{token_at}
 use Rattle.cyc_lexer.specs.declared.token.TokenKind.{TokenKind}
 use Rattle.cyc_lexer.specs.declared.token.TokenKind.TheVariants as kind
 use Rattle.cyc_lexer.proofs.ReadTokens.{token_again}
+use Rattle.cyc_lexer.proofs.Follows.{kind_of}
 use Rattle.cyc_format.specs.Layout.{spellings, kinds}
-
-kind_of : Option (TokenKind × ℕ) → TokenKind
-kind_of None = kind.Text
-kind_of (Some x) = x.0
 
 -- the kind of a spelling
 abbrev alone : List ℕ → TokenKind
@@ -42,7 +39,6 @@ token_alone k s rest h = record {
 }
 
 kind_alone : (k : TokenKind) (s rest : List ℕ) → IsToken k s rest → k ≡ alone s
-unfolding kind_of
 kind_alone k s rest h = sym (ap kind_of (token_again k s [] (token_alone k s rest h)))
 
 kinds_alone : {at : ℕ} {text : List ℕ} {tokens : List Token} {end : ℕ} {rest : List ℕ} → Lexing at text tokens end rest

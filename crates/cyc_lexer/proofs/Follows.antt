@@ -12,7 +12,8 @@ abbrev length_of : Option ℕ → ℕ
 length_of None = 0
 length_of (Some n) = n
 
-abbrev kind_of : Option (TokenKind × ℕ) → TokenKind
+-- the kind of what was read; of nothing, some kind
+abbrev pub kind_of : Option (TokenKind × ℕ) → TokenKind
 kind_of None = kind.Text
 kind_of (Some x) = x.0
 

@@ -1,5 +1,6 @@
 -- The structs and unions that the names of a program mean, when they alone are known.
 use Rattle.std.proofs.Common.{◌≡◌, ℕ, ◌≤◌, Bool, true, false, List, [], ◌∷◌, ◌++◌, refl, sym, ap, ◌∙◌, arith, suc, length, true≢false}
+use Rattle.std.proofs.lemmas.Bool.{or_right}
 use Rattle.std.proofs.lemmas.List.{append-nil}
 use Rattle.std.proofs.lemmas.Slice.Eq.{bytes_eq-Decides}
 use Rattle.std.specs.Prelude.{None, Option, Some, bytes_eq, if◌then◌else◌, is_some, ◌||◌}
@@ -38,15 +39,11 @@ other_name y x before b h unlike = by (bytes_eq y x) refl
     by true e = absurd (unlike (sym (ap (is_named_before before) ((bytes_eq-Decides y x).0 e)) ∙ h))
     by false e = refl
 
-or_true : (b : Bool) → (b || true) ≡ true
-or_true true = refl
-or_true false = refl
-
 pub none_again : (g : Tables) (before : List (List ℕ)) (x : List ℕ) → is_named_before before x ≡ true → tag_in (tags_alone (meant_first before g)) x ≡ None
 none_again [] before x h = refl
 none_again (n ∷ ns) before x h =
     by (is_named_before before n.name) refl (none_again ns before x h)
-    (none_again ns (n.name ∷ before) x (ap (λ b. bytes_eq n.name x || b) h ∙ or_true (bytes_eq n.name x)))
+    (none_again ns (n.name ∷ before) x (ap (λ b. bytes_eq n.name x || b) h ∙ or_right (bytes_eq n.name x) true refl))
   where
     by : (b : Bool) → is_named_before before n.name ≡ b
         → tag_in (tags_alone (meant_first before ns)) x ≡ None

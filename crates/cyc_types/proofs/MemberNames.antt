@@ -38,20 +38,6 @@ found_at (m ∷ ms) x = by (bytes_eq m.name.now x) (found_at ms x)
 
 -- ---- one name more
 
-pub nothing_more : (i : Option ℕ) → or_else i None ≡ i
-nothing_more None = refl
-nothing_more (Some i) = refl
-
-pub none_named : (i : Option ℕ) → is_some i ≡ false → i ≡ None
-none_named None h = refl
-none_named (Some i) h = absurd cc
-
--- the first member of a name keeps its position
-pub position_added : (own : Bool) (k : ℕ) (old : Option ℕ) → (own ≡ true → old ≡ None)
-    → (if own then Some k else old) ≡ or_else old (if own then Some k else None)
-position_added true k old new = ap (λ i. or_else i (Some k)) (sym (new refl))
-position_added false k old new = sym (nothing_more old)
-
 -- the next of the members that are left
 pub one_further : (old : Option ℕ) (own : Bool) (k : ℕ) (rest : Option ℕ)
     → or_else (or_else old (if own then Some k else None)) rest ≡ or_else old (if own then Some k else rest)

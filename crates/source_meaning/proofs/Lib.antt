@@ -16,6 +16,7 @@ pub mod StuckSamples
 pub mod MoveSamples
 pub mod Cases
 pub mod Layouts
+pub mod Firsts
 pub mod Reaches
 pub mod PlainExpressions
 pub mod Kept

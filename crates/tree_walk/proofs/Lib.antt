@@ -1,3 +1,2 @@
 mod Listing
 mod Numbers
-pub mod Tables

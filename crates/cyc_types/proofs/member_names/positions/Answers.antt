@@ -2,8 +2,9 @@ use Rattle.std.proofs.Common.{◌≡◌, ◌∙◌, ◌+◌, ◌∷◌, ap, arit
 use Rattle.std.proofs.lemmas.List.{drop_all, drop_more}
 use Rattle.std.specs.Prelude.{bytes_eq}
 use Rattle.source_meaning.specs.Places.{or_else}
+use Rattle.source_meaning.proofs.Firsts.{nothing_more}
 use Rattle.cyc_types.specs.MemberNames.{position_from, position_named}
-use Rattle.cyc_types.proofs.MemberNames.{nothing_more, one_further}
+use Rattle.cyc_types.proofs.MemberNames.{one_further}
 use Rattle.cyc_types.proofs.member_names.positions.Goals as goal
 
 -- the next member is the first of those that are left

@@ -5,7 +5,7 @@ use Rattle.cyc_tree.specs.declared.item.Item as code_item
 use Rattle.source_meaning.specs.Places.{bound_to, or_else}
 use Rattle.source_meaning.specs.Programs.{globals_from}
 use Rattle.lower_checks.specs.Tables.{global_in}
-use Rattle.tree_walk.proofs.Tables.{nothing_more}
+use Rattle.source_meaning.proofs.Firsts.{nothing_more}
 use Rattle.lower_checks.proofs.table.first_globals.Goals as goal
 
 -- no item is left

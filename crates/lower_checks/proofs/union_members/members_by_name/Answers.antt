@@ -9,7 +9,7 @@ use Rattle.lower_checks.specs.UnionMembers.{NumberedShape, chosen_tree, member_f
 use Rattle.lower_checks.specs.declared.union_members.Chosen.{Chosen}
 use Rattle.lower_checks.proofs.Bodies.{left_parameters}
 use Rattle.lower_checks.proofs.Tables.{first_kept}
-use Rattle.tree_walk.proofs.Tables.{nothing_more}
+use Rattle.source_meaning.proofs.Firsts.{nothing_more}
 use Rattle.lower_checks.proofs.union_members.members_by_name.Goals as goal
 
 -- the next member is in front of those that are left

@@ -3,7 +3,7 @@ use Rattle.std.proofs.lemmas.Map.Text.{hash_map_updates_str}
 use Rattle.std.specs.Cmp.Lexicographic.{bytes_decides}
 use Rattle.std.specs.Prelude.{bytes_eq}
 use Rattle.lower_checks.specs.UnionMembers.{members_at}
-use Rattle.tree_walk.proofs.Tables.{has_none}
+use Rattle.source_meaning.proofs.Firsts.{has_none}
 use Rattle.lower_checks.proofs.UnionMembers.{met_first}
 use Rattle.lower_checks.proofs.union_members.UnionMembers.add.Goals as goal
 

@@ -3,7 +3,7 @@ use Rattle.std.proofs.lemmas.Map.Text.{hash_map_updates_str}
 use Rattle.std.specs.Cmp.Lexicographic.{bytes_decides}
 use Rattle.std.specs.Prelude.{Some, bytes_eq}
 use Rattle.stack_needs.specs.Numbers.{number_in}
-use Rattle.tree_walk.proofs.Tables.{first_added, has_none}
+use Rattle.source_meaning.proofs.Firsts.{first_added, has_none}
 use Rattle.stack_needs.proofs.numbers.Numbers.add.Goals as goal
 
 pub returns-in_ok-insert : goal.returns-in_ok-insert

@@ -61,7 +61,7 @@ no_function (g ∷ fs) (suc k) h = no_function fs k (omega (arith, h))
 abbrev callee : code.Function → List Content → Memory → Config
 callee f arguments m = entered (function_tree f) arguments m
 
--- what a call's unnamed values change
+-- what a call's temporary objects change
 module _ (m : Memory) (locals : List local_code.Local) where
   -- the memory in which the function is live and has no values as yet
   abbrev called_in : Memory
@@ -217,7 +217,7 @@ module _ (p : code_program.Program) where
   abbrev begin_memory : Memory
   begin_memory = first_memory (map datum_tree p.globals.items)
 
-  -- the state in which `main` begins with these unnamed values
+  -- the state in which `main` begins with these temporary objects
   abbrev begun_config : List local_code.Local → Config
   begun_config locals = record { temps = λ k. memory.Blank; blocks = []; own = 0; memory = after_call begin_memory locals }
 

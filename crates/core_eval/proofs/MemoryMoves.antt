@@ -113,7 +113,7 @@ module _ (known : Known) (ws : List Wait) (marks : List Mark) (c : Config) (h : 
       by None e = ap (λ b. if b then c.memory.parts (spot_of (Frame n) i k) j else None) (h.live n e)
       by (Some p) e = through_part n p i k j (position_there known.blocks n p e)
 
-  -- a part of a function's unnamed value
+  -- a part of a function's temporary object
   value_part : (n i k j : ℕ) → part_at c.memory (spot_of (Own n) i k) j ≡ part_in (slot_through known.owns (position_of known.owns n) i k) j
   value_part n i k j = by (position_of known.owns n) refl
     where
@@ -310,7 +310,7 @@ module _ (known : Known) (ws : List Wait) where
       goes_wrong (core.LocalAddress t out i) ws known
       (λ marks c h next. taken t out i marks c h next ∙ ap (value_step (λ u. next (with_temp t u c))) is)
 
-  -- ---- a pointer to an unnamed value
+  -- ---- a pointer to a temporary object
 
   -- what it is in each state
   own_is_known : (i : ℕ) (v : Value) → own_address known.owns i ≡ Some v → (marks : List Mark) (c : Config) → Agrees known ws marks c

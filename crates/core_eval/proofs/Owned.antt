@@ -1,4 +1,4 @@
--- Functions that are active, with their unnamed values, in a changed memory.
+-- Functions that are active, with their temporary objects, in a changed memory.
 use Rattle.std.specs.Prelude.{slice_get, slice_set}
 use Rattle.std.proofs.Common.{◌≡◌, ◌≢◌, ℕ, zero, suc, ◌<◌, ◌≤◌, Some, List, [], ◌∷◌, refl, ap, ◌∙◌, sym, subst, arith}
 use Rattle.core_meaning.specs.Memory.{Own, Memory}
@@ -72,7 +72,7 @@ module _ (m : Memory) where
   owned_descends bound own owns (Body test flag body ∷ ws) marks n = owned_descends bound own owns ws marks n
   owned_descends bound own owns (Breakable ∷ ws) marks n = owned_descends bound own owns ws marks n
 
-  -- each shows its unnamed values
+  -- each shows its temporary objects
   here_shows : (bound own : ℕ) (o b : Activation) → own ≡ o.number → own < bound → Shows m (Own own) o.objects → o ≡ b
       → (b.number < bound) × Shows m (Own b.number) b.objects
   here_shows bound own o b number below shows is =
@@ -99,7 +99,7 @@ module _ (m : Memory) where
   owned_shows bound own owns (Body test flag body ∷ ws) marks p b n at = owned_shows bound own owns ws marks p b n at
   owned_shows bound own owns (Breakable ∷ ws) marks p b n at = owned_shows bound own owns ws marks p b n at
 
--- ---- a change of the unnamed values of one function
+-- ---- a change of the temporary objects of one function
 
 module _ (m m' : Memory) (k : ℕ) (objects' : List (List Slot)) (shows' : Shows m' (Own k) objects')
     (others : (q : ℕ) (objects : List (List Slot)) → q ≢ k → Shows m (Own q) objects → Shows m' (Own q) objects) where

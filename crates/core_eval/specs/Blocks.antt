@@ -39,7 +39,7 @@ use Rattle.core_eval.specs.Elements.{block_cells, cells_of}
 use Rattle.core_eval.specs.LongBlocks.{LongBlock, long_block_of, with_long_block}
 use Rattle.core_eval.specs.Regions.{Regions, regions_of, live_at, slot_within, put_region, grown_region, block_place}
 
--- the locals of a block that isn't left yet, and how many blocks were entered before it; or a function's unnamed values, and how many functions were called
+-- the locals of a block that isn't left yet, and how many blocks were entered before it; or a function's temporary objects, and how many functions were called
 -- before it
 pub record Activation : Type 0 where
   pub number : ℕ
@@ -79,8 +79,8 @@ slot_through blocks (Some position) i k = slot_among (slice_get blocks position)
 abbrev pub local_slot : ℕ → List Activation → (out index : ℕ) → Option Slot
 local_slot base blocks out index = slot_through blocks (own_position base blocks out) index 0
 
--- what is stored: the locals of all blocks, the unnamed values of all functions that are active, the globals with the heap's blocks behind them, the blocks of
--- regions, and where the cells of long ones lie
+-- what is stored: the locals of all blocks, the temporary objects of all functions that are active, the globals with the heap's blocks behind them, the blocks
+-- of regions, and where the cells of long ones lie
 pub record Stored : Type 0 where
   pub blocks : List Activation
   pub owns : List Activation
@@ -126,7 +126,7 @@ local_address base blocks out index = option_map (λ k. value.Pointer (local_pla
 abbrev pub global_place : ℕ → Place
 global_place index = record { area = area.Globals; object = index; byte = 0; cell = 0 }
 
--- a pointer to an unnamed value of the innermost function
+-- a pointer to a temporary object of the innermost function
 abbrev pub own_address : List Activation → ℕ → Option Value
 own_address owns index = option_map (λ b. value.Pointer (record { area = area.Own b.number; object = index; byte = 0; cell = 0 })) (slice_get owns 0)
 

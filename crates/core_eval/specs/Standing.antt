@@ -49,7 +49,7 @@ AreNested m bound numbers base blocks (Caller results f saved ∷ ws) (mark ∷ 
     (numbers ≡ []) × (base ≡ length blocks) × Holds mark.outside.temps saved.temps × AreNested m bound mark.outside.blocks saved.base blocks ws marks
 AreNested m bound numbers base blocks (w ∷ ws) marks = AreNested m bound numbers base blocks ws marks
 
--- Each function that is active shows its unnamed values, and has a number below that of the one that it called; `main` has the number 0.
+-- Each function that is active shows its temporary objects, and has a number below that of the one that it called; `main` has the number 0.
 abbrev pub AreOwned : Memory → ℕ → ℕ → List Activation → List Wait → List Mark → Type 0
 AreOwned m bound own owns [] marks =
     (o : Activation) × (owns ≡ o ∷ []) × (own ≡ 0) × (own ≡ o.number) × (own < bound) × Shows m (memory.Own own) o.objects
@@ -62,7 +62,7 @@ AreOwned m bound own (o ∷ owns) (Caller results f saved ∷ ws) (mark ∷ mark
 AreOwned m bound own owns (w ∷ ws) marks = AreOwned m bound own owns ws marks
 
 -- What an evaluator knows: the temporaries of the function that it is in, and how many blocks there are outside of that; the blocks of all functions that are
--- active, the innermost first; how many blocks were entered so far; the unnamed values of all functions that are active, the innermost first; how many
+-- active, the innermost first; how many blocks were entered so far; the temporary objects of all functions that are active, the innermost first; how many
 -- functions were
 -- called so far; the globals, with the heap's blocks behind them; the blocks of regions, and where the cells of long ones lie.
 pub record Known : Type 0 where
@@ -215,7 +215,7 @@ IsCall functions results f arguments ws known next ws' known' =
 
 -- ---- the beginning
 
--- what is known at first, where `main` has these unnamed values
+-- what is known at first, where `main` has these temporary objects
 abbrev pub first_known : List Datum → List Local → Known
 first_known ds own = record {
   temps = [];

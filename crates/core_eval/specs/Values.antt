@@ -61,7 +61,7 @@ spot_of r object cell = record { region = r; object = object; cell = cell }
 abbrev pub place_spot : Place → Spot
 place_spot p = spot_of (region_of p.area) p.object p.cell
 
--- a pointer leads to a cell of a global, of a block of a region, of a local or of an unnamed value
+-- a pointer leads to a cell of a global, of a block of a region, of a local or of a temporary object
 abbrev pub content_of : Value → Content
 content_of value.Blank = memory.Blank
 content_of (value.Word n) = memory.Word n

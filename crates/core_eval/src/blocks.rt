@@ -11,7 +11,7 @@ use cyc_core::Width;
 use std::alloc::{AllocError, Global};
 use std::collections::VecDeque;
 
-/// The locals of a block that isn't left yet, or the unnamed values of a function that is active.
+/// The locals of a block that isn't left yet, or the temporary objects of a function that is active.
 #[derive(Drop)]
 pub struct Block {
     /// How many blocks were entered, or functions called, before it.

@@ -65,7 +65,7 @@ pub fn enter_call<'p>(alloc: Global, call: Call, run: &mut Run<'p>) -> Result<Du
     Ok(Due::Go(Now::Follow(&callee.body)))
 }
 
-/// How a program begins: what is due, and the unnamed values of its `main`.
+/// How a program begins: what is due, and the temporary objects of its `main`.
 #[derive(Drop)]
 pub struct Beginning<'p> {
     pub due: Due<'p>,

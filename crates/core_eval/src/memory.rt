@@ -1,4 +1,4 @@
-// What is stored: the globals and the blocks of regions, the locals of all blocks that aren't left yet, and the unnamed values of all
+// What is stored: the globals and the blocks of regions, the locals of all blocks that aren't left yet, and the temporary objects of all
 // functions that are active.
 
 ghost use Rattle.std.specs.Prelude.{◌≡◌, ◌∷◌, ◌+◌, [], Some, None, false, if◌then◌else◌, drop, map, IfOk, IfSome, OnOk};
@@ -40,7 +40,7 @@ pub struct Memory {
     pub blocks: VecDeque<Block>,
     /// How many blocks were entered so far.
     pub entered: u64,
-    /// The functions that are active, the innermost first, with their unnamed values.
+    /// The functions that are active, the innermost first, with their temporary objects.
     pub owns: VecDeque<Block>,
     /// How many functions were called so far.
     pub called: u64,
@@ -55,7 +55,7 @@ pub struct Memory {
 }
 
 impl Memory {
-    /// With these globals, the unnamed values of `main`, and no block, at the beginning of a program.
+    /// With these globals, the temporary objects of `main`, and no block, at the beginning of a program.
     pub fn first(alloc: Global, globals: &[Datum], own: &[Local]) -> Result<Self, AllocError>
         ensures { IfOk result (λ memory. (frame : TheFrame) → frame.temps.items ≡ [] → frame.base ≡ 0
             → known_of frame memory ≡ first_known globals.now own.now) }
@@ -120,7 +120,7 @@ impl Memory {
         }
     }
 
-    /// A function with these unnamed values is called. Fails only where no host memory is left, or 2^64 - 1 functions were called.
+    /// A function with these temporary objects is called. Fails only where no host memory is left, or 2^64 - 1 functions were called.
     pub fn enter_call(&mut self, objects: Vec<Object>) -> Result<(), AllocError>
         ensures blocks { OnOk result (self.new.blocks ≡ self.old.blocks) }
         ensures entered { OnOk result (self.new.entered ≡ self.old.entered) }
@@ -210,7 +210,7 @@ impl Memory {
         }
     }
 
-    /// A pointer to an unnamed value of the innermost function, if there is one.
+    /// A pointer to a temporary object of the innermost function, if there is one.
     pub fn own_address(&self, index: usize) -> Option<Value>
         ensures { result ≡ own_address (map activation_of self.now.owns.items) index }
     {

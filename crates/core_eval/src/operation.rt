@@ -99,7 +99,7 @@ fn address<'p>(
     }
 }
 
-/// Gives a temporary a pointer to an unnamed value of its function.
+/// Gives a temporary a pointer to a temporary object of its function.
 fn own_address<'p>(
     frame: &mut Frame,
     memory: &Memory,

@@ -20,7 +20,7 @@ pub enum Area {
     Region(u64),
     /// A block, with its locals, by how many blocks were entered before it.
     Block(u64),
-    /// A function that is active, with its unnamed values, by how many functions were called before it.
+    /// A function that is active, with its temporary objects, by how many functions were called before it.
     Own(u64),
 }
 
@@ -126,7 +126,7 @@ impl Slot {
     }
 }
 
-/// A local, an unnamed value, a global or a block of a region.
+/// A local, a temporary object, a global or a block of a region.
 #[derive(Drop)]
 pub enum Object {
     /// Of one cell.

@@ -15,7 +15,7 @@ use Rattle.core_lines.specs.Operands.{number_kept, verdict_kept, numbered_kept, 
 
 -- ---- operations
 
--- What the code of a statement needs of where it stands: how many words its function passes to callees at most, where its unnamed values lie, the offsets of
+-- What the code of a statement needs of where it stands: how many words its function passes to callees at most, where its temporary objects lie, the offsets of
 -- the locals of the blocks around it, the innermost block first, where the locals of a block within it would begin, where the program's data lie, and of which
 -- temporaries it is known where else than in their slots their words are.
 pub record Surroundings : Type 0 where

@@ -74,8 +74,8 @@ pub record Zone : Type 0 where
   pub low : ℕ
   pub high : ℕ
 
--- An activation's frame: its function, where its bytes are, what its slots hold, where its unnamed values end, the zones of the blocks that it is in, the
--- innermost first, and its number. The slots come first, then the unnamed values, then the zones, each behind that of the block around it. Some of its
+-- An activation's frame: its function, where its bytes are, what its slots hold, where its temporary objects end, the zones of the blocks that it is in, the
+-- innermost first, and its number. The slots come first, then the temporary objects, then the zones, each behind that of the block around it. Some of its
 -- locals are in registers: `homes` has them by block and number. It has saved some of its caller's registers, and `callers` has their words at the call.
 pub record Activation : Type 0 where
   pub function : ℕ
@@ -140,7 +140,7 @@ pub record InFrame (fs : List Activation) (a : Activation) (at width : ℕ) : Ty
   pub low : a.at ≤ at
   pub high : at + width ≤ a.at + a.bytes
 
--- in the zone of a block's activation, or among the unnamed values of a function's
+-- in the zone of a block's activation, or among the temporary objects of a function's
 pub record InBlockOf (fs : List Activation) (k at width : ℕ) : Type 0 where
   pub frame : Activation
   pub inside : InFrame fs frame at width

@@ -130,7 +130,7 @@ abbrev mutual
 abbrev pub slots_of : Function → ℕ
 slots_of f = saved_slot f + length (saved_by f)
 
--- where a function's unnamed values end, and its blocks' locals begin
+-- where a function's temporary objects end, and its blocks' locals begin
 abbrev pub own_end : Function → ℕ
 own_end f = end_from (4 * slots_of f) f.own
 

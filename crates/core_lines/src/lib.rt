@@ -1,6 +1,6 @@
 //! How a memory of Core lies in a machine, and the lines of code that do what Core does.
 //!
-//! specs/Lies has where each local, global, temporary and unnamed value stands and what its bytes
+//! specs/Lies has where each local, global, temporary and temporary object stands and what its bytes
 //! show, specs/Lines what lines of code are, specs/Comparisons what their branches test, specs/Held what is known of the words of temporaries,
 //! specs/Saved which results are saved, and specs/Frames, specs/Operands, specs/Loops,
 //! specs/Choosing and specs/Selected the lines of a program. proofs/DoesAsCore: a machine that

@@ -50,7 +50,7 @@ abbrev mutual
   block_words NoStatements = 0
   block_words (MoreStatements first others) = statement_words first + block_words others
 
--- 64 bytes, and 4 for each word that is passed to a call, of temporaries, of unnamed values and of locals
+-- 64 bytes, and 4 for each word that is passed to a call, of temporaries, of temporary objects and of locals
 abbrev pub core_bound : Function → ℕ
 core_bound f = 64 + 4 * (f.passed + (f.temporaries + (local_words f.own + block_words f.body)))
 

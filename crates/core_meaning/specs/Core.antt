@@ -39,7 +39,7 @@ pub data Operation : Type 0 where
   Move : (t x : ℕ) → Operation
   Narrow : (t x : ℕ) → Operation
   Apply : (operation : Binary) (t x y : ℕ) → Operation
-  -- `t` gets a pointer: to a local of the block that is `out` blocks out, an unnamed value, a global or string; `cells` cells on from p; or to element i
+  -- `t` gets a pointer: to a local of the block that is `out` blocks out, a temporary object, a global or string; `cells` cells on from p; or to element i
   LocalAddress : (t out local : ℕ) → Operation
   OwnAddress : (t object : ℕ) → Operation
   DataAddress : (t object : ℕ) → Operation
@@ -98,9 +98,8 @@ mutual
     NoStatements : Statements
     MoreStatements : (first : Statement) (others : Statements) → Statements
 
--- A function: how many temporaries it has, the parameters the first; the most words that it passes to a call; its unnamed values; and its locals in the order
--- of
--- the text, each by how many locals stand before it where those of a block stand together, before those of the blocks within it.
+-- A function: how many temporaries it has, the parameters the first; the most words that it passes to a call; its temporary objects; and its locals in the
+-- order of the text, each by how many locals stand before it where those of a block stand together, before those of the blocks within it.
 pub record Function : Type 0 where
   pub parameters : ℕ
   pub temporaries : ℕ

@@ -160,7 +160,7 @@ entered f arguments m = record {
   memory = with_objects (Own m.calls) f.own (record (with_standing m (Own m.calls) Live) { calls = m.calls + 1 });
 }
 
--- the activation's unnamed values end with it; a function's end without `Return` is out of order
+-- the activation's temporary objects end with it; a function's end without `Return` is out of order
 abbrev pub left : ℕ → ℕ → (List Content → Memory → Step) → Exit → Config → Step
 left f own next (Returns values) c = Says (Returned f) (next values (with_standing c.memory (Own own) Dead))
 left f own next Falls c = stuck

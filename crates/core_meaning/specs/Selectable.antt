@@ -63,7 +63,7 @@ AreLayouts (l ∷ ls) = IsLayout l.layout × AreLayouts ls
 -- ---- numbers
 
 -- What the numbers in a statement may name: how many temporaries there are, how many words are passed to callees, how many locals each block around has, the
--- innermost first, how many unnamed values the function has, and how many objects the data have.
+-- innermost first, how many temporary objects the function has, and how many objects the data have.
 pub record Scope : Type 0 where
   pub temporaries : ℕ
   pub passed : ℕ

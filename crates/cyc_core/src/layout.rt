@@ -23,7 +23,7 @@ pub struct Layout {
     pub bytes: u32,
 }
 
-/// A local of a block, or an unnamed value of a function.
+/// A local of a block, or a temporary object of a function.
 #[derive(Drop)]
 pub enum Local {
     /// An object of one cell.

@@ -168,7 +168,7 @@ pub enum Operation {
     Apply(Binary, Temporary, Temporary, Temporary),
     /// The temporary gets a pointer to the local.
     LocalAddress(Temporary, Variable),
-    /// The temporary gets a pointer to the function's unnamed value with this number.
+    /// The temporary gets a pointer to the function's temporary object with this number.
     OwnAddress(Temporary, usize),
     /// The temporary gets a pointer to the global with this number.
     DataAddress(Temporary, usize),

@@ -18,7 +18,7 @@ pub struct Function {
     /// The numbers of its locals that have a home in a register before others, where they may have one: each block's are numbered before those of
     /// blocks within it. No number need be there.
     pub order: Vec<usize>,
-    /// Its unnamed values, which hold nothing when it is called; `OwnAddress` names one by its number in this list.
+    /// Its temporary objects, which hold nothing when it is called; `OwnAddress` names one by its number in this list.
     pub own: Vec<Local>,
     /// What it does.
     pub body: Vec<Statement>,

@@ -45,7 +45,7 @@ pub runs_quietly : (n : Areas) (k : ℕ) (s t : State) → AreQuietSteps n k s t
 runs_quietly n zero s t same = inl same
 runs_quietly n (suc k) s t (m, before, last) = inr (runs_at (one_quiet n m t last))
 
--- and isn't over for want of memory where it wasn't before
+-- and isn't over because memory is out where it wasn't before
 pub keeps_memory : (n : Areas) (k : ℕ) (s t : State) → AreQuietSteps n k s t → lacks s.mode ≡ false → lacks t.mode ≡ false
 keeps_memory n k s t q before = elim (runs_quietly n k s t q) [
   | inl same ↦ ap (λ (x : State). lacks x.mode) same ∙ before

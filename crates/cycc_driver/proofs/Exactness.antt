@@ -50,7 +50,7 @@ broken text p k place accepted breaks =
     let none = sym accepted.accepted.faultless ∙ ap first_fault same ∙ breaks.first in
     cc
 
--- an accepted text is refused only for want of memory
+-- an accepted text is refused only if memory is out
 pub accepted_or_refused : (text : List ℕ) (p : Program) (f : CompileFault) → IsAcceptedAs text p → IsRefusedFor f text → f ≡ fault.Memory
 accepted_or_refused text p (fault.Lex place) accepted why = absurd (lexed text p place accepted.spelled why)
 accepted_or_refused text p (fault.Parse place) accepted why = absurd (unexpected text p place accepted.spelled why)

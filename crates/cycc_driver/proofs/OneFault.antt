@@ -1,4 +1,4 @@
--- A text is refused for one fault, want of memory apart.
+-- A text is refused for one fault, unless memory is out.
 use Rattle.std.proofs.Common.{◌≡◌, ◌⊎◌, ℕ, ◌≤◌, List, [], ◌∷◌, ◌++◌, length, inl, inr, arith, sym, ap, subst, refl, ◌∙◌}
 use Rattle.cyc_lexer.specs.Lexing.{Token, Lexing}
 use Rattle.cyc_lexer.specs.Places.{line_of, column_of}

@@ -22,7 +22,7 @@ printed_name (fault.Size place) = codes "Size"
 printed_name (fault.TooLarge place) = codes "TooLarge"
 printed_name fault.Memory = codes "Memory"
 
--- where it stands; nowhere for want of memory
+-- where it stands; nowhere if memory is out
 abbrev pub fault_place : CompileFault → Option Place
 fault_place (fault.Lex place) = Some place
 fault_place (fault.Parse place) = Some place

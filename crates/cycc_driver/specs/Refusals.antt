@@ -92,6 +92,6 @@ HasNoImageFor (fault.Size place) text = IsRefusedFor (fault.Size place) text
 HasNoImageFor (fault.TooLarge place) text = IsTooLarge text place
 HasNoImageFor fault.Memory text = Unit {0}
 
--- one fault, want of memory apart
+-- one fault, unless memory is out
 abbrev pub AreSame : CompileFault → CompileFault → Type 0
 AreSame f g = (f ≡ fault.Memory) ⊎ ((g ≡ fault.Memory) ⊎ (f ≡ g))

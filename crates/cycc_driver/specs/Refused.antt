@@ -59,7 +59,7 @@ pub record HasLongCode (program : Program) (place : Place) : Type 0 where
   pub line : place.line ≡ 1
   pub column : place.column ≡ 1
 
--- why a program has no code: that, or want of memory
+-- why a program has no code: that, or that memory is out
 abbrev pub HasNoCodeFor : CompileFault → Program → Type 0
 HasNoCodeFor (fault.Lex place) program = ⊥
 HasNoCodeFor (fault.Parse place) program = ⊥

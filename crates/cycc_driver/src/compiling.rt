@@ -88,7 +88,7 @@ pub fn front(alloc: Global, text: &[u8]) -> Result<Checked, CompileFault>
     ensures accepted { IfOk result (λ checked. IsAcceptedAs text.now checked) }
     // its tokens are none, or are no program, at the place; or it spells a program whose first fault is this one, at the place
     ensures refused { IfErr result (λ fault. IsRefusedFor fault text.now) }
-    // a text that is accepted is refused only for want of memory
+    // a text that is accepted is refused only if memory is out
     ensures exact { (program : Tree) → IsAcceptedAs text.now program → IfErr result (λ fault. fault ≡ CompileFault.Memory) }
 {
     let program = parsed(alloc, text)?;
@@ -101,7 +101,7 @@ pub fn check(alloc: Global, text: &[u8]) -> Result<(), CompileFault>
     ensures accepted { IfOk result (λ _. (program : Tree) × IsAcceptedAs text.now program) }
     // its tokens are none, or are no program, at the place; or it spells a program whose first fault is this one, at the place
     ensures refused { IfErr result (λ fault. IsRefusedFor fault text.now) }
-    // a text that is accepted is refused only for want of memory
+    // a text that is accepted is refused only if memory is out
     ensures exact { (program : Tree) → IsAcceptedAs text.now program → IfErr result (λ fault. fault ≡ CompileFault.Memory) }
 {
     match front(alloc, text) {
@@ -110,7 +110,7 @@ pub fn check(alloc: Global, text: &[u8]) -> Result<(), CompileFault>
     }
 }
 
-/// A text spells one program, and an accepted one is refused only for want of memory; an image also where the bound on
+/// A text spells one program, and an accepted one is refused only if memory is out; an image also where the bound on
 /// the length of its code is over the limit.
 pub fn accepted_or_refused()
     ensures one { (text : List ℕ) (program other : Tree) → IsTextOf text program → IsTextOf text other → program ≡ other }
@@ -120,7 +120,7 @@ pub fn accepted_or_refused()
         → (fault ≡ CompileFault.Memory) ⊎ (code_limit < code_bound program accepted.spelled.tokens) }
 {}
 
-/// A text is refused for one fault, want of memory apart: of `check` as of `compile`.
+/// A text is refused for one fault, unless memory is out: of `check` as of `compile`.
 pub fn one_fault()
     ensures checked { (text : List ℕ) (fault other : CompileFault) → IsRefusedFor fault text → IsRefusedFor other text → AreSame fault other }
     ensures compiled { (text : List ℕ) (fault other : CompileFault) → HasNoImageFor fault text → HasNoImageFor other text → AreSame fault other }

@@ -89,7 +89,7 @@ impl CompileFault {
         }
     }
 
-    /// Where the fault stands; nowhere for want of memory.
+    /// Where the fault stands; nowhere if memory is out.
     pub fn place(&self) -> Option<Place>
         ensures { result ≡ fault_place self.now }
     {

@@ -25,7 +25,7 @@ fn bytes_of(rt: &HostRuntime, path: &str, most: u64) -> io::Result<Vec<u8>> {
     Ok(bytes)
 }
 
-/// Whether a failure to read or write is want of memory.
+/// Whether reading or writing failed because memory is out.
 fn is_memory(error: &io::Error) -> bool {
     error.kind() == io::ErrorKind::OutOfMemory
 }

@@ -1,4 +1,4 @@
-//! Exhaustion is exact: over a store that refuses for want of room exactly where its counts do, a machine that does what a
+//! Exhaustion is exact: over a store that refuses for lack of space exactly where its counts do, a machine that does what a
 //! program means stops as exhausted exactly where the program's own events want more pages than there are, or a frame that
 //! the stack hasn't.
 //!

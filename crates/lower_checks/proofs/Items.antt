@@ -1,4 +1,4 @@
--- One more item of a block: what its code, its locals, its unnamed values and their shapes are, and what is left.
+-- One more item of a block: what its code, its locals, its temporary objects and their shapes are, and what is left.
 use Rattle.std.proofs.Common.{
   ◌≡◌,
   ◌∙◌,

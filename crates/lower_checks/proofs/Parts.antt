@@ -1,4 +1,4 @@
--- The code of an expression from that of its parts, by the names that a function has for these, and by the number of the next unnamed value.
+-- The code of an expression from that of its parts, by the names that a function has for these, and by the number of the next temporary object.
 use Rattle.std.proofs.Common.{◌≡◌, ◌∙◌, ℕ, ◌+◌, refl, sym, ap, Bool, true, false, List, [], ◌∷◌, ◌++◌, length, append_assoc}
 use Rattle.cyc_tree.specs.Tree.{Expression, Expressions, Links, Made, Suffixes}
 use Rattle.source_meaning.specs.Expressions.{is_unique_region}
@@ -127,7 +127,7 @@ module _ (w : World) (names : List Named) (d own : ℕ) (e : Expression) where
       → expression_code w names e d own ≡ (Do (HeapHandle d) ∷ []) ++ new_code w names false new d own
   new_heap_code at new e_is = ap (λ x. expression_code w names x d own) e_is
 
--- ---- the unnamed values of an expression from those of its parts
+-- ---- the temporary objects of an expression from those of its parts
 
 module _ (w : World) (names : List Named) (e : Expression) where
   pub chain_values : (first a : Expression) (others b : Links) → e ≡ Expression.Chain first others → a ≡ first → b ≡ others

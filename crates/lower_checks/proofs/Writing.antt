@@ -19,7 +19,7 @@ write_write a b c x y z p q r one two code_is values_are = record {
   values = then_of (values_of a) p (values_of b) q (values_of c) r one.values two.values values_are;
 }
 
--- what emits writes no unnamed value
+-- what emits writes no temporary object
 pub write_emit : (a b c : Body) (x y z : List Statement) (p : List Shape) → IsWritten a b x p → IsEmitted b c y → z ≡ x ++ y → IsWritten a c z p
 write_emit a b c x y z p one two code_is = record {
   sound = one.sound;
@@ -34,7 +34,7 @@ emit_write a b c x y z p one two code_is = record {
   values = two.values ∙ ap (λ own. map shape_tree own.items ++ p) one.own;
 }
 
--- the next unnamed value's number
+-- the next temporary object's number
 pub next_is : (a b : Body) (x : List Statement) (p : List Shape) → IsWritten a b x p → next_of b ≡ next_of a + length p
 next_is a b x p is = grown shape_tree b.own.items a.own.items p is.values
 
@@ -97,7 +97,7 @@ write_same a b c x p one two = record {
   values = ap (λ own. map shape_tree own.items) two.own ∙ one.values;
 }
 
--- the next unnamed value's number is the same where nothing is appended, and where statements alone are
+-- the next temporary object's number is the same where nothing is appended, and where statements alone are
 pub same_next : (a b : Body) → IsSame a b → next_of b ≡ next_of a
 same_next a b one = ap (λ own. length own.items) one.own
 

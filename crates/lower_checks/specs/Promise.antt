@@ -26,5 +26,5 @@ pub record IsLoweringOf (p : Program) (c : core.Program) : Type 0 where
       → core_bound g ≤ frame_bound (world_of p) f
   -- its code is within 4,096 bytes and 512 for each token, whatever tokens spell the program, and for each region that `return`, `break` or `continue` leaves
   pub code : (tokens : Tokens) → IsProgram p tokens → core_code c ≤ 4096 + 512 * (length tokens + regions_left (world_of p).functions)
-  -- its numbers name temporaries, locals, unnamed values and data that there are, and the parts of its objects lie apart: it can be selected
+  -- its numbers name temporaries, locals, temporary objects and data that there are, and the parts of its objects lie apart: it can be selected
   pub selectable : IsSelectable c

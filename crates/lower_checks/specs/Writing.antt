@@ -1,4 +1,4 @@
--- View of code: what has been written of a function's body, and whether that failed for want of memory.
+-- View of code: what has been written of a function's body, and whether that failed since memory was out.
 use Rattle.std.specs.Prelude.{◌≡◌, ℕ, false, List, [], ◌++◌, length, map}
 use Rattle.core_meaning.specs.Core.{Statement}
 use Rattle.cyc_core.specs.Trees.{statement_tree}
@@ -12,7 +12,7 @@ code_of b = map statement_tree b.code.items
 abbrev pub values_of : Body → List Shape
 values_of b = map shape_tree b.own.items
 
--- the next unnamed value's number
+-- the next temporary object's number
 abbrev pub next_of : Body → ℕ
 next_of b = length b.own.items
 
@@ -43,7 +43,7 @@ pub record IsWritten (a b : Body) (more : List Statement) (shapes : List Shape) 
   pub code : code_of b ≡ code_of a ++ more
   pub values : values_of b ≡ values_of a ++ shapes
 
--- statements are appended, and shapes of unnamed values, or else the body has failed
+-- statements are appended, and shapes of temporary objects, or else the body has failed
 abbrev pub Writes : Body → Body → List Statement → List Shape → Type 0
 Writes a b code values = IsSound b → IsWritten a b code values
 
@@ -65,7 +65,7 @@ pub record IsLeft (a b : Body) (code code_left : List Statement) (shapes shapes_
   pub written : code_of b ++ code_left ≡ code_of a ++ code
   pub values : values_of b ++ shapes_left ≡ values_of a ++ shapes
 
--- a part is written apart: no statement is appended here, but the shapes of unnamed values
+-- a part is written apart: no statement is appended here, but the shapes of temporary objects
 pub record IsApart (a b : Body) (shapes : List Shape) : Type 0 where
   pub sound : IsSound a
   pub code : code_of b ≡ code_of a

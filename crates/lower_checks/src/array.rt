@@ -146,7 +146,7 @@ fn lower_within(program: &Table<'_>, body: &mut Body<'_>, inside: Vec<Statement>
     }
 }
 
-/// Appends what makes one element of a shape, by its number, and stores it; appends the shapes of its unnamed values.
+/// Appends what makes one element of a shape, by its number, and stores it; appends the shapes of its temporary objects.
 #[cycle(expression)]
 fn lower_each<'p>(
     scope: &Scope<'_, 'p>,
@@ -183,7 +183,7 @@ fn lower_each<'p>(
     }
 }
 
-/// Appends the loop over the elements; appends the shapes of the unnamed values of one. The index is among the names of the scope.
+/// Appends the loop over the elements; appends the shapes of the temporary objects of one. The index is among the names of the scope.
 #[cycle(expression)]
 fn lower_loop<'p>(
     scope: &Scope<'_, 'p>,

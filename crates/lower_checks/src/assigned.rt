@@ -39,7 +39,7 @@ use crate::whole::lower_whole;
 use cyc_core::{Origin, Temporary};
 use cyc_tree::Expression;
 
-/// Appends what evaluates a struct or a union, and copies it to a place of its type; appends the shapes of the unnamed values, those of the value
+/// Appends what evaluates a struct or a union, and copies it to a place of its type; appends the shapes of the temporary objects, those of the value
 /// first.
 fn lower_assigned<'p>(
     scope: &Scope<'_, 'p>,
@@ -71,7 +71,7 @@ fn lower_assigned<'p>(
 }
 
 /// Appends what evaluates a word or a fat pointer, and stores it in a place, which may hold a unique pointer; appends the shapes of the
-/// unnamed values, those of the value first.
+/// temporary objects, those of the value first.
 fn lower_given<'p>(
     scope: &Scope<'_, 'p>,
     place: &'p Expression,
@@ -93,7 +93,7 @@ fn lower_given<'p>(
     lower_assign(scope, place, body, &from, to, Origin(value.place()));
 }
 
-/// Appends what evaluates an expression, and drops its value; appends the shapes of the unnamed values.
+/// Appends what evaluates an expression, and drops its value; appends the shapes of the temporary objects.
 fn lower_dropped<'p>(
     scope: &Scope<'_, 'p>,
     expression: &'p Expression,
@@ -119,7 +119,7 @@ fn lower_dropped<'p>(
     }
 }
 
-/// Appends what runs an expression, whose value is dropped; appends the shapes of its unnamed values. The next unnamed value's number is
+/// Appends what runs an expression, whose value is dropped; appends the shapes of its temporary objects. The next temporary object's number is
 /// how many there are.
 pub fn lower_run<'p>(
     scope: &Scope<'_, 'p>,

@@ -15,7 +15,7 @@ use cyc_words::Kind;
 use std::alloc::{AllocError, Global};
 use std::mem;
 
-/// What is written: statements, the shapes of the unnamed values, where the statement of the source stands that it is of, and whether memory was wanting on
+/// What is written: statements, the shapes of the temporary objects, where the statement of the source stands that it is of, and whether memory was wanting on
 /// the way.
 #[derive(Drop)]
 pub struct Body<'p> {
@@ -199,7 +199,7 @@ impl<'p> Body<'p> {
         self.emit(Statement::Break(at));
     }
 
-    /// Appends the shape of a further unnamed value.
+    /// Appends the shape of a further temporary object.
     pub fn add(&mut self, shape: &Shape<'p>)
         ensures { Writes self.old self.new [] (shape_tree shape.now ∷ []) }
     {
@@ -209,7 +209,7 @@ impl<'p> Body<'p> {
         }
     }
 
-    /// Appends the shape of a further unnamed value, and gives the value's number.
+    /// Appends the shape of a further temporary object, and gives the value's number.
     pub fn value(&mut self, shape: &Shape<'p>) -> usize
         ensures writes { Writes self.old self.new [] (shape_tree shape.now ∷ []) }
         ensures number { IsSound self.new → result ≡ next_of self.old }

@@ -149,7 +149,7 @@ fn lower_unset(
 }
 
 /// Appends what leaves a pointer to the struct or the union that an initializer makes or names in a temporary; appends the shapes of the
-/// unnamed values.
+/// temporary objects.
 fn lower_source<'p>(
     scope: &Scope<'_, 'p>,
     value: &'p Expression,
@@ -172,7 +172,7 @@ fn lower_source<'p>(
 }
 
 /// Appends what gives the local of a number a copy of the struct or the union that its initializer makes or names; appends the shapes of
-/// the unnamed values.
+/// the temporary objects.
 fn lower_copied_in<'p>(
     scope: &Scope<'_, 'p>,
     shape: &Shape<'_>,
@@ -199,7 +199,7 @@ fn lower_copied_in<'p>(
     lower_copy(scope.program, shape, body, at, to);
 }
 
-/// Appends what gives the local of a number the value of its initializer, in its shape; appends the shapes of the unnamed values.
+/// Appends what gives the local of a number the value of its initializer, in its shape; appends the shapes of the temporary objects.
 fn lower_set<'p>(
     scope: &Scope<'_, 'p>,
     shape: &Shape<'_>,
@@ -288,7 +288,7 @@ fn lower_alias<'p>(
 }
 
 /// Appends what gives the local of a number its first value: that of its shape, its initializer's value, that of an alias's pointer, a new
-/// region's handle, a key that opens one or a new key, which comes into a temporary; appends the shapes of the unnamed values.
+/// region's handle, a key that opens one or a new key, which comes into a temporary; appends the shapes of the temporary objects.
 fn lower_first<'p>(
     scope: &Scope<'_, 'p>,
     declaration: &'p Declaration,

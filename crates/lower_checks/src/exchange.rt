@@ -116,7 +116,7 @@ fn lower_held_exchange(
 }
 
 /// Appends what exchanges what two places hold: a local of one word is read and written by its name, and to other places pointers come into
-/// a temporary and the next one; appends the shapes of the unnamed values.
+/// a temporary and the next one; appends the shapes of the temporary objects.
 pub fn lower_exchange<'p>(
     scope: &Scope<'_, 'p>,
     left: &'p Expression,

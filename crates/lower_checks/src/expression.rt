@@ -36,7 +36,7 @@ use crate::words::lower_loads;
 use cyc_core::{Operation, Origin, Temporary};
 use cyc_tree::{Expression, Operator, Prefix};
 
-/// Appends what leaves an expression's value in a temporary, and gives the shape of its type; appends the shapes of its unnamed values.
+/// Appends what leaves an expression's value in a temporary, and gives the shape of its type; appends the shapes of its temporary objects.
 #[cycle(expression)]
 pub fn lower_expression<'p>(
     scope: &Scope<'_, 'p>,

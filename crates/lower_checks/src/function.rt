@@ -88,7 +88,7 @@ fn lower_end(body: &mut Body<'_>, shape: &Shape<'_>, at: Origin)
     }
 }
 
-/// What a function does whose parameters take this number of words, and the shapes of its unnamed values.
+/// What a function does whose parameters take this number of words, and the shapes of its temporary objects.
 fn lower_body<'p>(
     alloc: Global,
     program: &Table<'p>,

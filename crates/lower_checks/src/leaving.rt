@@ -193,7 +193,7 @@ fn lower_result(body: &mut Body<'_>, shape: &Shape<'_>, to: Temporary)
 }
 
 /// Appends a return, with the value of an expression in the shape of the function's result, when all regions of the function are left;
-/// appends the shapes of the unnamed values.
+/// appends the shapes of the temporary objects.
 pub fn lower_return<'p>(
     scope: &Scope<'_, 'p>,
     shape: &Shape<'_>,

@@ -93,7 +93,7 @@ fn lower_object(
 }
 
 /// Appends what makes one object of a value, a unique one, or one in the region of the handle in a temporary, which gets a pointer to the
-/// object; gives the pointer's shape; appends the shapes of the unnamed values.
+/// object; gives the pointer's shape; appends the shapes of the temporary objects.
 #[cycle(expression)]
 fn lower_one<'p>(
     scope: &Scope<'_, 'p>,
@@ -137,7 +137,7 @@ fn lower_one<'p>(
 }
 
 /// Appends what makes one object, which may be unique, or an array, in the region of the handle in a temporary, which gets a pointer to it;
-/// gives the pointer's shape; appends the shapes of the unnamed values. The count of an array comes into the next temporary before the block is asked for.
+/// gives the pointer's shape; appends the shapes of the temporary objects. The count of an array comes into the next temporary before the block is asked for.
 #[cycle(expression)]
 pub fn lower_new<'p>(
     scope: &Scope<'_, 'p>,

@@ -1,4 +1,4 @@
-// Layouts, locals and unnamed values, by their shapes.
+// Layouts, locals and temporary objects, by their shapes.
 
 ghost use Rattle.std.specs.Prelude.{◌≡◌, ◌∷◌, [], IfOk, map, true};
 ghost use Rattle.core_meaning.specs.Core as core;
@@ -168,7 +168,7 @@ fn local_of(alloc: Global, program: &Table<'_>, stored: Stored<'_>) -> Result<Lo
     }
 }
 
-/// Unnamed values of these shapes, which are those of objects. Fails only where no host memory is left.
+/// Temporary objects of these shapes, which are those of objects. Fails only where no host memory is left.
 pub fn values_of(
     alloc: Global,
     program: &Table<'_>,

@@ -112,7 +112,7 @@ pub fn lower_any<'p>(
     }
 }
 
-/// Appends what evaluates an argument without a parameter, whose code is dropped: appends the shapes of the unnamed values alone.
+/// Appends what evaluates an argument without a parameter, whose code is dropped: appends the shapes of the temporary objects alone.
 #[cycle(expression)]
 fn lower_apart<'p>(
     scope: &Scope<'_, 'p>,

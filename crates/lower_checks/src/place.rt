@@ -167,7 +167,7 @@ pub fn lower_place<'p>(
 }
 
 /// Appends what leaves the index of a suffix in a temporary, where it has one; gives the temporary behind it; appends the shapes of the
-/// unnamed values.
+/// temporary objects.
 #[cycle(expression)]
 fn lower_subscript<'p>(
     scope: &Scope<'_, 'p>,
@@ -193,7 +193,7 @@ fn lower_subscript<'p>(
 }
 
 /// Appends what leaves the indices of suffixes in the temporaries from one on, the last one first; gives the temporary behind them;
-/// appends the shapes of the unnamed values.
+/// appends the shapes of the temporary objects.
 #[cycle(expression)]
 fn lower_indices<'p>(
     scope: &Scope<'_, 'p>,
@@ -269,7 +269,7 @@ fn lower_first<'p>(
 }
 
 /// Appends what leaves a pointer in a temporary, so far from which lies what an expression with suffixes leads to; gives what is reached
-/// there; appends the shapes of the unnamed values.
+/// there; appends the shapes of the temporary objects.
 #[cycle(expression)]
 pub fn lower_suffixed<'p>(
     scope: &Scope<'_, 'p>,

@@ -67,7 +67,7 @@ fn side_of(scope: &Scope<'_, '_>, place: &Expression) -> Side
 }
 
 /// Appends what leaves a pointer to a side's place in a temporary, if code reaches it by one; gives how it does, and appends the shapes of
-/// the unnamed values.
+/// the temporary objects.
 pub fn lower_side<'p>(
     scope: &Scope<'_, 'p>,
     place: &'p Expression,

@@ -22,7 +22,7 @@ use cyc_core::{Origin, Statement};
 use cyc_tree::Statement as Source;
 
 /// Appends what a statement without statements in it does, in a function with a result of this shape, among regions; appends the shapes of
-/// the unnamed values.
+/// the temporary objects.
 fn lower_plain<'p>(
     scope: &Scope<'_, 'p>,
     shape: &Shape<'_>,

@@ -44,8 +44,8 @@ use crate::table::Table;
 use cyc_core::{Origin, Statement, Temporary};
 use cyc_tree::{BlockItem, Declaration, Expression, Name, Statement as Source};
 
-/// Appends what a statement does, in a function with a result of this shape, among regions; appends the shapes of the unnamed values. The
-/// next unnamed value's number is how many there are.
+/// Appends what a statement does, in a function with a result of this shape, among regions; appends the shapes of the temporary objects. The
+/// next temporary object's number is how many there are.
 #[cycle(statement)]
 fn lower_statement<'p>(
     program: &Table<'p>,
@@ -98,7 +98,7 @@ fn lower_statement<'p>(
     }
 }
 
-/// Appends what leaves a condition's value in a temporary, of operations that stand where the condition does; appends the shapes of the unnamed values.
+/// Appends what leaves a condition's value in a temporary, of operations that stand where the condition does; appends the shapes of the temporary objects.
 fn lower_condition<'p>(
     scope: &Scope<'_, 'p>,
     condition: &'p Expression,
@@ -116,7 +116,7 @@ fn lower_condition<'p>(
     lower_expression(scope, condition, body, to);
 }
 
-/// What leaves the value of a loop's condition in a temporary; appends the shapes of the unnamed values.
+/// What leaves the value of a loop's condition in a temporary; appends the shapes of the temporary objects.
 fn lower_test<'p>(
     scope: &Scope<'_, 'p>,
     condition: &'p Expression,
@@ -135,7 +135,7 @@ fn lower_test<'p>(
     body.end(outer)
 }
 
-/// What a statement that is a part of another does; appends the shapes of the unnamed values.
+/// What a statement that is a part of another does; appends the shapes of the temporary objects.
 #[cycle(statement)]
 fn lower_part<'p>(
     program: &Table<'p>,
@@ -191,7 +191,7 @@ pub fn lower_inside(
     }
 }
 
-/// Appends a block with what its items do; appends the shapes of the unnamed values.
+/// Appends a block with what its items do; appends the shapes of the temporary objects.
 #[cycle(statement)]
 pub fn lower_block<'p>(
     program: &Table<'p>,
@@ -279,7 +279,7 @@ pub fn declare<'p>(
 }
 
 /// Declares a further local of the innermost block, and appends what gives it its first value, which comes into a temporary; appends the
-/// shapes of the unnamed values. The local's number is how many there are.
+/// shapes of the temporary objects. The local's number is how many there are.
 fn lower_declared<'p>(
     program: &Table<'p>,
     locals: &mut Locals<'p>,
@@ -322,8 +322,8 @@ fn lower_declared<'p>(
     );
 }
 
-/// Appends what the items of a block do, the locals that they declare, and the shapes of the unnamed values. The next local's
-/// number is how many there are, and so is the next unnamed value's. The regions that the items declare are left at the end.
+/// Appends what the items of a block do, the locals that they declare, and the shapes of the temporary objects. The next local's
+/// number is how many there are, and so is the next temporary object's. The regions that the items declare are left at the end.
 #[cycle(statement)]
 pub fn lower_items<'p>(
     program: &Table<'p>,

@@ -58,7 +58,7 @@ use cyc_core::{Binary, Operation, Origin, Statement, Temporary, Variable};
 use cyc_tree::{BlockItem, Clause, Expression, Name, Pattern};
 
 /// Appends what leaves a pointer to a place that is a union in a temporary, and the number of the member that it holds in the next one; gives
-/// the tag of the union's type, where that is one of the program; appends the shapes of the unnamed values.
+/// the tag of the union's type, where that is one of the program; appends the shapes of the temporary objects.
 fn lower_union_place<'p>(
     scope: &Scope<'_, 'p>,
     place: &'p Expression,
@@ -104,7 +104,7 @@ fn chosen_of<'p>(program: &Table<'p>, tag: &[u8], name: &[u8], body: &Body<'_>) 
 }
 
 /// What a clause does for a member: it is copied to the first local of the clause's block, and the `switch` is left behind that; appends
-/// the shapes of the unnamed values.
+/// the shapes of the temporary objects.
 #[cycle(statement)]
 fn lower_clause<'p>(
     program: &Table<'p>,
@@ -161,7 +161,7 @@ fn lower_clause<'p>(
     body.end(outer)
 }
 
-/// Appends what does a clause where the tag in the next temporary is the number of its member; appends the shapes of the unnamed values.
+/// Appends what does a clause where the tag in the next temporary is the number of its member; appends the shapes of the temporary objects.
 #[cycle(statement)]
 fn lower_case<'p>(
     program: &Table<'p>,
@@ -215,7 +215,7 @@ fn lower_case<'p>(
     body.branch(test, clause, Vec::new(body.alloc));
 }
 
-/// Appends what does each clause for a member of the union of a tag, one after the other; appends the shapes of the unnamed values.
+/// Appends what does each clause for a member of the union of a tag, one after the other; appends the shapes of the temporary objects.
 #[cycle(statement)]
 fn lower_cases<'p>(
     program: &Table<'p>,
@@ -263,7 +263,7 @@ fn lower_cases<'p>(
     }
 }
 
-/// Appends what the first `default` among clauses does, if there is one; appends the shapes of the unnamed values.
+/// Appends what the first `default` among clauses does, if there is one; appends the shapes of the temporary objects.
 #[cycle(statement)]
 fn lower_default<'p>(
     program: &Table<'p>,
@@ -297,7 +297,7 @@ fn lower_default<'p>(
     }
 }
 
-/// Appends a `switch` on a place that is a union; appends the shapes of the unnamed values.
+/// Appends a `switch` on a place that is a union; appends the shapes of the temporary objects.
 #[cycle(statement)]
 pub fn lower_switch<'p>(
     program: &Table<'p>,

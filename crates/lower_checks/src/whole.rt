@@ -65,7 +65,7 @@ struct Slot {
     bytes: u32,
 }
 
-/// Appends what copies a struct or a union of a shape from where the pointer in a temporary leads to the unnamed value of a number, and leaves a
+/// Appends what copies a struct or a union of a shape from where the pointer in a temporary leads to the temporary object of a number, and leaves a
 /// pointer to that value in the temporary.
 fn lower_copied(
     program: &Table<'_>,
@@ -120,8 +120,8 @@ fn lower_word_member(
     lower_stores(body, &reached, slot.to, value);
 }
 
-/// Appends what copies the struct or the union that an expression names to a further unnamed value, and leaves a pointer to that value in a
-/// temporary; appends the shapes of the unnamed values.
+/// Appends what copies the struct or the union that an expression names to a further temporary object, and leaves a pointer to that value in a
+/// temporary; appends the shapes of the temporary objects.
 #[cycle(expression)]
 fn lower_read<'p>(scope: &Scope<'_, 'p>, place: &'p Expression, body: &mut Body<'p>, to: Temporary)
     requires room { rooms.HasRoom to.0 (room_of (expression_tree place.now)) }
@@ -142,8 +142,8 @@ fn lower_read<'p>(scope: &Scope<'_, 'p>, place: &'p Expression, body: &mut Body<
     lower_copied(scope.program, &shape, body, value, to);
 }
 
-/// Appends what makes an unnamed value of an expression that is a struct or a union, and leaves a pointer to it in a temporary; appends
-/// the shapes of the unnamed values. The next unnamed value's number is how many there are.
+/// Appends what makes a temporary object of an expression that is a struct or a union, and leaves a pointer to it in a temporary; appends
+/// the shapes of the temporary objects. The next temporary object's number is how many there are.
 #[cycle(expression)]
 pub fn lower_whole<'p>(
     scope: &Scope<'_, 'p>,
@@ -173,7 +173,7 @@ pub fn lower_whole<'p>(
     }
 }
 
-/// Appends what makes an unnamed value of a struct of a tag, and leaves a pointer to it in a temporary; appends the shapes of the unnamed
+/// Appends what makes a temporary object of a struct of a tag, and leaves a pointer to it in a temporary; appends the shapes of the unnamed
 /// values.
 #[cycle(expression)]
 fn lower_made<'p>(
@@ -234,8 +234,8 @@ fn lower_held(
     }
 }
 
-/// Appends what makes an unnamed value of the union of a tag, which holds the member of a name, and leaves a pointer to it in a temporary;
-/// appends the shapes of the unnamed values.
+/// Appends what makes a temporary object of the union of a tag, which holds the member of a name, and leaves a pointer to it in a temporary;
+/// appends the shapes of the temporary objects.
 #[cycle(expression)]
 fn lower_union<'p>(
     scope: &Scope<'_, 'p>,
@@ -275,7 +275,7 @@ fn lower_union<'p>(
 }
 
 /// Appends what gives the members of a struct, to which the pointer in a temporary leads, the values of arguments, each where its member
-/// lies; appends the shapes of the unnamed values.
+/// lies; appends the shapes of the temporary objects.
 #[cycle(expression)]
 fn lower_members<'p>(
     scope: &Scope<'_, 'p>,
@@ -315,7 +315,7 @@ fn lower_members<'p>(
     }
 }
 
-/// Appends what gives a member of a shape the value of an argument; appends the shapes of the unnamed values.
+/// Appends what gives a member of a shape the value of an argument; appends the shapes of the temporary objects.
 #[cycle(expression)]
 fn lower_member<'p>(
     scope: &Scope<'_, 'p>,

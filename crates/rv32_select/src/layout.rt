@@ -1,4 +1,4 @@
-// Where the unnamed values of functions, the locals of blocks and the globals lie.
+// Where the temporary objects of functions, the locals of blocks and the globals lie.
 
 ghost use Rattle.std.specs.Prelude.{◌≡◌, ◌+◌, ◌*◌, ◌<◌, ◌^◌, [], ◌∷◌, ◌++◌, IfOk, OnOk, drop, map, length};
 ghost use Rattle.core_meaning.specs.Core as core;

@@ -1,4 +1,4 @@
-// Instructions for an operation on a local or an unnamed value.
+// Instructions for an operation on a local or a temporary object.
 
 ghost use Rattle.std.specs.Prelude.{◌≡◌, ◌++◌, OnOk, if◌then◌else◌, nat_eq};
 ghost use Rattle.core_lines.specs.Held.{result_register};

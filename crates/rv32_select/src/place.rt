@@ -59,7 +59,7 @@ pub struct Place {
     pub passed: u32,
     /// The label of the function's end.
     pub exit: usize,
-    /// The offsets in the frame of the function's unnamed values.
+    /// The offsets in the frame of the function's temporary objects.
     pub own: Vec<u64>,
     /// The blocks around the code, the innermost block first.
     pub blocks: Vec<Scope>,
@@ -258,7 +258,7 @@ impl Place {
         }
     }
 
-    /// The offset of an unnamed value in the frame.
+    /// The offset of a temporary object in the frame.
     pub fn own_offset(&self, object: usize) -> u64
         ensures { result ≡ nth (surroundings self.now).own object }
     {

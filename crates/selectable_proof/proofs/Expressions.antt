@@ -1,5 +1,5 @@
--- The code of an expression names locals of the blocks around it, globals, and unnamed values of its function, where its names and the program's globals lie
--- there, and its unnamed values are numbered among the function's.
+-- The code of an expression names locals of the blocks around it, globals, and temporary objects of its function, where its names and the program's globals lie
+-- there, and its temporary objects are numbered among the function's.
 use Rattle.std.proofs.Common.{ℕ, suc, ◌+◌, ◌≤◌, Bool, false, List, [], ◌∷◌, length, arith, length-append}
 use Rattle.cyc_tree.specs.Tree.{Expression, Expressions, NoExpressions, MoreExpressions, Links, NoLinks, MoreLinks, Suffixes, NoSuffixes, Index, Dot, Arrow}
 use Rattle.cyc_tree.specs.Tree.{Made, One, Array}
@@ -59,7 +59,7 @@ use Rattle.selectable_proof.proofs.Parts.{
   call_names,
 }
 
--- the code is in blocks that have so many locals each, in a function of so many unnamed values, over so many objects of the data
+-- the code is in blocks that have so many locals each, in a function of so many temporary objects, over so many objects of the data
 module _ (own n : ℕ) (w : World) (plain : IsPlainWorld w) where
   -- a pointer to a variable
   variable_names : {blocks : List ℕ} (names : List Named) (around : Around blocks n w names) (name : List ℕ) (d : ℕ)

@@ -75,7 +75,7 @@ many_shapes : (ps : List Part) (ss : List Shape) → length (part_shapes ps ++ s
 many_shapes [] ss = omega arith
 many_shapes (p ∷ ps) ss = let h = many_shapes ps ss in omega (arith, h)
 
--- the function has the locals of its unnamed values
+-- the function has the locals of its temporary objects
 pub body_names : (n : ℕ) (w : World) (f : Routine) → GlobalsLie n w.globals → TextsLie n w.strings → IsPlainWorld w → IsRoutine w f
     → AreNaming [] (length (locals_of w (routine_values w f))) n (body_code w f)
 body_names n w f globals texts plain is =

@@ -1,4 +1,4 @@
--- What stands around the code of values names unnamed values of its function: structs and unions that are copied, members, and what `new` and `rnew` make.
+-- What stands around the code of values names temporary objects of its function: structs and unions that are copied, members, and what `new` and `rnew` make.
 use Rattle.std.proofs.Common.{ℕ, ◌+◌, ◌<◌, ◌≤◌, Bool, true, false, List, ◌++◌, length, ◌∷◌, arith}
 use Rattle.source_meaning.specs.Shapes.{Shape, StructShape, UnionShape, UnsignedShape}
 use Rattle.source_meaning.specs.Steps.{World}

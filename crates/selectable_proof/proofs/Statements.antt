@@ -1,4 +1,4 @@
--- The code of statements names what there is: locals of the blocks around it, globals, strings and unnamed values of its function.
+-- The code of statements names what there is: locals of the blocks around it, globals, strings and temporary objects of its function.
 use Rattle.std.proofs.Common.{◌≡◌, ℕ, zero, suc, ◌+◌, ◌<◌, ◌≤◌, List, [], ◌∷◌, ◌++◌, length, Bool, true, false, Some, None, refl, ap, arith}
 use Rattle.std.proofs.Common.{length-append}
 use Rattle.cyc_tree.specs.Tree as tree
@@ -155,7 +155,7 @@ leaving_names blocks own n (false ∷ os) (suc all) (suc count) = (tt, leaving_n
 -- ---- statements
 
 mutual
-  -- the unnamed values of a statement are the function's next ones
+  -- the temporary objects of a statement are the function's next ones
   statement_names : (blocks : List ℕ) (own n : ℕ) (w : World) (result : Shape) (names : List Named) → IsPlainWorld w
       → Around blocks n w names → IsTarget result → (r : RegionsAround) (s : Statement) (next : ℕ) → TakesStatement w result names s
       → next + length (statement_values w names s) ≤ own → CodeNames blocks own n (statement_code w result names r next s)

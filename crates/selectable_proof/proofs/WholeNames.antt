@@ -1,4 +1,4 @@
--- The code of initializers and of expressions that are statements names unnamed values of its function, where these are numbered among them.
+-- The code of initializers and of expressions that are statements names temporary objects of its function, where these are numbered among them.
 use Rattle.std.proofs.Common.{◌≡◌, ℕ, ◌+◌, ◌≤◌, List, length, Bool, true, false, refl, arith, length-append}
 use Rattle.std.specs.Prelude.{if◌then◌else◌}
 use Rattle.cyc_tree.specs.Tree.{Expression}

@@ -1,4 +1,4 @@
--- Believed, for this crate's laws: what code of Core names beside its temporaries: locals of the blocks around it, unnamed values, and objects of the data;
+-- Believed, for this crate's laws: what code of Core names beside its temporaries: locals of the blocks around it, temporary objects, and objects of the data;
 -- layouts are in order, and elements have no more bytes than a word says.
 use Rattle.std.specs.Prelude.{ℕ, ◌≤◌, ◌<◌, ◌^◌, List, [], ◌∷◌, length}
 use Rattle.core_meaning.specs.Core.{
@@ -51,7 +51,7 @@ use Rattle.core_meaning.specs.Core.{
 use Rattle.core_meaning.specs.Layouts.{IsLayout, IsFull, IsZero}
 use Rattle.core_meaning.specs.Selectable.{AreLayouts, IsLocal}
 
--- An operation names what there is: within blocks with these numbers of locals, the innermost first, in a function with `own` unnamed values, over
+-- An operation names what there is: within blocks with these numbers of locals, the innermost first, in a function with `own` temporary objects, over
 -- `objects` objects of the data.
 abbrev pub NamesIn : List ℕ → (own objects : ℕ) → Operation → Type 0
 NamesIn blocks own objects (Constant t w) = Unit {0}

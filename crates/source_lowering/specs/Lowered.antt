@@ -1,7 +1,7 @@
 -- Believed: what an expression is lowered to. It leaves its value in the temporaries from a number on, a word in one and a fat pointer in three, and uses no
--- earlier ones. A struct or a tagged union that is made, or read whole, is an unnamed value of its function, and its code leaves a pointer to it in the first.
--- Unnamed values are numbered in the order of the evaluation: from the left, but for an assigned value, which comes before its place, and each before those of
--- its parts.
+-- earlier ones. A struct or a tagged union that is made, or read whole, is a temporary object of its function, and its code leaves a pointer to it in the
+-- first. Temporary objects are numbered in the order of the evaluation: from the left, but for an assigned value, which comes before its place, and each before
+-- those of its parts.
 use Rattle.std.specs.Prelude.{ℕ, suc, ◌+◌, ◌%◌, Bool, true, false, List, [], ◌∷◌, ◌++◌, length}
 use Rattle.cyc_tree.specs.Tree.{Expression, Expressions, NoExpressions, MoreExpressions, Links, NoLinks, MoreLinks, Suffixes, NoSuffixes, Index, Dot, Arrow}
 use Rattle.cyc_tree.specs.Tree.{Made, One, Array}
@@ -105,7 +105,7 @@ pub use Rattle.source_lowering.specs.Pieces.{
   call_code,
 }
 
--- ---- unnamed values
+-- ---- temporary objects
 
 -- those of a value of a shape: as a struct or a tagged union, or else as an operand
 abbrev pub values_by : Shape → (whole word : List Shape) → List Shape
@@ -170,7 +170,7 @@ abbrev mutual
 
 -- ---- pieces of code with structs and tagged unions
 
--- a place is copied to an unnamed value, from the pointer in the same temporary
+-- a place is copied to a temporary object, from the pointer in the same temporary
 abbrev pub copied_code : World → Shape → (d own : ℕ) → List Statement
 copied_code w s d own = Do (OwnAddress (d + 1) own) ∷ Do (Copy (d + 1) d (layout_of w s)) ∷ Do (OwnAddress d own) ∷ []
 
@@ -241,7 +241,7 @@ union_code w s from number d = conversion_code w s from (d + 1) ++ (tag_store d 
 
 -- ---- expressions
 
--- the first unnamed value has the number `own`
+-- the first temporary object has the number `own`
 abbrev mutual
   pub expression_code : World → List Named → Expression → (d own : ℕ) → List Statement
   expression_code w names (Expression.Number at value suffix) d own = Do (Constant d value) ∷ []

@@ -107,7 +107,7 @@ LocalMade w c r index (ArrayShape count of) = (k : ℕ) → k < count
     → AreMade c (record { region = r; object = index; cell = k * length (layout_of w of).cells }) (k * size_of w of) (layout_of w of).cells
 LocalMade w c r index s = AreMade c (record { region = r; object = index; cell = 0 }) 0 (layout_of w s).cells
 
--- the objects of a region, from a number on, as Core has made them: those of a block that the source makes later, and a function's unnamed values
+-- the objects of a region, from a number on, as Core has made them: those of a block that the source makes later, and a function's temporary objects
 abbrev pub ArePending : World → core.Memory → core.Region → ℕ → List Shape → Type 0
 ArePending w c r index [] = Unit {0}
 ArePending w c r index (s ∷ ss) = LocalMade w c r index s × ArePending w c r (suc index) ss

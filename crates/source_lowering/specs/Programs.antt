@@ -154,7 +154,7 @@ value_code w names (UnionShape tag) e d index own =
 value_code w names s e d index own =
     expression_code w names e d own ++ (conversion_code w s (static_shape w names e) d ++ put_local s d 0 index)
 
--- the unnamed values of an initializer
+-- the temporary objects of an initializer
 abbrev pub initial_values : World → List Named → Shape → Expression → List Shape
 initial_values w names (StructShape tag) e = (if is_made w e then whole_values w names e else expression_values w names e)
 initial_values w names (UnionShape tag) e = (if is_made w e then whole_values w names e else expression_values w names e)
@@ -190,7 +190,7 @@ abbrev pub declaration_values : World → List Named → Declaration → List Sh
 declaration_values w names (tree.Local of name (Initializer.Value e)) = initial_values w names (settled_by (written of) (static_shape w names e)) e
 declaration_values w names _ = []
 
--- ---- unnamed values of statements, in the order of the text
+-- ---- temporary objects of statements, in the order of the text
 
 abbrev mutual
   pub statement_values : World → List Named → Statement → List Shape
@@ -229,7 +229,7 @@ abbrev mutual
 -- ---- statements
 
 abbrev mutual
-  -- The first of its unnamed values has this number. `break` and `continue` leave the regions in scope within what they leave, and `return` those of the
+  -- The first of its temporary objects has this number. `break` and `continue` leave the regions in scope within what they leave, and `return` those of the
   -- function,
   -- when the result is there.
   pub statement_code : World → Shape → List Named → RegionsAround → (own : ℕ) → Statement → List core.Statement
@@ -271,7 +271,7 @@ abbrev mutual
   statement_code w result names h own (Statement.FreeKey at key) = get_code w names key.text h.all ++ (Do (KeyFree h.all) ∷ [])
   statement_code w result names h own (Statement.FreeUnique at pointer) = get_code w names pointer.text h.all ++ unique_free h.all
 
-  -- the items of a block; the next local has the first number, and the next unnamed value the second
+  -- the items of a block; the next local has the first number, and the next temporary object the second
   pub items_code : World → Shape → List Named → RegionsAround → (index own : ℕ) → BlockItems → List core.Statement
   items_code w result names h index own NoItems = []
   items_code w result names h index own (Declare d others) =
@@ -328,7 +328,7 @@ body_code w f =
     items_code w f.result (parameter_names f.parameters 0 []) no_regions (length f.parameters) 0 f.body)))
     (all_of (end_code f.result))
 
--- the structs that a function makes or reads whole, its unnamed values
+-- the structs that a function makes or reads whole, its temporary objects
 abbrev pub routine_values : World → Routine → List Shape
 routine_values w f = item_values w (parameter_names f.parameters 0 []) (length f.parameters) f.body
 

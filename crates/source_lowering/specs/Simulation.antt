@@ -95,7 +95,7 @@ pub record HasStatics (w : World) (m : source.Memory) (c : core.Memory) : Type 0
 -- ---- a point of both runs
 
 -- What both have in common in a scope: the activation of its block, and those around it; how many locals it has, and the shapes of those to come; the number of
--- its function's activation, and the shapes of its unnamed values; how many of these an expression leaves as they are; and how many regions are in scope:
+-- its function's activation, and the shapes of its temporary objects; how many of these an expression leaves as they are; and how many regions are in scope:
 -- as many of the first temporaries are taken.
 pub record Point : Type 0 where
   pub world : World
@@ -124,7 +124,7 @@ pub record SameState (p : Point) (m : source.Memory) (c : Config) : Type 0 where
   pub stands : core.is_live (c.memory.standing (core.Own p.own)) ≡ true
   pub owned : ArePending p.world c.memory (core.Own p.own) 0 p.owned
 
--- the same point, where the first `values` unnamed values are left as they are
+-- the same point, where the first `values` temporary objects are left as they are
 abbrev pub keeping : Point → ℕ → Point
 keeping p values = record p { kept = values }
 
@@ -156,7 +156,7 @@ AreKept d old new = (k : ℕ) → k < d → new.temps k ≡ old.temps k
 abbrev pub activation : Config → List ℕ
 activation c = c.own ∷ c.blocks
 
--- what an expression keeps: nothing but locals of newer blocks and blocks of regions is made, and the first unnamed values stay
+-- what an expression keeps: nothing but locals of newer blocks and blocks of regions is made, and the first temporary objects stay
 abbrev pub within : Point → Bound
 within p = record { frames = suc p.frame; standing = suc p.own; own = p.own; values = p.kept }
 
@@ -164,7 +164,7 @@ within p = record { frames = suc p.frame; standing = suc p.own; own = p.own; val
 abbrev pub around : Point → ℕ → Bound
 around p b = record { frames = b; standing = suc p.own; own = p.own; values = 0 }
 
--- what an expression that is a struct keeps: unnamed values before one
+-- what an expression that is a struct keeps: temporary objects before one
 abbrev pub before_value : Point → ℕ → Bound
 before_value p value = record { frames = suc p.frame; standing = suc p.own; own = p.own; values = value }
 

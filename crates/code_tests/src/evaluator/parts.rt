@@ -48,7 +48,7 @@ pub fn datum_of(alloc: Global, row: Row) -> Option<Datum> {
     }
 }
 
-/// The local or unnamed value that a row says, where it says one.
+/// The local or temporary object that a row says, where it says one.
 pub fn local_of(alloc: Global, row: Row) -> Option<Local> {
     let [count, _, _, _, _] = row.numbers;
     match row.word {

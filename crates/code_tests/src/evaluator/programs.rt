@@ -2,7 +2,7 @@
 //
 // `function PARAMETERS`, `block`, `leave`, `if TEMPORARY` and `while TEMPORARY` go on up to their `end`. The statements of `if` before its `else` are done
 // where the temporary is not 0, and those of `while` before its `do` are its test. `with_word`, `with_fat`, `with_words COUNT`, `with_pairs COUNT`,
-// `with_union`, `with_fat_union` and `with_unions COUNT` are locals of a block, or right within a function its unnamed values. `pass` has the temporaries
+// `with_union`, `with_fat_union` and `with_unions COUNT` are locals of a block, or right within a function its temporary objects. `pass` has the temporaries
 // that the next `call FUNCTION RESULTS` passes. `check_bounds TEMPORARY` raises where that is 0 or NULL, and `check_null_or_bounds TEMPORARY OTHER` does by
 // `OTHER`: the null exception where that is neither.
 

@@ -1,4 +1,4 @@
-// Evaluations of programs of Core with unnamed values of functions: pairs of a char and, one cell and four bytes on, an int.
+// Evaluations of programs of Core with temporary objects of functions: pairs of a char and, one cell and four bytes on, an int.
 
 /// Programs and how they end (evaluator/endings.rt).
 pub const UNNAMED: &str = "\
@@ -36,7 +36,7 @@ function 1; with_pairs 1
 own_address 1 0; store 1 0 1 4; return 1
 end
 --
-# a pointer to an unnamed value of a call that is over may be tested for NULL, and no more
+# a pointer to a temporary object of a call that is over may be tested for NULL, and no more
 Ended(0) <- is_null 1 0
 Stuck <- load 1 0 1 4
 Stuck <- store 0 1 1 4
@@ -49,6 +49,6 @@ end
 function 1; with_pairs 1
 end
 --
-# an unnamed value holds nothing at first, and none stands behind the last
+# a temporary object holds nothing at first, and none stands behind the last
 Stuck <- own_address 0 0; constant 1 5
 Stuck <- own_address 0 1; store 0 1 1 4";

@@ -1,4 +1,4 @@
--- A call in Core: an activation more, which has no unnamed values yet. The machine's memory fits as before.
+-- A call in Core: an activation more, which has no temporary objects yet. The machine's memory fits as before.
 use Rattle.std.proofs.Common.{◌≡◌, ℕ, ◌+◌, Bool, true, false, List, refl, sym, ap, ◌∙◌, arith}
 use Rattle.std.specs.Prelude.{if◌then◌else◌}
 use Rattle.rv32_machine.specs.State.{Areas}
@@ -7,7 +7,7 @@ use Rattle.core_lines.specs.Machines.{Store}
 use Rattle.core_lines.specs.Lies.{Maps, Activation, Name, Slot, Cell, PartLies, Lies, Fits, Known}
 use Rattle.core_lines.proofs.memory.Knowing.{no_parts}
 
--- the memory with an activation more, which has no unnamed values
+-- the memory with an activation more, which has no temporary objects
 abbrev pub with_call : Memory → Memory
 with_call mem = record (with_standing mem (Own mem.calls) Live) { calls = mem.calls + 1 }
 

@@ -28,8 +28,8 @@ use Rattle.core_lines.proofs.memory.Laying.{LaidOut}
 use Rattle.core_lines.proofs.memory.Unnamed.{owning, owned_at}
 use Rattle.core_lines.proofs.frames.Going.{with_config, BodyGoes, GoesReturning}
 
--- The activation of a function that is entered, with its unnamed values at these offsets, up to one, and those of its parameters in their slots that its code
--- loads from there.
+-- The activation of a function that is entered, with its temporary objects at these offsets, up to one, and those of its parameters in their slots that its
+-- code loads from there.
 abbrev pub activation : (w : World) (order : IsInOrder w) (f : ℕ) (fn : Function) → slice_get w.functions f ≡ Some fn → List Waiting → Memory → List Content
     → List ℕ → ℕ → Waiting
 activation w order f fn is outer mem arguments offsets high =
@@ -41,7 +41,7 @@ abbrev pub prologue_of : World → ℕ → Function → ℕ → List Line
 prologue_of w f fn parameters =
     prologue_code w.refused (w.frame_bytes f) fn.passed (saved_slot fn) (saved_by fn) (live_at_start w.data_offsets fn) (parameter_registers fn) parameters
 
--- What is asked of each function: its unnamed values lie behind its slots, in its frame; its prologue is at its label; and its statements, from behind the
+-- What is asked of each function: its temporary objects lie behind its slots, in its frame; its prologue is at its label; and its statements, from behind the
 -- prologue on, do as Core, where calls with less fuel do and the frame is no larger than the stack.
 pub record FunctionDoes (w : World) (order : IsInOrder w) (f : ℕ) (fn : Function) : Type 0 where
   pub offsets : List ℕ

@@ -1,4 +1,4 @@
--- What ends with an activation that has returned: its frame is popped, and its unnamed values end.
+-- What ends with an activation that has returned: its frame is popped, and its temporary objects end.
 use Rattle.std.proofs.Common.{
   ◌≡◌,
   ◌+◌,

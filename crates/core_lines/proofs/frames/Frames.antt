@@ -248,7 +248,7 @@ death_fits n m fs mem b st r f = record {
   aligned = λ x at width v h. f.aligned x at width v (death_back m fs mem r x at width v h);
 }
 
--- ---- the innermost frame is popped, where it is in no block any more and its unnamed values are dead
+-- ---- the innermost frame is popped, where it is in no block any more and its temporary objects are dead
 
 module _ (n : Areas) (m : Maps) (a : Activation) (fs : List Activation) (mem : Memory) (b : ℕ → ℕ) (st : Store) (sp : ℕ) (f : Fits n m (a ∷ fs) mem b st)
     (stacked : Stacked n sp (a ∷ fs)) (none : a.zones ≡ []) where

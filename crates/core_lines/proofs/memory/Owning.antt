@@ -1,4 +1,4 @@
--- A function's unnamed values get their bytes, in order, behind the slots of a frame that is in no block yet.
+-- A function's temporary objects get their bytes, in order, behind the slots of a frame that is in no block yet.
 use Rattle.std.specs.Prelude.{nat_eq, slice_get, if◌then◌else◌}
 use Rattle.std.proofs.Common.{
   ◌≡◌,
@@ -179,7 +179,7 @@ module _ (n : Areas) (few : n.statics ≤ 2 ^ 20) (short : n.stack ≤ longest_s
 
 -- ---- all of them
 
--- what stands, with the unnamed values
+-- what stands, with the temporary objects
 pub record IsOwned (n : Areas) (m : Maps) (before : Memory) (a : Activation) (fs : List Activation) (mem : Memory) (b : ℕ → ℕ) (st : Store)
     (sp k high : ℕ) (os : List ℕ) (count : ℕ) : Type 0 where
   pub maps : Maps

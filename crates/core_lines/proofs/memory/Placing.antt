@@ -167,7 +167,7 @@ module _ (n : Areas) (few : n.statics ≤ 2 ^ 20) (short : n.stack ≤ longest_s
   zoned : Zoned a.own_high a.bytes (z ∷ zs)
   zoned = subst (λ ys. Zoned a.own_high a.bytes ys) are laid.zoned
 
-  -- a zone lies below the end of the first, and the unnamed values below its beginning
+  -- a zone lies below the end of the first, and the temporary objects below its beginning
   zone_below : (top : ℕ) (ys : List Zone) (y : Zone) → Zoned a.own_high top ys → Among y ys → y.high ≤ top
   zone_below top [] y q i = absurd i
   zone_below top (x ∷ xs) y q (inl e) = subst (λ (t : Zone). t.high ≤ top) (sym e) q.0

@@ -1,11 +1,11 @@
--- What lies in a frame with other zones, or more room for unnamed values: the rest lies as it did.
+-- What lies in a frame with other zones, or more room for temporary objects: the rest lies as it did.
 use Rattle.std.proofs.Common.{◌≡◌, ℕ, zero, suc, ◌+◌, ◌≤◌, ◌⊎◌, inl, inr, ⊎_elim, List, ◌∷◌, refl, subst}
 use Rattle.core_meaning.specs.Memory.{Spot, Content, Memory}
 use Rattle.core_lines.specs.Machines.{Store}
 use Rattle.rv32_machine.specs.State.{Areas}
 use Rattle.core_lines.specs.Lies.{Maps, Zone, Activation, Name, Slot, Cell, SlotsLie, PartLies, Lies, Among, InFrame, CellGround, Ground, Fits}
 
--- the innermost frame with other zones, and with its unnamed values up to another offset
+-- the innermost frame with other zones, and with its temporary objects up to another offset
 module _ (n : Areas) (m : Maps) (a : Activation) (fs : List Activation) (zs : List Zone) (high : ℕ) where
   abbrev pub reframed : Activation
   reframed = record a { zones = zs; own_high = high }

@@ -1,4 +1,4 @@
--- A function is entered: its unnamed values get their bytes behind its slots. No instruction is needed.
+-- A function is entered: its temporary objects get their bytes behind its slots. No instruction is needed.
 use Rattle.std.proofs.Common.{◌≡◌, ℕ, zero, suc, ◌+◌, ◌≤◌, true, List, [], ◌∷◌, Some, sym, subst, arith}
 use Rattle.rv32_machine.specs.State.{data_base}
 use Rattle.core_meaning.specs.Memory.{Content, Own, Born, Memory, is_live}
@@ -15,7 +15,7 @@ use Rattle.core_lines.proofs.memory.Alike.{shows_on}
 use Rattle.core_lines.proofs.operations.Holding.{verdict, numbered_verdict, IsThere, AreThere}
 use Rattle.core_lines.proofs.operations.Standing.{AtHolding, with_there, as_holding}
 
--- an activation with its unnamed values at these offsets, up to one, and with this memory
+-- an activation with its temporary objects at these offsets, up to one, and with this memory
 abbrev pub owning : Waiting → List ℕ → ℕ → Memory → Waiting
 owning x offsets high mem = record x { unnamed = offsets; own_high = high; config = record x.config { memory = mem } }
 

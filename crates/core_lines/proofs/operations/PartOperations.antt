@@ -26,7 +26,7 @@ use Rattle.core_lines.proofs.homes.HomeOperations.{get_home, put_word, put_byte}
 use Rattle.core_lines.proofs.operations.Needing.{checked_goes}
 use Rattle.core_lines.proofs.operations.Parts.{load, store, get, put}
 
--- the offsets of an activation's unnamed values aren't large
+-- the offsets of an activation's temporary objects aren't large
 abbrev pub OwnSmall : Waiting → Type 0
 OwnSmall x = (o y : ℕ) → slice_get x.unnamed o ≡ Some y → y < 2 ^ 25
 

@@ -149,7 +149,7 @@ module _ (w : World) (order : IsInOrder w) (x : Waiting) (outer : List Waiting) 
         (writes w order x outer mem there j part is live (x.config.temps y) (stored_in hs 6 y) (operand_in hs 5 p) off (place + code_length first) (Valued y)
         (operand_some hs 4 p) (valued_stays y) (λ m registers h. h.0.0) (has_second w place first second has)))
 
-  -- ---- objects of a frame: locals, and unnamed values
+  -- ---- objects of a frame: locals, and temporary objects
 
   module _ (region : Region) (object off : ℕ) (few : off < 2 ^ 25)
       (lies : (m : Maps) (a : Activation) → FrameShows w m x (back_of w outer) a → m.base region object ≡ Some (a.at + off)) where

@@ -25,7 +25,7 @@ use Rattle.lower_checks.specs.Within.{AreWithin}
 use Rattle.lower_checks.specs.Writing.{IsLeft, IsSound, IsWritten, next_of}
 use Rattle.lower_checks.proofs.+expression.Given as goal
 
--- what is written, and the code of the links that are left, is the code of all; and so for the unnamed values
+-- what is written, and the code of the links that are left, is the code of all; and so for the temporary objects
 abbrev pub invariant-operands::lower_links-each : goal.invariant-operands::lower_links-each
 invariant-operands::lower_links-each l =
     let w = world_in l.scope in

@@ -1,4 +1,4 @@
--- What the nodes of an expression count is enough for its temporaries, for the words that it passes and for its unnamed values.
+-- What the nodes of an expression count is enough for its temporaries, for the words that it passes and for its temporary objects.
 use Rattle.std.proofs.Common.{◌≡◌, ℕ, suc, ◌+◌, ◌*◌, ◌≤◌, List, [], ◌∷◌, ◌++◌, Bool, true, false, max, refl, subst, sym, arith}
 use Rattle.std.proofs.lemmas.Bool.{false≢true}
 use Rattle.std.specs.Prelude.{bytes_eq, codes, if◌then◌else◌}
@@ -43,7 +43,7 @@ use Rattle.source_lowering.specs.Lowered.{owner_in}
 use Rattle.source_meaning.specs.Shapes.{Shared}
 use Rattle.source_meaning.specs.Expressions.{is_unique_region}
 
--- so many nodes have four temporaries each and pass three words, indices have a word each, and unnamed values have their own words
+-- so many nodes have four temporaries each and pass three words, indices have a word each, and temporary objects have their own words
 pub record Pays (w : World) (c i n : ℕ) (values : List Shape) : Type 0 where
   pub less : 7 * c + (i + shapes_words w values) ≤ 4 * n
 

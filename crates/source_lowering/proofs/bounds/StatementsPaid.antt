@@ -1,4 +1,4 @@
--- What the nodes of a statement count is enough for its temporaries, for the words that it passes and for its unnamed values.
+-- What the nodes of a statement count is enough for its temporaries, for the words that it passes and for its temporary objects.
 use Rattle.std.proofs.Common.{◌≡◌, ℕ, suc, ◌+◌, ◌*◌, ◌≤◌, List, ◌∷◌, ◌++◌, Bool, true, false, Some, refl, sym, subst, arith}
 use Rattle.std.specs.Prelude.{if◌then◌else◌}
 use Rattle.cyc_tree.specs.Tree as tree

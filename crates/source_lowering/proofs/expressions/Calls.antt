@@ -64,7 +64,7 @@ pub record NoResult (shape : Shape) (vs : List Scalar) (xs : List Content) : Typ
 abbrev pub ResultIs : World → source.Memory → core.Memory → Shape → List Scalar → List Content → Type 0
 ResultIs w m c shape vs xs = AValue w m c shape vs xs ⊎ NoResult shape vs xs
 
--- what a call keeps: the locals of all blocks that there are, and all unnamed values
+-- what a call keeps: the locals of all blocks that there are, and all temporary objects
 abbrev pub called_before : source.Memory → core.Memory → Bound
 called_before m c = record { frames = m.activations; standing = c.calls; own = c.calls; values = 0 }
 

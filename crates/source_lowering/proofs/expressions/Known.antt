@@ -16,7 +16,7 @@ use Rattle.std.proofs.lemmas.Bool.{false≢true}
 use Rattle.source_lowering.proofs.expressions.Variables.{Agrees}
 use Rattle.source_lowering.proofs.statements.Blocks.{locals_outward, objects_outward}
 
--- What lowering knows beside the scope: the names, the blocks around this one, and how far this one is; the unnamed values that are kept; and the regions in
+-- What lowering knows beside the scope: the names, the blocks around this one, and how far this one is; the temporary objects that are kept; and the regions in
 -- scope, by which so many of the first temporaries are taken.
 pub record Known : Type 0 where
   pub program : Program
@@ -51,7 +51,7 @@ pub record IsKnown (scope : Scope) (k : Known) : Type 0 where
   pub locals : AreLocals (scope.frame ∷ k.outer) scope.locals k.names
   pub words : AreObjectNames scope.world.unions scope.world.structs k.names
 
--- the same with so many unnamed values that are left as they are
+-- the same with so many temporary objects that are left as they are
 abbrev pub known_keeping : Known → ℕ → Known
 known_keeping k values = record k { kept = values }
 

@@ -342,7 +342,7 @@ array_agrees p n name d to count element_at count_shape shape code count_code ea
           })));
     }
 
--- by the shape of an element: a struct is evaluated to an unnamed value, and a word to a temporary
+-- by the shape of an element: a struct is evaluated to a temporary object, and a word to a temporary
 pub made_array : (p : Point) (n : ℕ) (name : List ℕ) (d first : ℕ) (to : steps.Act Maker) (count : Sense) (element_at : ℕ → Sense)
     (count_shape shape : Shape) (whole_values word_values : List Shape) (code count_code whole word : List Statement) (takes_whole takes : Type 0)
     → AreStructs p.world.unions p.world.structs → IsObject p.world.unions p.world.structs shape → p.kept ≤ first → TakesMember shape takes_whole takes

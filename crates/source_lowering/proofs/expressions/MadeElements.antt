@@ -141,7 +141,7 @@ value_element p n d count i shape e code structs is_value above one = record {
 
 -- ---- a struct or a union
 
--- the unnamed value goes to the element's cells
+-- the temporary object goes to the element's cells
 pub whole_element : (p : Point) (n d count i value : ℕ) (shape : Shape) (e : Sense) (code : List Statement) → AreStructs p.world.unions p.world.structs
     → IsObject p.world.unions p.world.structs shape → p.regions.all ≤ d + 3 → p.kept ≤ value → IsWholeAs p n (d + 3) value e shape code
     → ElementAs p n d count i shape e.value (code ++ (Do (Element (d + 4) d (d + 2) (length (cells_of p.world shape))

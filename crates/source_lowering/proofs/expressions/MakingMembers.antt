@@ -1,4 +1,4 @@
--- A struct is made of its members: one after the other each is converted, and goes where it lies in the unnamed value.
+-- A struct is made of its members: one after the other each is converted, and goes where it lies in the temporary object.
 use Rattle.std.proofs.Common.{◌≡◌, ℕ, suc, ◌+◌, ◌<◌, List, [], ◌∷◌, ◌++◌, length, true, false, nat_eq, None, refl, sym, ◌∙◌, subst, arith, ◌≤◌}
 use Rattle.std.specs.Prelude.{nat_le}
 use Rattle.std.proofs.lemmas.Bool.{eq-eqb}

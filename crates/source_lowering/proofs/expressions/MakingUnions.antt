@@ -1,4 +1,4 @@
--- A tagged union is made of one of its members: the value is converted, and goes behind its tag in the unnamed value.
+-- A tagged union is made of one of its members: the value is converted, and goes behind its tag in the temporary object.
 use Rattle.std.proofs.Common.{◌≡◌, ℕ, suc, ◌+◌, ◌^◌, ◌<◌, List, [], ◌∷◌, ◌++◌, length, Bool, Some, refl, sym, ap, ◌∙◌, subst, arith}
 use Rattle.std.specs.Prelude.{slice_get, unwrap_or}
 use Rattle.source_meaning.specs.Shapes.{Shape, UnionShape, Part, part_position, part_shape, part_shapes, parts_of}

@@ -1,4 +1,4 @@
--- The numbers of unnamed values.
+-- The numbers of temporary objects.
 use Rattle.std.proofs.Common.{◌≡◌, ℕ, zero, suc, ◌+◌, List, [], ◌∷◌, ◌++◌, length, Some, refl, sym, ap, ◌∙◌, arith}
 use Rattle.std.specs.Prelude.{slice_get}
 use Rattle.source_meaning.specs.Shapes.{Shape}

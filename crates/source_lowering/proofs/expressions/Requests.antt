@@ -114,7 +114,7 @@ unique_to p n d = record {
   same = λ m c s rest next fits goes. goes.go m c AsUnique fits (later_self (within p) m c.memory) (λ k h. refl) tt;
 }
 
--- the handle comes first; a struct is evaluated to an unnamed value, and a word to a temporary
+-- the handle comes first; a struct is evaluated to a temporary object, and a word to a temporary
 pub made_agrees : (p : Point) (n d own : ℕ) (unique : Bool) (to : steps.Act Maker) (e : Sense) (shape : Shape) (whole_values word_values : List Shape)
     (code whole word : List Statement) (takes_whole takes : Type 0) → AreUnions p.world.unions → AreStructs p.world.unions p.world.structs
     → IsObject p.world.unions p.world.structs shape → p.kept ≤ own

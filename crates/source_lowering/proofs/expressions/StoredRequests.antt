@@ -1,4 +1,4 @@
--- A value that was evaluated is stored to a block that is asked for: a value of one cell to that, and a struct or a union by a copy of its unnamed value.
+-- A value that was evaluated is stored to a block that is asked for: a value of one cell to that, and a struct or a union by a copy of its temporary object.
 use Rattle.std.proofs.Common.{◌≡◌, ℕ, suc, ◌+◌, ◌≤◌, inl, inr, List, [], ◌∷◌, ◌++◌, Bool, true, false, Some, refl, sym, ap, ◌∙◌, subst, arith}
 use Rattle.std.specs.Prelude.{slice_get}
 use Rattle.source_lowering.proofs.memory.LayoutsKept.{one_led}
@@ -196,7 +196,7 @@ value_there : (c : Config) (d own value : ℕ) (t : core.Spot) (l : Layout) (nex
     → does (Copy d (d + 1) l) next c ≡ next (with_memory (copied l t (own_spot own value 0) c.memory) c)
 value_there c d own value t l next temp from live other laid laid_from apart = rw (temp, from, live, laid, other, laid_from, apart) refl
 
--- a pointer to the unnamed value is in the temporary after that of the handle
+-- a pointer to the temporary object is in the temporary after that of the handle
 whole_stored : (p : Point) (n d value : ℕ) (unique : Bool) (to : Maker) (shape : Shape) (m0 : source.Memory) (c0 : Config) (m : source.Memory) (c : Config)
     (vs : List Scalar) (s : List Scalar → source.Memory → steps.Step) (rest : Statements) (next : Next) → AreUnions p.world.unions
     → AreStructs p.world.unions p.world.structs
@@ -264,7 +264,7 @@ whole_stored p n d value unique to shape m0 c0 m c vs s rest next unions structs
             (λ i j less. (a.later (record { frames = 0; standing = 0; own = p.own; values = suc value })).owned p.own (core.beyond own i) j refl
             (omega arith, λ e. omega arith)) shown)
 
--- a struct or a union is evaluated to an unnamed value, which goes to the block's cells
+-- a struct or a union is evaluated to a temporary object, which goes to the block's cells
 pub whole_makes : (p : Point) (n d value : ℕ) (unique : Bool) (shape : Shape) (e : Sense) (code : List Statement) → AreUnions p.world.unions
     → AreStructs p.world.unions p.world.structs
     → IsObject p.world.unions p.world.structs shape → p.kept ≤ value → IsWholeAs p n (d + 1) value e shape code

@@ -1,4 +1,4 @@
--- Suffixes on an expression: the indices' unnamed values come before its own.
+-- Suffixes on an expression: the indices' temporary objects come before its own.
 use Rattle.std.proofs.Common.{◌≡◌, ℕ, ◌+◌, ◌≤◌, List, ◌++◌, length, refl, arith}
 use Rattle.cyc_tree.specs.Tree.{Expression, Suffixes}
 use Rattle.source_meaning.specs.Steps.{World, Scope}
@@ -12,7 +12,7 @@ use Rattle.source_lowering.proofs.expressions.Indices.{indices_taken, IndicesAs}
 use Rattle.source_lowering.proofs.expressions.Suffixing.{MemberAs, suffixes_shape, suffixes_same}
 use Rattle.source_lowering.proofs.expressions.Known.{Known, place_in, IsKnown}
 
--- what suffixes lead to from an expression: unnamed values of the indices come first
+-- what suffixes lead to from an expression: temporary objects of the indices come first
 abbrev pub primary_left : World → List Named → Expression → Suffixes → ℕ → Left
 primary_left w names primary suffixes own =
     let first = own + length (suffix_values w names suffixes) in

@@ -47,7 +47,7 @@ whole_place p n d value e from code structs is numbered one =
 
 -- ---- a member
 
--- a struct's value is an unnamed one, and a word is evaluated while the value around it stays as it is
+-- a struct's value is a temporary object, and a word is evaluated while the value around it stays as it is
 pub member_same : (p : Point) (n d value cells byte own : ℕ) (s : Shape) (e : Sense) (from : Shape) (wholes words : List Shape) (whole word : List Statement)
     (takes_whole takes : Type 0) → AreStructs p.world.unions p.world.structs → IsObject p.world.unions p.world.structs s → value < own
     → TakesMember s takes_whole takes → AreNumbered p.owned own (values_by s wholes words)

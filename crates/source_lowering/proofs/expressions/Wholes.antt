@@ -1,4 +1,4 @@
--- Structs and unions as values: an unnamed value of the function gets what a place holds, and is then where a temporary points.
+-- Structs and unions as values: a temporary object of the function gets what a place holds, and is then where a temporary points.
 use Rattle.std.proofs.Common.{◌≡◌, ℕ, suc, ◌+◌, ◌≤◌, List, [], ◌∷◌, ◌++◌, true, false, nat_eq, Option, Some, None, refl, sym, ap, ◌∙◌, subst, arith}
 use Rattle.std.specs.Prelude.{slice_get}
 use Rattle.std.proofs.lemmas.Bool.{eq-eqb}
@@ -53,11 +53,11 @@ use Rattle.source_lowering.proofs.expressions.Places.{IsPlaced}
 
 -- ---- forms
 
--- a cell of an unnamed value
+-- a cell of a temporary object
 abbrev pub own_spot : ℕ → ℕ → ℕ → core.Spot
 own_spot own value cell = record { region = core.Own own; object = value; cell = cell }
 
--- A struct or a union is an unnamed value to which there is a pointer in a temporary; temporaries below it, and values before it, are as they were.
+-- A struct or a union is a temporary object to which there is a pointer in a temporary; temporaries below it, and values before it, are as they were.
 pub record WholeGoesOn (p : Point) (n d value : ℕ) (m0 : source.Memory) (c0 : Config) (shape : Shape) (s : List Scalar → source.Memory → steps.Step)
     (k : Config → core_steps.Step) : Type 0 where
   pub above : p.regions.all ≤ d
@@ -83,7 +83,7 @@ before_less p u v less = record {
   kept = λ k i h. (h.0, λ e. let f = h.1 e in omega (arith, f, less));
 }
 
--- where that many unnamed values are left as they are, the same fits
+-- where that many temporary objects are left as they are, the same fits
 pub fits_keeping : (p : Point) (values : ℕ) (m : source.Memory) (c : Config) → SameState p m c → SameState (keeping p values) m c
 fits_keeping p values m c f = record {
   agree = f.agree;
@@ -126,7 +126,7 @@ own_free p u v cell less k r h =
     let f = h.1 (sym same) in
     omega (arith, f, less)
 
--- ---- an unnamed value's parts change
+-- ---- a temporary object's parts change
 
 -- memories still agree where the parts of cells that keep a value are as they were
 pub agree_changed : (w : World) (m : source.Memory) (c : core.Memory) (f : core.Spot → ℕ → Option Part) → SameMemory w m c
@@ -183,7 +183,7 @@ agree_own_copied w m c l own value cell from a =
     (λ s j. copied_other l (own_spot own value cell) from c (at s) j (own_apart s own value cell))
     (λ t j e. copied_none l (own_spot own value cell) from c t j e)
 
--- what a place knows of its unnamed values
+-- what a place knows of its temporary objects
 pub pending_at : (w : World) (c : core.Memory) (r : core.Region) (index i : ℕ) (ss : List Shape) (s : Shape) → ArePending w c r index ss
     → slice_get ss i ≡ Some s → LocalMade w c r (index + i) s
 pending_at w c r index i [] s h e = absurd (cc e)

@@ -29,7 +29,7 @@ region_as (source.Born j) (source.Born k) = refl
 pub spot_as : (s t : Spot) → core.same_spot (at s) (at t) ≡ same_spot s t
 spot_as s t = ap (λ b. b && (nat_eq s.object t.object && nat_eq s.cell t.cell)) (region_as s.region t.region)
 
--- what the source names is no unnamed value
+-- what the source names is no temporary object
 pub named_free : (b : Bound) (s : Spot) → IsFree b (at s)
 named_free b s k e kept = by s.region e
   where

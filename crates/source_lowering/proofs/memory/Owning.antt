@@ -1,4 +1,4 @@
--- A function is entered, with the objects of its unnamed values, and left: what the source doesn't see.
+-- A function is entered, with the objects of its temporary objects, and left: what the source doesn't see.
 use Rattle.std.proofs.Common.{◌≡◌, ℕ, ◌+◌, ◌<◌, ◌≤◌, List, Bool, true, false, nat_eq, Some, None, refl, sym, ap, ◌∙◌, subst, arith, eq-eqb}
 use Rattle.std.specs.Prelude.{if◌then◌else◌}
 use Rattle.std.proofs.lemmas.Bool.{eqb-true, eq-eqb}
@@ -160,7 +160,7 @@ own_agree w m c ls a = record {
       a.ungranted d t j r (subst (λ z. z ≤ t.object) (made_objects (core.Own c.calls) ls (own_opened c) (core.Born d) refl) h);
 }
 
--- its unnamed values are made
+-- its temporary objects are made
 pub own_made : (w : World) (m : source.Memory) (c : core.Memory) (ss : List Shape) → SameMemory w m c
     → ArePending w (own_in (locals_of w ss) c) (core.Own c.calls) 0 ss
 own_made w m c ss a = pending_made w ss (own_opened c) (core.Own c.calls) 0 (a.unowned c.calls (omega arith))

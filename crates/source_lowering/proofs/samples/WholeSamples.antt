@@ -101,7 +101,7 @@ with_t = named_here (codes "t") (StructShape (codes "in")) 0 ∷ []
 abbrev with_both : List Named
 with_both = named_here (codes "u") (StructShape (codes "out")) 1 ∷ with_t
 
--- ---- the unnamed values
+-- ---- the temporary objects
 
 abbrev filler : ℕ → PartShape
 filler at = record { offset = at; width = 1; first = Blank }

@@ -71,7 +71,7 @@ at_start w fs locals names frame outer shapes own owned kept regions = record {
   regions = regions;
 }
 
--- a function's activation with its unnamed values
+-- a function's activation with its temporary objects
 pub record HasOwn (w : World) (c : Config) (own : ℕ) (owned : List Shape) : Type 0 where
   pub is : c.own ≡ own
   pub called : own < c.memory.calls

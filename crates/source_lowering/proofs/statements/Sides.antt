@@ -63,7 +63,7 @@ pub union_pointed : (p : Point) (side : Side) (tag : List ℕ) (temps : ℕ → 
 union_pointed p (ByName out index width) tag temps q t byte h = absurd h.word
 union_pointed p ByPlace tag temps q t byte h = h
 
--- what is reached by name has no unnamed values
+-- what is reached by name has no temporary objects
 pub name_values : (w : World) (names : List Named) (e : Expression) (out index width : ℕ) → side_of names e ≡ ByName out index width
     → expression_values w names e ≡ []
 name_values w names (Expression.Variable name) out index width is = refl

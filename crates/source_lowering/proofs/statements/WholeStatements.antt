@@ -106,7 +106,7 @@ whole_begins p n value scope name shape shapes e code then_act next m c rest aft
 
 -- ---- one is assigned
 
--- the value is an unnamed one, which stays while its place is evaluated
+-- the value is a temporary object, which stays while its place is evaluated
 pub whole_assigned : (p : Point) (n value : ℕ) (result : Shape) (to from : Sense) (shape : Shape) (code place : List Statement)
     → AreStructs p.world.unions p.world.structs → IsWholeShape p.world.unions p.world.structs shape → IsWhole p n p.regions.all value from code
     → IsPlaced (keeping p (suc value)) n (p.regions.all + 1) to shape place

@@ -9,7 +9,7 @@ use Rattle.lower_checks.specs.Writing.{IsEmitted, IsWritten, next_of}
 use Rattle.lower_checks.proofs.Writing.{next_is, write_emit, write_write}
 use Rattle.lower_checks.proofs.assigned.lower_assigned.Goals as goal
 
--- the unnamed values of the place come behind those of the value
+-- the temporary objects of the place come behind those of the value
 pub returns : goal.returns
 returns c = record {
   writes = λ sound.

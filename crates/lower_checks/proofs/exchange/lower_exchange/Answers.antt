@@ -24,7 +24,7 @@ lower_held_exchange-requires c = record {
       subst (IsExchanged w.unions) (sym shape_is) (c.requires.taken (c.known-shape.ensures.stays one.sound).sound).1.1;
 }
 
--- the right place's pointer comes into the next temporary, and its unnamed values behind those of the left one
+-- the right place's pointer comes into the next temporary, and its temporary objects behind those of the left one
 pub returns : goal.returns
 returns c = record {
   writes = λ sound.

@@ -50,7 +50,7 @@ word-passed-requires c =
     let passed = passed_have_room w f c.requires.taken in
     record { fits = omega (arith, room, passed_are, passed) }
 
--- the unnamed values of a function that is taken are objects
+-- the temporary objects of a function that is taken are objects
 pub values_of-requires : goal.values_of-requires
 values_of-requires c =
     let w = world_of c.args.program.now in

@@ -10,7 +10,7 @@ use Rattle.lower_checks.specs.Writing.{IsWritten, next_of}
 use Rattle.lower_checks.proofs.Nothing.{written_none}
 use Rattle.lower_checks.proofs.side.lower_side.Goals as goal
 
--- what is reached by name has no pointer, and no unnamed values
+-- what is reached by name has no pointer, and no temporary objects
 pub returns-in-ByName-clause-writes : goal.returns-in-ByName-clause-writes
 returns-in-ByName-clause-writes c sound =
     let w = world_in c.args.scope.now in

@@ -11,6 +11,7 @@ mod Linking
 mod Lists
 mod Mains
 mod Making
+mod MemberPlaces
 mod Naming
 mod Nothing
 mod Ordered

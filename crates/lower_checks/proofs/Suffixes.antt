@@ -9,7 +9,7 @@ use Rattle.source_meaning.specs.Steps.{World}
 use Rattle.source_lowering.specs.Lowered.{Left, Named, expression_code, left_of, loads_code, offset_code, place_code, pointer_to, reach_code, static_shape}
 use Rattle.source_lowering.specs.Lowered.{store_to, stores_code, suffix_values, suffixed_code, suffixed_shape}
 use Rattle.source_lowering.specs.Members.{subscript_code}
-use Rattle.source_lowering.specs.Lowerable.{TakesIndices, TakesMembers, TakesSuffixes}
+use Rattle.source_lowering.specs.Lowerable.{TakesIndices, TakesSuffixes}
 use Rattle.core_meaning.specs.Core.{Statement}
 use Rattle.lower_checks.specs.Reaching.{IsLeftAt, Place, first_code, further_code, further_place, indices_code, indices_in, left_by, member_place}
 use Rattle.lower_checks.specs.Reaching.{place_at_once}
@@ -239,20 +239,13 @@ module _ (w : World) where
   place_shape (Dot f others) p = place_shape others (member_place w p f.text)
   place_shape (Arrow f others) p = place_shape others (member_place w (place_at_once (pointee p.shape)) f.text)
 
-  pub members_one : (names : List Named) (one : OneSuffix) (rest : List OneSuffix) (p : Place) → TakesMembers w names (suffixes_of (one ∷ rest)) p.shape
-      → TakesMembers w names (suffixes_of (one ∷ [])) p.shape × TakesMembers w names (suffixes_of rest) (further_place w (suffixes_of (one ∷ [])) p).shape
-  members_one names (OneSuffix.Index index) rest p h = ((h.0, (h.1.0, (h.1.1.0, tt))), h.1.1.1)
-  members_one names (OneSuffix.Dot f) rest p h = ((h.0, tt), h.1)
-  members_one names (OneSuffix.Arrow f) rest p h = ((h.0, (h.1.0, tt)), h.1.1)
-
-  -- and the first one on what stands on its left
+  -- the first one is on what stands on its left
   pub suffixes_one : (names : List Named) (one : OneSuffix) (rest : List OneSuffix) (s : Shape) (value place : Type 0)
       → TakesSuffixes w names (suffixes_of (one ∷ rest)) s value place
       → TakesSuffixes w names (suffixes_of (one ∷ [])) s value place
-      × TakesMembers w names (suffixes_of rest) (further_place w (suffixes_of (one ∷ [])) (place_at_once s)).shape
-  suffixes_one names (OneSuffix.Index index) rest s value place h = ((h.0, (h.1.0, (h.1.1.0, tt))), h.1.1.1)
-  suffixes_one names (OneSuffix.Dot f) rest s value place h = ((h.0, (h.1.0, tt)), h.1.1)
-  suffixes_one names (OneSuffix.Arrow f) rest s value place h = ((h.0, (h.1.0, tt)), h.1.1)
+  suffixes_one names (OneSuffix.Index index) rest s value place h = (h.0, (h.1.0, (h.1.1.0, tt)))
+  suffixes_one names (OneSuffix.Dot f) rest s value place h = (h.0, (h.1.0, tt))
+  suffixes_one names (OneSuffix.Arrow f) rest s value place h = (h.0, (h.1.0, tt))
 
 -- ---- what is done with the place
 

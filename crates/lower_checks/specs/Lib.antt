@@ -3,6 +3,7 @@ pub mod Counted
 pub mod Firsts
 pub mod Mains
 pub mod Marks
+pub mod MemberPlaces
 pub mod Numbers
 pub mod Ordering
 pub mod Promise

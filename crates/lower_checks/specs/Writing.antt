@@ -1,4 +1,4 @@
--- View of code: what has been written of a function's body, and whether that failed since memory was out.
+-- View of code: what has been written of a function's body, and whether that failed for lack of memory.
 use Rattle.std.specs.Prelude.{◌≡◌, ℕ, false, List, [], ◌++◌, length, map}
 use Rattle.core_meaning.specs.Core.{Statement}
 use Rattle.cyc_core.specs.Trees.{statement_tree}

@@ -15,8 +15,8 @@ use cyc_words::Kind;
 use std::alloc::{AllocError, Global};
 use std::mem;
 
-/// What is written: statements, the shapes of the temporary objects, where the statement of the source stands that it is of, and whether memory was wanting on
-/// the way.
+/// What is written: statements, the shapes of the temporary objects, where the statement of the source stands that it is of, and whether memory ran out on the
+/// way.
 #[derive(Drop)]
 pub struct Body<'p> {
     pub alloc: Global,
@@ -42,7 +42,7 @@ impl<'p> Body<'p> {
         }
     }
 
-    /// Notes that memory was wanting.
+    /// Notes that memory ran out.
     pub fn fail(&mut self)
         ensures { self.new.failed ≡ true }
     {

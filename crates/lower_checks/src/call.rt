@@ -3,7 +3,7 @@
 ghost use Rattle.std.specs.Prelude.{◌≡◌, ◌+◌, ◌∷◌, [], IfOk, Some, map};
 ghost use Rattle.cyc_tree.specs.View.{function_tree, member_tree};
 ghost use Rattle.cyc_core.specs.Trees.{temporary_tree, statement_tree};
-ghost use Rattle.source_meaning.specs.Shapes.{part_of, part_shapes};
+ghost use Rattle.source_meaning.specs.Shapes.{IntShape, part_of, part_shapes};
 ghost use Rattle.source_meaning.specs.Programs.{routine_of, world_of};
 ghost use Rattle.source_lowering.specs.Lowered.{call_parameters, from_on, call_code};
 ghost use Rattle.source_lowering.specs.Pieces.{function_call};
@@ -31,6 +31,15 @@ fn part_shapes<'p>(alloc: Global, parameters: &'p [Member]) -> Result<Vec<Shape<
     Ok(shapes)
 }
 
+/// The shapes of what `putchar` takes.
+fn int_alone<'p>(alloc: Global) -> Result<Vec<Shape<'p>>, AllocError>
+    ensures shapes { IfOk result (λ shapes. map shape_tree shapes.items ≡ IntShape ∷ []) }
+{
+    let mut shapes = Vec::new(alloc);
+    append(&mut shapes, Shape::Int)?;
+    Ok(shapes)
+}
+
 /// The shapes of what a function of a name takes; none where there is no such function.
 pub fn call_parameters<'p>(
     alloc: Global,
@@ -39,17 +48,15 @@ pub fn call_parameters<'p>(
 ) -> Result<Vec<Shape<'p>>, AllocError>
     ensures shapes { IfOk result (λ shapes. map shape_tree shapes.items ≡ call_parameters (world_of program.now) name.now) }
 {
-    let mut shapes = Vec::new(alloc);
     if name == b"getchar".as_slice() {
-        return Ok(shapes);
+        return Ok(Vec::new(alloc));
     }
     if name == b"putchar".as_slice() {
-        append(&mut shapes, Shape::Int)?;
-        return Ok(shapes);
+        return int_alone(alloc);
     }
     match program.function_named(name) {
         Some(callee) => part_shapes(alloc, &callee.function.parameters),
-        None => Ok(shapes),
+        None => Ok(Vec::new(alloc)),
     }
 }
 

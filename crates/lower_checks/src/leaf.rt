@@ -47,7 +47,7 @@ pub fn lower_leaf<'p>(
             Shape::Char
         }
         Expression::Text(at, _) => {
-            lower_text(scope, body, *at, to);
+            lower_text(scope.program, body, *at, to);
             Shape::text()
         }
         Expression::Null(_) => {

@@ -29,6 +29,7 @@ mod locals;
 mod made;
 mod mark;
 mod member;
+mod member_places;
 mod names;
 mod numbers;
 mod objects;

@@ -2,7 +2,7 @@
 
 ghost use Rattle.std.specs.Prelude.{◌≡◌, ◌≤◌, ◌-◌, ◌∷◌, [], map};
 ghost use Rattle.cyc_tree.specs.View.{member_tree, suffix_tree, suffixes_of};
-ghost use Rattle.source_meaning.specs.Shapes.{part_of, part_shape, pointee};
+ghost use Rattle.source_meaning.specs.Shapes.{part_of, part_shape, parts_of, pointee};
 ghost use Rattle.source_meaning.specs.Sizes.{cells_before};
 ghost use Rattle.source_meaning.specs.Conversions.{cells_of};
 ghost use Rattle.source_meaning.specs.Places.{struct_parts};
@@ -10,18 +10,15 @@ ghost use Rattle.source_meaning.specs.Programs.{world_of};
 ghost use Rattle.source_meaning.specs.Steps.{World};
 ghost use Rattle.source_lowering.specs.Layouts.{bytes_before, extent_of};
 ghost use Rattle.source_lowering.specs.Lowered.{member_shape, offset_code, reach_code};
-ghost use Rattle.source_lowering.specs.Lowerable.{IsObject, TakesMembers};
 ghost use Rattle.lower_checks.specs.Reaching.{further_code, further_place, indices_in, member_place, place_at_once, reached_place};
 ghost use Rattle.lower_checks.specs.Room.{HasRoom};
-ghost use Rattle.lower_checks.specs.Scoped.{names_in, world_in};
 ghost use Rattle.lower_checks.specs.Views.{shape_tree};
-ghost use Rattle.lower_checks.specs.Within.{AreSmall, AreWithin, IsWithin};
+ghost use Rattle.lower_checks.specs.Within.{AreWithin, IsWithin};
 ghost use Rattle.lower_checks.specs.Writing.{Emits, IsSound};
 
 use crate::body::Body;
 use crate::fat::lower_reach;
 use crate::layouts::rounded;
-use crate::scope::Scope;
 use crate::shape::Shape;
 use crate::sizes::{count, extent};
 use crate::subscript::lower_subscripted;
@@ -83,56 +80,66 @@ fn among<'p>(program: &Table<'p>, members: &'p [Member], name: &[u8]) -> Reached
     }
 }
 
-/// Where a member of a struct of a shape lies from the struct's beginning on.
-#[tactic(auto, using(crate::proofs::Reaching::no_members))]
-fn member<'p>(program: &Table<'p>, shape: &Shape<'_>, name: &[u8]) -> Reached<'p>
-    requires taken { let w = world_of program.now in IsObject w.unions w.structs (member_shape w (shape_tree shape.now) name.now) }
-    ensures shape { shape_tree result.shape ≡ member_shape (world_of program.now) (shape_tree shape.now) name.now }
-    ensures cells { let w = world_of program.now in result.cells ≡ cells_before (cells_of w) (struct_parts w (shape_tree shape.now)) name.now }
-    ensures bytes { let w = world_of program.now in result.bytes ≡ bytes_before (extent_of w) 0 (struct_parts w (shape_tree shape.now)) name.now }
-    ensures small { AreSmall (world_of program.now) }
+/// Where the member of a name of the struct of a tag lies, by a look at one after the other; `void` where there is none.
+#[tactic(auto, using(crate::proofs::Reaching::no_member, crate::proofs::Reaching::none_before, crate::proofs::Reaching::no_bytes_before))]
+fn searched<'p>(program: &Table<'p>, tag: &[u8], name: &[u8]) -> Reached<'p>
+    ensures shape { shape_tree result.shape ≡ part_shape (parts_of (world_of program.now).structs tag.now) name.now }
+    ensures cells { let w = world_of program.now in result.cells ≡ cells_before (cells_of w) (parts_of w.structs tag.now) name.now }
+    ensures bytes { let w = world_of program.now in result.bytes ≡ bytes_before (extent_of w) 0 (parts_of w.structs tag.now) name.now }
 {
-    match shape {
-        Shape::Struct(tag) => match program.struct_of(tag) {
-            Some(known) => among(program, known.members, name),
-            None => unreachable!(),
+    match program.struct_of(tag) {
+        Some(known) => among(program, known.members, name),
+        None => Reached {
+            shape: Shape::Void,
+            cells: 0,
+            bytes: 0,
         },
-        _ => unreachable!(),
     }
 }
 
-/// A member of the struct that is reached.
+/// Where the member of a name of the struct of a tag lies; `void` where there is none.
+fn part<'p>(program: &Table<'p>, tag: &[u8], name: &[u8]) -> Reached<'p>
+    ensures shape { shape_tree result.shape ≡ part_shape (parts_of (world_of program.now).structs tag.now) name.now }
+    ensures cells { let w = world_of program.now in result.cells ≡ cells_before (cells_of w) (parts_of w.structs tag.now) name.now }
+    ensures bytes { let w = world_of program.now in result.bytes ≡ bytes_before (extent_of w) 0 (parts_of w.structs tag.now) name.now }
+{
+    match program.place(tag, name) {
+        Some(place) => place,
+        None => searched(program, tag, name),
+    }
+}
+
+/// Where a member of a struct of a shape lies from the struct's beginning on; `void` where there is none.
+pub fn member<'p>(program: &Table<'p>, shape: &Shape<'_>, name: &[u8]) -> Reached<'p>
+    ensures shape { shape_tree result.shape ≡ member_shape (world_of program.now) (shape_tree shape.now) name.now }
+    ensures cells { let w = world_of program.now in result.cells ≡ cells_before (cells_of w) (struct_parts w (shape_tree shape.now)) name.now }
+    ensures bytes { let w = world_of program.now in result.bytes ≡ bytes_before (extent_of w) 0 (struct_parts w (shape_tree shape.now)) name.now }
+{
+    match shape {
+        Shape::Struct(tag) => part(program, tag, name),
+        _ => Reached {
+            shape: Shape::Void,
+            cells: 0,
+            bytes: 0,
+        },
+    }
+}
+
+/// Goes on to a member of the struct that is reached.
 #[tactic(auto, using(crate::proofs::Reaching::reached_member))]
-fn dot<'p>(program: &Table<'p>, reached: &Reached<'p>, name: &[u8]) -> Reached<'p>
+pub fn dot<'p>(program: &Table<'p>, reached: &Reached<'p>, name: &[u8]) -> Reached<'p>
     requires within { IsWithin (world_of program.now) (reached_place reached.now) }
-    requires taken { let w = world_of program.now in IsObject w.unions w.structs (member_shape w (shape_tree reached.now.shape) name.now) }
     ensures place { reached_place result ≡ member_place (world_of program.now) (reached_place reached.now) name.now }
     ensures within { IsWithin (world_of program.now) (reached_place result) }
 {
+    // each struct takes at most 4,096 bytes
+    program.small();
     let further = member(program, &reached.shape, name);
     Reached {
         shape: further.shape,
         cells: reached.cells + further.cells,
         bytes: reached.bytes + further.bytes,
     }
-}
-
-/// Goes on to a member of the struct that is reached; to any place where the body has failed.
-pub fn lower_dot<'p>(
-    program: &Table<'p>,
-    reached: &Reached<'p>,
-    name: &[u8],
-    body: &Body<'_>,
-) -> Reached<'p>
-    requires within { IsWithin (world_of program.now) (reached_place reached.now) }
-    requires taken { let w = world_of program.now in IsSound body.now → IsObject w.unions w.structs (member_shape w (shape_tree reached.now.shape) name.now) }
-    ensures place { IsSound body.now → reached_place result ≡ member_place (world_of program.now) (reached_place reached.now) name.now }
-    ensures within { IsWithin (world_of program.now) (reached_place result) }
-{
-    if body.failed {
-        return Reached::at_once(Shape::Void);
-    }
-    dot(program, reached, name)
 }
 
 /// Goes on to a member of the struct that a value of a shape, in a temporary, leads to: appends what leaves a pointer to the struct there,
@@ -146,14 +153,13 @@ pub fn lower_arrow<'p>(
     at: Origin,
 ) -> Reached<'p>
     requires room { HasRoom to.0 2 }
-    requires taken { let w = world_of program.now in IsSound body.old → IsObject w.unions w.structs (member_shape w (pointee (shape_tree shape.now)) name.now) }
     ensures code { Emits body.old body.new (reach_code (world_of program.now) (shape_tree shape.now) to.0) }
     ensures place { IsSound body.new →
         reached_place result ≡ member_place (world_of program.now) (place_at_once (pointee (shape_tree shape.now))) name.now }
     ensures within { IsWithin (world_of program.now) (reached_place result) }
 {
     lower_reach(program, shape, body, to, at);
-    lower_dot(program, &Reached::at_once(shape.pointee()), name, body)
+    dot(program, &Reached::at_once(shape.pointee()), name)
 }
 
 /// The temporary of the pointer that a suffix leads to, where what is on its left is in this one: a subscript's is that of its index, the
@@ -169,28 +175,26 @@ pub fn reached_in(suffix: &Suffix, to: Temporary) -> Temporary
 
 /// Goes on along a suffix, whose index is in the temporary right before that of the pointer.
 fn follow_one<'p>(
-    scope: &Scope<'_, 'p>,
+    program: &Table<'p>,
     suffix: &Suffix,
     body: &mut Body<'_>,
     reached: &Reached<'p>,
     pointer: Temporary,
 ) -> Reached<'p>
     requires room { HasRoom pointer.0 2 }
-    requires within { IsWithin (world_in scope.now) (reached_place reached.now) }
-    requires taken { IsSound body.old →
-        TakesMembers (world_in scope.now) (names_in scope.now) (suffixes_of (suffix_tree suffix.now ∷ [])) (shape_tree reached.now.shape) }
+    requires within { IsWithin (world_of program.now) (reached_place reached.now) }
     ensures code { Emits body.old body.new
-        (further_code (world_in scope.now) (suffixes_of (suffix_tree suffix.now ∷ [])) (reached_place reached.now) pointer.0) }
+        (further_code (world_of program.now) (suffixes_of (suffix_tree suffix.now ∷ [])) (reached_place reached.now) pointer.0) }
     ensures place { IsSound body.new →
-        reached_place result ≡ further_place (world_in scope.now) (suffixes_of (suffix_tree suffix.now ∷ [])) (reached_place reached.now) }
-    ensures within { IsWithin (world_in scope.now) (reached_place result) }
+        reached_place result ≡ further_place (world_of program.now) (suffixes_of (suffix_tree suffix.now ∷ [])) (reached_place reached.now) }
+    ensures within { IsWithin (world_of program.now) (reached_place result) }
 {
     match suffix {
-        Suffix::Dot(name) => lower_dot(scope.program, reached, &name.text, body),
+        Suffix::Dot(name) => dot(program, reached, &name.text),
         Suffix::Arrow(name) => {
             lower_loads(body, reached, pointer);
             lower_arrow(
-                scope.program,
+                program,
                 &reached.shape,
                 &name.text,
                 body,
@@ -201,7 +205,7 @@ fn follow_one<'p>(
         Suffix::Index(index) => {
             lower_loads(body, reached, pointer);
             lower_subscripted(
-                scope.program,
+                program,
                 &reached.shape,
                 body,
                 Temporary(pointer.0.saturating_sub(1)),
@@ -214,26 +218,24 @@ fn follow_one<'p>(
 
 /// Goes on along suffixes, whose indices are in the temporaries right before that of the pointer, the last one first.
 pub fn follow<'p>(
-    scope: &Scope<'_, 'p>,
+    program: &Table<'p>,
     suffixes: &[Suffix],
     body: &mut Body<'_>,
     start: Reached<'p>,
     pointer: Temporary,
 ) -> Reached<'p>
     requires room { HasRoom pointer.0 2 }
-    requires within { IsWithin (world_in scope.now) (reached_place start) }
-    requires taken { IsSound body.old →
-        TakesMembers (world_in scope.now) (names_in scope.now) (suffixes_of (map suffix_tree suffixes.now)) (shape_tree start.shape) }
+    requires within { IsWithin (world_of program.now) (reached_place start) }
     ensures code { Emits body.old body.new
-        (further_code (world_in scope.now) (suffixes_of (map suffix_tree suffixes.now)) (reached_place start.entry) pointer.0) }
+        (further_code (world_of program.now) (suffixes_of (map suffix_tree suffixes.now)) (reached_place start.entry) pointer.0) }
     ensures place { IsSound body.new →
-        reached_place result ≡ further_place (world_in scope.now) (suffixes_of (map suffix_tree suffixes.now)) (reached_place start.entry) }
+        reached_place result ≡ further_place (world_of program.now) (suffixes_of (map suffix_tree suffixes.now)) (reached_place start.entry) }
     ensures near { result.bytes ≤ 4096 }
 {
     let mut reached = start;
     let mut to = pointer;
     'each: for suffix in suffixes {
-        reached = follow_one(scope, suffix, body, &reached, to);
+        reached = follow_one(program, suffix, body, &reached, to);
         to = reached_in(suffix, to);
     }
     reached

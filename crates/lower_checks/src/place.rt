@@ -37,7 +37,7 @@ ghost use Rattle.lower_checks.specs.Writing.{IsSound, Writes, next_of};
 use crate::body::Body;
 use crate::expression::lower_expression;
 use crate::fat::lower_reach;
-use crate::member::{Reached, follow, lower_arrow, lower_dot, lower_pointed, reached_in};
+use crate::member::{Reached, dot, follow, lower_arrow, lower_pointed, reached_in};
 use crate::names::behind;
 use crate::scope::Scope;
 use crate::shape::Shape;
@@ -248,7 +248,7 @@ fn lower_first<'p>(
     match first {
         Suffix::Dot(name) => {
             let shape = lower_place(scope, primary, body, to);
-            lower_dot(scope.program, &Reached::at_once(shape), &name.text, body)
+            dot(scope.program, &Reached::at_once(shape), &name.text)
         }
         Suffix::Arrow(name) => {
             let shape = lower_expression(scope, primary, body, to);
@@ -300,5 +300,5 @@ pub fn lower_suffixed<'p>(
     let behind = lower_indices(scope, suffixes, body, to);
     let reached = lower_first(scope, primary, first, body, behind);
     let pointer = reached_in(first, behind);
-    follow(scope, others, body, reached, pointer)
+    follow(scope.program, others, body, reached, pointer)
 }

@@ -1,12 +1,13 @@
 // Globals and programs.
 
 ghost use Rattle.std.specs.Prelude.{◌≡◌, ◌++◌, IfOk, map};
-ghost use Rattle.cyc_tree.specs.View.{global_tree};
+ghost use Rattle.cyc_tree.specs.View.{global_tree, program_tree as source_tree};
 ghost use Rattle.cyc_core.specs.Trees.{datum_tree, function_tree, program_tree};
 ghost use Rattle.source_meaning.specs.Shapes.{written, settled};
 ghost use Rattle.source_meaning.specs.Programs.{world_of, functions_of, global_shape, unions_of};
 ghost use Rattle.source_meaning.specs.Strings.{program_strings};
 ghost use Rattle.source_lowering.specs.Programs.{function_code, global_datum, data_of, program_code, string_datum};
+ghost use Rattle.source_lowering.specs.Lowerable.{AreStrings, AreStructs, AreUnions};
 ghost use Rattle.source_lowering.specs.Lowerable.{HaveFewMembers, IsLowerable, IsObjectType, TakesGlobal, TakesProgram};
 ghost use Rattle.lower_checks.specs.Mains.{HasMain};
 ghost use Rattle.lower_checks.specs.Promise.{IsLoweringOf};
@@ -14,6 +15,7 @@ ghost use Rattle.lower_checks.specs.Roomy.{AreRoomy};
 
 use crate::datum::first_datum;
 use crate::function::lower_function;
+use crate::member_places::all_places;
 use crate::objects::object_layout;
 use crate::stored::Stored;
 use crate::table::{Table, function_number, global_stored};
@@ -102,6 +104,19 @@ fn lower_known(alloc: Global, program: &Table<'_>) -> Result<Program, AllocError
     })
 }
 
+/// The tables of a program, with where members of structs lie. Fails only where no host memory is left.
+fn table_of<'p>(alloc: Global, arena: &'p Bump, items: &'p [Item]) -> Result<Table<'p>, AllocError>
+    requires unions { AreUnions (unions_of (source_tree items.now)) }
+    requires structs { let w = world_of (source_tree items.now) in AreStructs w.unions w.structs }
+    requires strings { AreStrings (program_strings (source_tree items.now)) }
+    ensures program { IfOk result (λ table. table ≡ source_tree items.entry.now) }
+{
+    let mut table = Table::new(alloc, arena, items)?;
+    let places = all_places(alloc, &table)?;
+    table.keep(places);
+    Ok(table)
+}
+
 /// The Core of a program's tree.
 fn lower_tree(alloc: Global, program: &Source) -> Result<Program, AllocError>
     requires room { AreRoomy program.now }
@@ -110,7 +125,7 @@ fn lower_tree(alloc: Global, program: &Source) -> Result<Program, AllocError>
     ensures code { IfOk result (λ core. program_tree core ≡ program_code program.now) }
 {
     let arena = Bump::new(alloc);
-    let table = Table::new(alloc, &arena, program.items())?;
+    let table = table_of(alloc, &arena, program.items())?;
     lower_known(alloc, &table)
 }
 

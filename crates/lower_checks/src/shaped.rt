@@ -1,8 +1,8 @@
 // The shapes of expressions, which are known without a run.
 
 ghost use Rattle.std.specs.Prelude.{◌≡◌, IfOk, map};
-ghost use Rattle.cyc_tree.specs.View.{expression_tree, link_tree, links_of, made_tree, member_tree, name_tree, suffix_tree, suffixes_of};
-ghost use Rattle.source_meaning.specs.Shapes.{FatShape, part_of, part_shape};
+ghost use Rattle.cyc_tree.specs.View.{expression_tree, link_tree, links_of, made_tree, name_tree, suffix_tree, suffixes_of};
+ghost use Rattle.source_meaning.specs.Shapes.{FatShape};
 ghost use Rattle.source_meaning.specs.Calls.{number_type};
 ghost use Rattle.source_meaning.specs.Programs.{world_of, integer_shape};
 ghost use Rattle.source_lowering.specs.Lowered.{call_shape, element_names, linked_shape, makes_struct, member_shape, named_shape, new_shape};
@@ -11,12 +11,13 @@ ghost use Rattle.lower_checks.specs.Scoped.{names_in, world_in};
 ghost use Rattle.source_meaning.specs.Expressions.{is_unique_region};
 ghost use Rattle.lower_checks.specs.Views.{owner_tree, shape_tree};
 
+use crate::member::member;
 use crate::numbers::with_number;
 use crate::operator::operator_shape;
 use crate::scope::Scope;
 use crate::shape::{Owner, Shape};
 use crate::table::Table;
-use cyc_tree::{Expression, Link, Made, Member, Name, Operator, Prefix, Suffix};
+use cyc_tree::{Expression, Link, Made, Name, Operator, Prefix, Suffix};
 use std::alloc::AllocError;
 
 /// Whether an expression is the unique region.
@@ -92,30 +93,11 @@ pub fn named_shape<'p>(scope: &Scope<'_, 'p>, name: &[u8]) -> Shape<'p>
     }
 }
 
-/// The shape of the first member of a name; `void` where there is none.
-fn part_shape<'p>(members: &'p [Member], name: &[u8]) -> Shape<'p>
-    ensures { shape_tree result ≡ part_shape (map part_of (map member_tree members.entry.now)) name.now }
-{
-    'each: for member in members {
-        if member.name.text.as_slice() == name {
-            return Shape::of(&member.of);
-        }
-    }
-    Shape::Void
-}
-
 /// The shape of a member of a struct; `void` where there is none of that name.
-#[tactic(auto, using(crate::proofs::Reaching::no_member))]
 fn member_shape<'p>(program: &Table<'p>, shape: Shape<'_>, name: &[u8]) -> Shape<'p>
     ensures { shape_tree result ≡ member_shape (world_of program.now) (shape_tree shape.entry) name.now }
 {
-    match shape {
-        Shape::Struct(tag) => match program.struct_of(tag) {
-            Some(known) => part_shape(known.members, name),
-            None => Shape::Void,
-        },
-        _ => Shape::Void,
-    }
+    member(program, &shape, name).shape
 }
 
 /// The shape of what suffixes lead to, from that of what is on their left.

@@ -4,6 +4,8 @@ ghost use Rattle.std.specs.Prelude.{◌≡◌, ℕ, suc, List, ◌∷◌, [], If
 ghost use Rattle.cyc_tree.specs.Tree as tree;
 ghost use Rattle.cyc_tree.specs.View.{program_tree, function_tree, global_tree};
 ghost use Rattle.source_meaning.specs.Shapes.{StructShape, UnionShape, part_position, part_shape, part_shapes, parts_of, written, settled};
+ghost use Rattle.source_meaning.specs.Sizes.{cells_before};
+ghost use Rattle.source_meaning.specs.Conversions.{cells_of};
 ghost use Rattle.source_meaning.specs.Places.{bound_to, or_else, string_at};
 ghost use Rattle.source_meaning.specs.Strings.{program_strings};
 ghost use Rattle.tree_walk.specs.Listing.{literal_of};
@@ -11,17 +13,20 @@ ghost use Rattle.source_meaning.specs.Calls.{function_of};
 ghost use Rattle.source_meaning.specs.Programs.{functions_of, routine_of, globals_from, global_shape, structs_from, unions_of, world_of};
 ghost use Rattle.source_lowering.specs.Lowered.{number_of, union_parts};
 ghost use Rattle.source_meaning.specs.Sizes.{union_extent};
+ghost use Rattle.lower_checks.specs.MemberPlaces.{ArePlaces};
 ghost use Rattle.lower_checks.specs.Structs.{IsFound, Knows, room_tree};
 ghost use Rattle.lower_checks.specs.Views.{found_entity, shape_tree, stored_tree, text_value};
 ghost use Rattle.lower_checks.specs.Tables.{first_function, function_in, global_in};
 ghost use Rattle.lower_checks.specs.Unions.{first_union, union_by, union_tree};
 ghost use Rattle.lower_checks.specs.Within.{AreSmall};
 ghost use Rattle.cyc_core.specs.Trees.{layout_tree, part_layout};
-ghost use Rattle.source_lowering.specs.Layouts.{layout_of};
+ghost use Rattle.source_lowering.specs.Layouts.{bytes_before, extent_of, layout_of};
 ghost use Rattle.source_lowering.specs.Lowerable.{AreStrings, AreStructs, AreUnions, AreValues};
 
 use crate::first::Firsts;
 use crate::layouts::{Known, Room, Structs};
+use crate::member::Reached;
+use crate::member_places::MemberPlaces;
 use crate::shape::Shape;
 use crate::stored::Stored;
 use crate::union_members::{Chosen, UnionMembers, all_members};
@@ -54,8 +59,8 @@ pub struct Text {
     pub count: u32,
 }
 
-/// A program, with its functions, globals, structs and members of unions by their names, its strings by their places, and an arena for what
-/// shapes hold beside the text. A contract sees it as the program's tree.
+/// A program, with its functions, globals, structs, members of unions and of structs by their names, its strings by their places, and an arena
+/// for what shapes hold beside the text. A contract sees it as the program's tree.
 #[derive(Drop)]
 pub struct Table<'p> {
     items: &'p [Item],
@@ -64,6 +69,7 @@ pub struct Table<'p> {
     globals: Firsts<'p, Found<'p>>,
     structs: Structs<'p>,
     members: UnionMembers<'p>,
+    places: MemberPlaces<'p>,
     strings: Strings<'p>,
     // how many globals there are, behind which the strings lie
     behind: usize,
@@ -82,7 +88,7 @@ impl<'p> Model for Table<'p> {
 
     ghost view = { λ t. program_tree t.items.now };
 
-    ghost invariant = { λ t. AreTables (program_tree t.items.now) t.functions t.globals t.structs t.members t.strings t.behind };
+    ghost invariant = { λ t. AreTables (program_tree t.items.now) t.functions t.globals t.structs t.members t.places t.strings t.behind };
 }
 
 /// The first function of each name. Fails only where no host memory is left.
@@ -172,7 +178,8 @@ fn all_structs<'p>(alloc: Global, items: &'p [Item]) -> Result<Structs<'p>, Allo
 }
 
 impl<'p> Table<'p> {
-    /// The tables of a program. Fails only where no host memory is left.
+    /// The tables of a program, in which each member of a struct is looked for. Fails only where no host memory is left.
+    #[tactic(auto, using(crate::proofs::MemberPlaces::none_placed))]
     pub fn new(alloc: Global, arena: &'p Bump, items: &'p [Item]) -> Result<Self, AllocError>
         requires unions { AreUnions (unions_of (program_tree items.now)) }
         requires structs { let w = world_of (program_tree items.now) in AreStructs w.unions w.structs }
@@ -192,6 +199,7 @@ impl<'p> Table<'p> {
             globals,
             structs,
             members,
+            places: MemberPlaces::new(alloc),
             strings,
             behind,
         })
@@ -216,6 +224,30 @@ impl<'p> Table<'p> {
         ensures small { AreSmall (world_of self.now) }
     {
         self.structs.of(tag)
+    }
+
+    /// Keeps where members of structs lie.
+    pub fn keep(&mut self, places: MemberPlaces<'p>)
+        requires places { ArePlaces (world_of self.old) places }
+        ensures { self.new ≡ self.old }
+    {
+        self.places = places;
+    }
+
+    /// Where the member of a name of the struct of a tag lies from the struct's beginning on, where that is kept.
+    pub fn place(&self, tag: &[u8], name: &[u8]) -> Option<Reached<'p>>
+        ensures shape { let w = world_of self.now in IfSome result (λ r. shape_tree r.shape ≡ part_shape (parts_of w.structs tag.now) name.now) }
+        ensures cells { let w = world_of self.now in IfSome result (λ r. r.cells ≡ cells_before (cells_of w) (parts_of w.structs tag.now) name.now) }
+        ensures bytes { let w = world_of self.now in IfSome result (λ r. r.bytes ≡ bytes_before (extent_of w) 0 (parts_of w.structs tag.now) name.now) }
+    {
+        self.places.of(tag, name)
+    }
+
+    /// Does nothing: each of the structs takes at most 4,096 bytes.
+    pub fn small(&self)
+        ensures { AreSmall (world_of self.now) }
+    {
+        let _ = &self.structs;
     }
 
     /// The union of a tag.

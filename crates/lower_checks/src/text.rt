@@ -8,24 +8,22 @@ ghost use Rattle.source_meaning.specs.Strings.{program_strings};
 ghost use Rattle.source_lowering.specs.Lowered.{text_code};
 ghost use Rattle.source_lowering.specs.Programs.{string_datum};
 ghost use Rattle.lower_checks.specs.Room.{HasRoom};
-ghost use Rattle.lower_checks.specs.Scoped.{world_in};
 ghost use Rattle.lower_checks.specs.Writing.{Emits};
 
 use crate::body::Body;
 use crate::datum::literal_datum;
 use crate::fat::lower_bounds;
-use crate::scope::Scope;
 use crate::table::Table;
 use crate::vectors::append;
 use cyc_core::{Datum, Operation, Temporary};
 use std::alloc::{AllocError, Global};
 
 /// Appends what leaves a pointer to the string of a place in a temporary, with its count and 0 behind it.
-pub fn lower_text(scope: &Scope<'_, '_>, body: &mut Body<'_>, at: u32, to: Temporary)
+pub fn lower_text(program: &Table<'_>, body: &mut Body<'_>, at: u32, to: Temporary)
     requires room { HasRoom to.0 2 }
-    ensures { Emits body.old body.new (text_code (string_at (world_in scope.now).strings at) to.0) }
+    ensures { Emits body.old body.new (text_code (string_at (world_of program.now).strings at) to.0) }
 {
-    match scope.program.text_at(at) {
+    match program.text_at(at) {
         Some(text) => {
             body.operation(Operation::DataAddress(to, text.object));
             lower_bounds(body, to, text.count);

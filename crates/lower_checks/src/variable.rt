@@ -1,9 +1,11 @@
 // Variables are read and written, and pointers to them are made.
 
-ghost use Rattle.std.specs.Prelude.{◌≡◌};
-ghost use Rattle.source_lowering.specs.Lowered.{address_by, get_code, get_local, load_global, local_named, named_shape};
+ghost use Rattle.std.specs.Prelude.{◌≡◌, None};
+ghost use Rattle.source_lowering.specs.Lowered.{address_by, get_by, get_code, get_local, load_global, local_named, named_shape};
 ghost use Rattle.source_lowering.specs.Lowered.{put_by, put_local, store_global, stored_code, valued};
+ghost use Rattle.source_lowering.specs.Pieces.{shape_by};
 ghost use Rattle.source_meaning.specs.Places.{bound_to};
+ghost use Rattle.source_meaning.specs.Programs.{world_of};
 ghost use Rattle.lower_checks.specs.Room.{HasRoom};
 ghost use Rattle.lower_checks.specs.Scoped.{names_in, world_in};
 ghost use Rattle.lower_checks.specs.Views.{shape_tree, stored_tree};
@@ -16,7 +18,7 @@ use crate::names::{Named, behind};
 use crate::scope::Scope;
 use crate::shape::Shape;
 use crate::stored::Stored;
-use crate::table::Found;
+use crate::table::{Found, Table};
 use crate::words::{lower_loads, lower_stores};
 use cyc_core::{Operation, Temporary, Variable, Width};
 
@@ -63,6 +65,27 @@ fn lower_load_global(body: &mut Body<'_>, global: &Found<'_>, to: Temporary)
     }
 }
 
+/// Appends what reads the global of a name into a temporary and those behind it; gives the shape of its value, which is `void` where there
+/// is none of that name.
+fn lower_get_global<'p>(
+    program: &Table<'p>,
+    body: &mut Body<'_>,
+    name: &[u8],
+    to: Temporary,
+) -> Shape<'p>
+    requires room { HasRoom to.0 2 }
+    ensures code { Emits body.old body.new (get_by None (bound_to (world_of program.now).globals name.now) to.0) }
+    ensures shape { shape_tree result ≡ valued (shape_by None (bound_to (world_of program.now).globals name.now)) }
+{
+    match program.global_named(name) {
+        Some(global) => {
+            lower_load_global(body, &global, to);
+            global.stored.value()
+        }
+        None => Shape::Void,
+    }
+}
+
 /// Appends what reads the variable of a name into a temporary and those behind it; gives the shape of its value, which is `void` where
 /// there is none of that name.
 pub fn lower_get<'p>(
@@ -75,15 +98,13 @@ pub fn lower_get<'p>(
     ensures code { Emits body.old body.new (get_code (world_in scope.now) (names_in scope.now) name.now to.0) }
     ensures shape { shape_tree result ≡ valued (named_shape (world_in scope.now) (names_in scope.now) name.now) }
 {
-    if let Some(local) = scope.named(name) {
-        lower_get_local(body, &local, to);
-        return local.stored.value();
+    match scope.named(name) {
+        Some(local) => {
+            lower_get_local(body, &local, to);
+            local.stored.value()
+        }
+        None => lower_get_global(scope.program, body, name, to),
     }
-    let Some(global) = scope.program.global_named(name) else {
-        return Shape::Void;
-    };
-    lower_load_global(body, &global, to);
-    global.stored.value()
 }
 
 /// Appends what stores the value in a temporary and those behind it in a local of a shape: a word by one operation, and a fat pointer
@@ -143,15 +164,44 @@ fn lower_store_global(body: &mut Body<'_>, global: &Found<'_>, from: Temporary)
     }
 }
 
+/// Appends what stores the value in a temporary and those behind it in the global of a name.
+fn lower_put_global(program: &Table<'_>, body: &mut Body<'_>, name: &[u8], from: Temporary)
+    requires room { HasRoom from.0 3 }
+    ensures { Emits body.old body.new (put_by None (bound_to (world_of program.now).globals name.now) from.0) }
+{
+    if let Some(global) = program.global_named(name) {
+        lower_store_global(body, &global, from);
+    }
+}
+
 /// Appends what stores the value in a temporary and those behind it in the variable of a name.
 pub fn lower_named(scope: &Scope<'_, '_>, body: &mut Body<'_>, name: &[u8], from: Temporary)
     requires room { HasRoom from.0 3 }
     ensures { Emits body.old body.new (put_by (local_named (names_in scope.now) name.now) (bound_to (world_in scope.now).globals name.now) from.0) }
 {
-    if let Some(local) = scope.named(name) {
-        lower_put_local(body, &local.stored, place_of(&local), from);
-    } else if let Some(global) = scope.program.global_named(name) {
-        lower_store_global(body, &global, from);
+    match scope.named(name) {
+        Some(local) => lower_put_local(body, &local.stored, place_of(&local), from),
+        None => lower_put_global(scope.program, body, name, from),
+    }
+}
+
+/// Appends what leaves a pointer to the global of a name in a temporary; gives the shape of its value, which is `void` where there is none
+/// of that name.
+fn lower_global_address<'p>(
+    program: &Table<'p>,
+    body: &mut Body<'_>,
+    name: &[u8],
+    to: Temporary,
+) -> Shape<'p>
+    ensures code { Emits body.old body.new (address_by None (bound_to (world_of program.now).globals name.now) to.0) }
+    ensures shape { shape_tree result ≡ valued (shape_by None (bound_to (world_of program.now).globals name.now)) }
+{
+    match program.global_named(name) {
+        Some(global) => {
+            body.operation(Operation::DataAddress(to, global.object));
+            global.stored.value()
+        }
+        None => Shape::Void,
     }
 }
 
@@ -166,13 +216,11 @@ pub fn lower_address<'p>(
     ensures code { Emits body.old body.new (address_by (local_named (names_in scope.now) name.now) (bound_to (world_in scope.now).globals name.now) to.0) }
     ensures shape { shape_tree result ≡ valued (named_shape (world_in scope.now) (names_in scope.now) name.now) }
 {
-    if let Some(local) = scope.named(name) {
-        body.operation(Operation::LocalAddress(to, place_of(&local)));
-        return local.stored.value();
+    match scope.named(name) {
+        Some(local) => {
+            body.operation(Operation::LocalAddress(to, place_of(&local)));
+            local.stored.value()
+        }
+        None => lower_global_address(scope.program, body, name, to),
     }
-    let Some(global) = scope.program.global_named(name) else {
-        return Shape::Void;
-    };
-    body.operation(Operation::DataAddress(to, global.object));
-    global.stored.value()
 }

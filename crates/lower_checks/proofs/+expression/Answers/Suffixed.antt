@@ -4,7 +4,7 @@ use Rattle.cyc_tree.proofs.Forms.{suffixed_tree}
 use Rattle.cyc_tree.specs.View.{expression_tree, suffix_tree, suffixes_of}
 use Rattle.cyc_tree.specs.Tree.{Suffixes}
 use Rattle.cyc_tree.specs.declared.expression.Expression.TheFolds.{the_lemmas}
-use Rattle.source_lowering.specs.Lowerable.{Takes, TakesIndices, TakesMembers, TakesPlace, TakesSuffixes}
+use Rattle.source_lowering.specs.Lowerable.{Takes, TakesIndices, TakesPlace, TakesSuffixes}
 use Rattle.source_lowering.proofs.expressions.Indices.{indices_taken}
 use Rattle.source_lowering.specs.Lowered.{expression_code, place_code, static_shape, suffix_values}
 use Rattle.cyc_tree.specs.Room.{room, suffix_room}
@@ -115,8 +115,8 @@ place::lower_suffixed-lower_first-reached-requires t c =
     (ap expression_tree c.in-Suffixed.is ∙ suffixed_tree c.in-Suffixed.primary c.in-Suffixed.suffixes) (ap expression_tree c.deref-3.ensures) here in
     let taken : IsSound c.lower_indices-behind.new.body
     → TakesSuffixes w names (suffixes_of (one ∷ [])) (static_shape w names a) (Takes w names a) (TakesPlace w names a) = λ sound.
-    (suffixes_one w names one rest (static_shape w names a) (Takes w names a) (TakesPlace w names a)
-    (subst (TakesSuffixed w names) place_is (c.requires.taken (c.lower_indices-behind.ensures.writes sound).sound))).0 in
+    suffixes_one w names one rest (static_shape w names a) (Takes w names a) (TakesPlace w names a)
+    (subst (TakesSuffixed w names) place_is (c.requires.taken (c.lower_indices-behind.ensures.writes sound).sound)) in
     let behind_is : c.lower_indices-behind.result.0 ≡ c.args.to.0 + indices_in (suffixes_of (one ∷ rest)) =
     c.lower_indices-behind.ensures.behind
     ∙ ap (λ x. c.args.to.0 + indices_in x) (ap (λ ss. suffixes_of (map suffix_tree ss)) c.deref-2.ensures.value ∙ sym here) in
@@ -142,22 +142,6 @@ place::lower_suffixed-follow-requires t c = record {
       ∙ ap (λ x. c.args.to.0 + indices_in x) (ap (λ ss. suffixes_of (map suffix_tree ss)) c.deref-2.ensures.value ∙ sym here) in
       let place_room : room e ≡ 16 + (room a + suffix_room (suffixes_of (one ∷ rest))) = ap room place_is in
       omega (arith, c.requires.room, behind_is, place_room, indices_within (suffixes_of (one ∷ rest)), c.reached_in-pointer.ensures);
-  taken = λ sound.
-      let w = world_in c.args.scope.now in
-      let names = names_in c.args.scope.now in
-      let e = expression_tree c.args.place.now in
-      let a = expression_tree c.deref-3.result.now in
-      let one = suffix_tree c.in-Some.first.now in
-      let rest = map suffix_tree c.in-Some.others.now in
-      let items = suffixes_of (map suffix_tree c.in-Suffixed.suffixes.items) in
-      let here = ap (λ ss. suffixes_of (map suffix_tree ss)) (sym c.in-Some.ensures.cases.0 ∙ c.deref.ensures.value) in
-      let place_is = suffixed_is w names c.args.to.0 (next_of c.args.body.now) e (expression_tree c.in-Suffixed.primary.value) a items
-      (suffixes_of (one ∷ rest))
-      (ap expression_tree c.in-Suffixed.is ∙ suffixed_tree c.in-Suffixed.primary c.in-Suffixed.suffixes) (ap expression_tree c.deref-3.ensures) here in
-      let first = c.lower_first-reached.ensures.writes sound in
-      let takes = subst (TakesSuffixed w names) place_is (c.requires.taken (c.lower_indices-behind.ensures.writes first.sound).sound) in
-      subst (λ (x : Place). TakesMembers w names (suffixes_of rest) x.shape) (sym (c.lower_first-reached.ensures.place sound))
-      (suffixes_one w names one rest (static_shape w names a) (Takes w names a) (TakesPlace w names a) takes).1;
   within = c.lower_first-reached.ensures.within;
 }
 

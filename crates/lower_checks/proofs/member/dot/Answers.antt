@@ -11,13 +11,13 @@ use Rattle.lower_checks.proofs.member.dot.Goals as goal
 pub overflow_add-result : goal.overflow_add-result
 overflow_add-result c =
     let w = world_of c.args.program.now in
-    let member = member_within w c.args.reached.now c.args.name.now c.member-further.ensures.small c.requires.within in
+    let member = member_within w c.args.reached.now c.args.name.now c.small.ensures c.requires.within in
     omega (arith, member.few, c.member-further.ensures.cells)
 
 pub overflow_add-result-2 : goal.overflow_add-result-2
 overflow_add-result-2 c =
     let w = world_of c.args.program.now in
-    let member = member_within w c.args.reached.now c.args.name.now c.member-further.ensures.small c.requires.within in
+    let member = member_within w c.args.reached.now c.args.name.now c.small.ensures c.requires.within in
     omega (arith, member.near, c.member-further.ensures.bytes)
 
 pub returns-clause-within : goal.returns-clause-within
@@ -30,4 +30,4 @@ returns-clause-within c =
     let place_is : reached_place further ≡ member_place w (reached_place from) name =
     reached_member w from further name c.member-further.ensures.shape (ap (λ (n : ℕ). from.cells + n) c.member-further.ensures.cells)
     (ap (λ (n : ℕ). from.bytes + n) c.member-further.ensures.bytes) in
-    subst (λ (p : Place). IsWithin w p) (sym place_is) (member_within w from name c.member-further.ensures.small c.requires.within)
+    subst (λ (p : Place). IsWithin w p) (sym place_is) (member_within w from name c.small.ensures c.requires.within)

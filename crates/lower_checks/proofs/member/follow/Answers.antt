@@ -1,12 +1,11 @@
 use Rattle.std.proofs.Common.{◌≡◌, ◌∙◌, ◌+◌, ◌-◌, ℕ, arith, sym, ap, subst, List, [], ◌∷◌, map, drop}
 use Rattle.core_meaning.specs.Core.{Statement}
 use Rattle.cyc_tree.specs.View.{suffix_tree, suffixes_of}
-use Rattle.source_lowering.specs.Lowerable.{TakesMembers}
+use Rattle.source_meaning.specs.Programs.{world_of}
 use Rattle.lower_checks.specs.Reaching.{Place, further_code, further_place, indices_in, reached_place}
-use Rattle.lower_checks.specs.Scoped.{names_in, world_in}
 use Rattle.lower_checks.specs.Writing.{IsEmitting}
 use Rattle.lower_checks.proofs.Remaining.{left_suffixes}
-use Rattle.lower_checks.proofs.Suffixes.{further_one, members_one, place_one}
+use Rattle.lower_checks.proofs.Suffixes.{further_one, place_one}
 use Rattle.lower_checks.proofs.Writing.{emitting_more}
 use Rattle.lower_checks.proofs.member.follow.Goals as goal
 
@@ -14,15 +13,6 @@ pub follow_one-reached-requires : goal.follow_one-reached-requires
 follow_one-reached-requires c = record {
   room = c.each.invariant.room;
   within = c.each.invariant.within;
-  taken = λ sound.
-      let w = world_in c.args.scope.now in
-      let names = names_in c.args.scope.now in
-      let k = c.each.suffix-index in
-      let one = suffix_tree c.suffix-item.result in
-      let rest = map suffix_tree (drop (k + 1) c.args.suffixes.now) in
-      let here = left_suffixes c.args.suffixes.now k c.suffix-item.result c.each-test.true c.suffix-item.is in
-      let p = reached_place c.each.reached in
-      (members_one w names one rest p (subst (λ x. TakesMembers w names x p.shape) here (c.each.invariant.way sound).taken)).0;
 }
 
 pub each-preserved : goal.each-preserved
@@ -30,8 +20,7 @@ each-preserved c = record {
   room = omega (arith, c.reached_in-to.ensures, c.each.invariant.room);
   within = c.follow_one-reached.ensures.within;
   way = λ sound.
-      let w = world_in c.args.scope.now in
-      let names = names_in c.args.scope.now in
+      let w = world_of c.args.program.now in
       let a = c.args.body.now in
       let b = c.each.body in
       let z = c.follow_one-reached.new.body in
@@ -56,7 +45,5 @@ each-preserved c = record {
       record {
         code = subst (λ x. IsEmitting a z all (others x u)) (sym next_is) (subst (λ x. IsEmitting a z all (others q x)) (sym u_is) more);
         place = ap (further_place w (suffixes_of rest)) next_is ∙ sym (place_one w one rest p) ∙ ap (λ x. further_place w x p) (sym here) ∙ invariant.place;
-        taken = subst (λ (x : Place). TakesMembers w names (suffixes_of rest) x.shape) (sym next_is)
-            (members_one w names one rest p (subst (λ x. TakesMembers w names x p.shape) here invariant.taken)).1;
       };
 }

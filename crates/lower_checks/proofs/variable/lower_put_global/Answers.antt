@@ -1,0 +1,14 @@
+use Rattle.std.proofs.Common.{◌≡◌, sym, ap, Option, None}
+use Rattle.source_meaning.specs.Places.{bound_to}
+use Rattle.source_meaning.specs.Programs.{world_of}
+use Rattle.source_meaning.specs.Steps.{Entity}
+use Rattle.source_lowering.specs.Lowered.{put_by}
+use Rattle.lower_checks.proofs.Nothing.{emitted_none}
+use Rattle.lower_checks.proofs.variable.lower_put_global.Goals as goal
+
+-- there is nothing of that name
+pub returns-in_default : goal.returns-in_default
+returns-in_default c sound =
+    let global = bound_to (world_of c.args.program.now).globals c.args.name.now in
+    emitted_none c.args.body.now (put_by None global c.args.from.0) sound
+    (ap (λ (g : Option Entity). put_by None g c.args.from.0) (sym c.in_default.ensures.named))

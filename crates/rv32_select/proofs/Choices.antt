@@ -1,9 +1,12 @@
 -- The ways of a choice, from behind it: its second statements, which begin behind the first, and then the first.
-use Rattle.std.proofs.Common.{◌≡◌, ◌∙◌, ◌++◌, Bool, List, true, ap, reverse, sym}
-use Rattle.std.proofs.lemmas.List.{append_assoc, reverse-append}
-use Rattle.core_meaning.specs.Core.{Statements}
+use Rattle.std.proofs.Common.{◌≡◌, ◌∙◌, [], ◌∷◌, ◌++◌, Bool, List, zero, suc, true, ap, arith, length, refl, reverse, sym}
+use Rattle.std.proofs.lemmas.List.{append_assoc, append-nil, reverse-append}
+use Rattle.core_meaning.specs.Core.{Statements, NoStatements}
+use Rattle.cyc_core.specs.declared.statement.Statement as code
+use Rattle.cyc_core.specs.Trees.{body_tree}
+use Rattle.core_lines.specs.Held.{raises_only}
 use Rattle.core_lines.specs.Loaded.{loads_of}
-use Rattle.core_lines.specs.Saved.{all_flagged, either_flagged, live_of, saves_of}
+use Rattle.core_lines.specs.Saved.{all_flagged, either_flagged, either_way, live_of, saves_of}
 use Rattle.core_lines.specs.Selected.{Surroundings, holding, names_after_all, naming}
 
 module _ (u first second : Surroundings) (these those : Statements) (kept out loop : List Bool)
@@ -49,3 +52,27 @@ module _ (u first second : Surroundings) (these those : Statements) (kept out lo
   check_live left new left_is new_is =
       let left_at = first_live left left_is in
       new_is ∙ (λ i. all_flagged true (loads_of ((at_second i).homes) ((at_second i).statics) ((at_second i).names) ((at_second i).held) those) (left_at i))
+
+-- where there is no second way
+module _ (u : Surroundings) (these : Statements) (those : List code.Statement) (kept out loop : List Bool) (none : length those ≡ 0) where
+  none_is : (ss : List code.Statement) → length ss ≡ 0 → body_tree ss ≡ NoStatements
+  none_is [] e = refl
+  none_is (s ∷ ss) e = absurd (omega (arith, e))
+
+  pub no_second_saves : saves_of u.homes u.statics u.names u.held kept out loop these
+      ≡ saves_of u.homes u.statics u.names u.held kept out loop these
+      ++ saves_of u.homes u.statics (names_after_all these u.names) u.held kept out loop (body_tree those)
+  no_second_saves =
+      let one = saves_of u.homes u.statics u.names u.held kept out loop these in
+      sym (append-nil one)
+      ∙ ap (λ ss. one ++ saves_of u.homes u.statics (names_after_all these u.names) u.held kept out loop ss) (sym (none_is those none))
+
+  pub no_second_live : either_flagged (live_of u.homes u.statics u.names u.held kept out loop these) kept
+      ≡ either_way (raises_only (body_tree those)) (loads_of u.homes u.statics (names_after_all these u.names) u.held (body_tree those))
+      (live_of u.homes u.statics u.names u.held kept out loop these)
+      (live_of u.homes u.statics (names_after_all these u.names) u.held kept out loop (body_tree those))
+  no_second_live =
+      let one = live_of u.homes u.statics u.names u.held kept out loop these in
+      let behind = names_after_all these u.names in
+      ap (λ ss. either_way (raises_only ss) (loads_of u.homes u.statics behind u.held ss) one (live_of u.homes u.statics behind u.held kept out loop ss))
+      (sym (none_is those none))

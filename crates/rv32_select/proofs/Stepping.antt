@@ -4,7 +4,7 @@ use Rattle.std.proofs.Common.{◌≡◌, ℕ, zero, suc, ◌+◌, ◌≤◌, Boo
 use Rattle.std.proofs.Math.Seq.{take-append_seam}
 use Rattle.std.proofs.lemmas.Bool.{ne_eqb}
 use Rattle.std.proofs.lemmas.List.{append_assoc, append-nil, drop-drop}
-use Rattle.core_meaning.specs.Core.{Statement, Statements, If, While, MoreStatements}
+use Rattle.core_meaning.specs.Core.{Statement, Statements, If, While, NoStatements, MoreStatements}
 use Rattle.core_lines.specs.declared.line.Line.{Line}
 use Rattle.core_lines.specs.Held.{held_behind, held_behind_all}
 use Rattle.core_lines.specs.Completing.{can_complete}
@@ -38,6 +38,12 @@ straight_first zero keeps u s old straight put new code e p n = n ∙ p ∙ ap (
 straight_first (suc h) keeps u s old straight put new code e p n =
     n ∙ ap (λ none. if none then put else take (length straight) put) (is_home (suc h) (omega arith)) ∙ ap (take (length straight)) p
     ∙ take-append_seam straight code ∙ e
+
+-- where all of them begin, if the last one begins here
+pub starts_end : (homes : List (List ℕ)) (statics : List ℕ) (before : Surroundings) (s : Statement) (all : Statements) (old new : List Start)
+    → all ≡ MoreStatements s NoStatements → new ≡ old ++ start_at before ∷ []
+    → new ≡ old ++ starts_of homes statics before.names before.held all
+starts_end homes statics before s all old new is e = e ∙ ap (λ more. old ++ starts_of homes statics before.names before.held more) (sym is)
 
 -- the place at the start of statements, before one of them, and behind it
 module _ (start before behind : Surroundings) (s : Statement) (ss all : Statements)

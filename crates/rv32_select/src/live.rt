@@ -172,6 +172,9 @@ fn live_ways(
 {
     if raises_only(those) {
         live_raising(saves, place, live, exits, these, those)?;
+    } else if those.is_empty() {
+        let first = live_before(saves, place, live, exits, these)?;
+        *live = first.either(live)?;
     } else {
         live_both(saves, place, live, exits, these, those)?;
     }

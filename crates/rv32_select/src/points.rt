@@ -25,7 +25,7 @@ pub fn point_behind(place: &mut Place, statements: &[Statement]) -> Result<Point
     Ok(Point { named, held })
 }
 
-/// Where each of these statements begins, the first of them where the place is.
+/// Where each of these statements begins, the first of them where the place is. What is in the last one isn't gone over.
 pub fn points_of(place: &mut Place, statements: &[Statement]) -> Result<Vec<Point>, AllocError>
     ensures points { let u = surroundings place.old in IfOk result (λ points. map (point_start place.old.homes.items) points.items
         ≡ starts_of u.homes u.statics u.names u.held (body_tree statements.now)) }
@@ -37,6 +37,9 @@ pub fn points_of(place: &mut Place, statements: &[Statement]) -> Result<Vec<Poin
     'each: for statement in statements {
         let point = place.point()?;
         points.push(point)?;
+        if points.len() == statements.len() {
+            return Ok(points);
+        }
         flag_statement(&mut none, place, statement)?;
     }
     Ok(points)

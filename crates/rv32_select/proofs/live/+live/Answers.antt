@@ -1,9 +1,10 @@
 use Rattle.std.proofs.Common.{◌≡◌, ◌∙◌, ◌+◌, ◌<◌, ◌++◌, [], ◌∷◌, ap, arith}
 use Rattle.std.proofs.Common.{get_or, length, map, reverse, take, sym, refl}
+use Rattle.std.proofs.lemmas.Bool.{eqb-true}
 use Rattle.std.proofs.lemmas.List.{length-map, map-append, length_push, take_all, take_more}
 use Rattle.cyc_core.specs.Trees.{local_tree, body_tree}
 use Rattle.core_lines.specs.Held.{held_behind_all}
-use Rattle.core_lines.specs.Saved.{live_of, saves_of}
+use Rattle.core_lines.specs.Saved.{either_flagged, live_of, saves_of}
 use Rattle.core_lines.specs.Selected.{Surroundings, holding, names_after_all, naming}
 use Rattle.rv32_select.specs.Places.{surroundings}
 use Rattle.rv32_select.specs.Starts.{Start, point_start, starting, starts_of}
@@ -11,7 +12,7 @@ use Rattle.rv32_select.proofs.Sizes.{statements_size}
 use Rattle.rv32_select.proofs.Backwards.{ends_alike, size_last, last_start, starts_last, starts_many, as_same, same_back, same_there, live_back, saves_back}
 use Rattle.rv32_select.proofs.Halves.{halves_less, halves_live, halves_saves}
 use Rattle.rv32_select.proofs.Raised.{check_saves}
-use Rattle.rv32_select.proofs.Choices.{first_saves, both_saves, both_live, check_live}
+use Rattle.rv32_select.proofs.Choices.{first_saves, both_saves, both_live, check_live, no_second_live, no_second_saves}
 use Rattle.rv32_select.proofs.live.+live.Goals as goal
 
 pub live_few-each-init : goal.live_few-each-init
@@ -183,6 +184,23 @@ live_ways-returns-in_ok-live_raising-clause-saves t c =
     c.in_ok-live_raising.ensures.saves
     ∙ ap (λ bs. a.saves.now.items ++ reverse bs) (check_saves u.homes u.statics u.held a.live.now a.exits.out.now a.exits.again.now u.names
     (names_after_all these u.names) these (body_tree a.those.now) only)
+
+-- without a second way, what is loaded behind the choice is loaded where its test is false
+pub live_ways-returns-in_ok-live : goal.live_ways-returns-in_ok-live
+live_ways-returns-in_ok-live t c =
+    let a = c.args in
+    let u = surroundings a.place.now in
+    let these = body_tree a.these.now in
+    let none = eqb-true (length a.those.now) 0 (sym c.is_empty.ensures ∙ c.if-is_empty.true) in
+    let first = c.in_ok-first.ensures in
+    record {
+      saves = first.saves
+          ∙ ap (λ bs. a.saves.now.items ++ reverse bs) (no_second_saves u these a.those.now a.live.now a.exits.out.now a.exits.again.now none);
+      live = c.in_ok-live.ensures ∙ ap (λ bs. either_flagged bs a.live.now) first.live
+          ∙ no_second_live u these a.those.now a.live.now a.exits.out.now a.exits.again.now none;
+      same = first.same;
+      homes = first.homes;
+    }
 
 pub live_halves-live_statements-requires : goal.live_halves-live_statements-requires
 live_halves-live_statements-requires n c =

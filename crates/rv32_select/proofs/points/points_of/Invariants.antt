@@ -1,4 +1,4 @@
-use Rattle.std.proofs.Common.{◌≡◌, ◌++◌, drop, map}
+use Rattle.std.proofs.Common.{◌≡◌, ◌++◌, drop, length, map}
 use Rattle.cyc_core.specs.Trees.{body_tree}
 use Rattle.core_lines.specs.Selected.{holding, naming}
 use Rattle.rv32_select.specs.Places.{surroundings}
@@ -14,4 +14,5 @@ invariant-each l = record {
       (surroundings l.initial.place).held (body_tree l.statements);
   same : surroundings l.place ≡ holding (surroundings l.place).held (naming (surroundings l.place).names (surroundings l.initial.place));
   homes : l.place.homes.items ≡ l.initial.place.homes.items;
+  many : length l.points.items ≡ l.statement-index;
 }

@@ -1,5 +1,7 @@
 mod Lists
 mod RegionsListed
+mod Lent
+mod WordCells
 mod Parts
 mod Elements
 mod Unmade

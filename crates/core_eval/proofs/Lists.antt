@@ -83,12 +83,12 @@ module _ {A : Type 0} where
 
 -- ---- blocks, as the code has them
 
-get_block : (bs : List Block) (k : ℕ) (b : Block) → k < length bs → b ≡ slice_index_or bs k b → slice_get (map activation_of bs) k ≡ Some (activation_of b)
+pub get_block : (bs : List Block) (k : ℕ) (b : Block) → k < length bs → b ≡ slice_index_or bs k b → slice_get (map activation_of bs) k ≡ Some (activation_of b)
 get_block [] k b h e = absurd (omega (arith, h))
 get_block (c ∷ bs) zero b h e = ap (λ c. Some (activation_of c)) (sym e)
 get_block (c ∷ bs) (suc k) b h e = get_block bs k b (omega (arith, h)) e
 
-no_block : (bs : List Block) (k : ℕ) → length bs ≤ k → slice_get (map activation_of bs) k ≡ None
+pub no_block : (bs : List Block) (k : ℕ) → length bs ≤ k → slice_get (map activation_of bs) k ≡ None
 no_block [] k h = refl
 no_block (c ∷ bs) zero h = absurd (omega (arith, h))
 no_block (c ∷ bs) (suc k) h = no_block bs k (omega (arith, h))

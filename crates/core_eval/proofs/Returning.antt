@@ -12,9 +12,9 @@ use Rattle.core_eval.specs.declared.pending.Due.{Due}
 use Rattle.core_eval.specs.declared.pending.Flow as code
 use Rattle.core_eval.specs.declared.pending.Flow.TheVariants as flow
 use Rattle.core_eval.specs.Values.{temp_of}
-use Rattle.core_eval.specs.Pendings.{Task, Execute, Leave, Wait, Caller, Go, exit_of, next_of, rest_of, saved_of}
+use Rattle.core_eval.specs.Pendings.{Task, Execute, Leave, Wait, Go, exit_of, next_of, rest_of}
 use Rattle.core_eval.specs.Standing.{Known, LeavesCall, known_of}
-use Rattle.core_eval.specs.Costs.{EndsWithin, IsCaller, IsMove}
+use Rattle.core_eval.specs.Costs.{EndsWithin, IsMove}
 use Rattle.core_eval.proofs.EnterMoves.{same_state}
 use Rattle.core_eval.proofs.Follows.{Reaches, reached, reaches_on, reaches_move}
 use Rattle.core_eval.proofs.LeaveMoves.{IsNoReturn}
@@ -57,14 +57,13 @@ module _ {task : Task} {ws : List Wait} {known : Known} {vs : List Content} {wai
       (ends vs rest f))
 
   -- its caller
-  pub gone_on : {E : Type 0} (a : Result Due E) (results : List ℕ) (saved f' : Frame) (before after : Memory) → IsCaller w results (saved_of saved) → before ≡ m
-      → LeavesCall before after
-      → IfOk a (λ due. (n : ℕ) (ws : List Wait) (memory after : Memory) → LeavesCall memory after
-      → IsMove (Leave (steps.Returns vs)) (Caller results n (saved_of saved) ∷ ws) (known_of f memory) (next_of due) ws (known_of f' after))
+  pub gone_on : {E : Type 0} (a : Result Due E) (caller : Wait) (f' : Frame) (before after : Memory) → w ≡ caller → before ≡ m → LeavesCall before after
+      → IfOk a (λ due. (ws : List Wait) (memory after : Memory) → LeavesCall memory after
+      → IsMove (Leave (steps.Returns vs)) (caller ∷ ws) (known_of f memory) (next_of due) ws (known_of f' after))
       → IfOk a (λ due. IsMove task ws known (next_of due) rest (known_of f' after))
-  gone_on (Ok due) results saved f' before after caller same left goes =
+  gone_on (Ok due) caller f' before after waits_so same left goes =
       reaches_move r (next_of due) rest (known_of f' after)
       (subst (λ (l : List Wait). IsMove (Leave (steps.Returns vs)) l (known_of f m) (next_of due) rest (known_of f' after))
-      (sym (is ∙ ap (λ v. v ∷ rest) caller.is))
-      (goes caller.function rest m after (subst (λ (x : Memory). LeavesCall x after) same left)))
-  gone_on (Err e) results saved f' before after caller same left goes = tt
+      (sym (is ∙ ap (λ v. v ∷ rest) waits_so))
+      (goes rest m after (subst (λ (x : Memory). LeavesCall x after) same left)))
+  gone_on (Err e) caller f' before after waits_so same left goes = tt

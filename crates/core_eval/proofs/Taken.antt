@@ -1,5 +1,5 @@
 -- From what the code that goes on answers to a move.
-use Rattle.std.proofs.Common.{◌≡◌, ℕ, true, false, List, [], ◌∷◌, map, drop, Result, Ok, Err, IfOk, refl, ap, ◌∙◌, sym, subst}
+use Rattle.std.proofs.Common.{◌≡◌, ℕ, true, false, List, [], ◌∷◌, map, drop, Result, Ok, Err, IfOk, refl, ap, sym, subst}
 use Rattle.core_meaning.specs.Memory.{Content}
 use Rattle.core_meaning.specs.Steps as steps
 use Rattle.core_meaning.specs.Steps.{Exit}
@@ -11,7 +11,7 @@ use Rattle.core_eval.specs.Elements.{cells_of}
 use Rattle.core_eval.specs.Regions.{regions_of}
 use Rattle.core_eval.specs.LongBlocks.{long_block_of}
 use Rattle.core_eval.specs.Blocks.{activation_of}
-use Rattle.core_eval.specs.Pendings.{Task, Leave, Wait, Block, Caller, Next, Go, Wrong, next_of, saved_of}
+use Rattle.core_eval.specs.Pendings.{Task, Leave, Wait, Block, Caller, Saved, Next, Go, Wrong, next_of}
 use Rattle.core_eval.specs.Standing.{Known, Takes, LeavesCall, are_as_many, known_of}
 use Rattle.core_eval.specs.Costs.{IsMove}
 use Rattle.core_eval.proofs.Known.{known_same}
@@ -30,11 +30,11 @@ pub left_ok : {E : Type 0} (r : Result Due E) (exit : Exit) (ws ws' : List Wait)
 left_ok r exit ws ws' known rest known' same h =
     subst (λ (l : List Wait). IfOk r (λ due. IsMove (Leave exit) l known (next_of due) rest known')) (sym same) h
 
--- what is known where the innermost function is left
-pub left_known : (f g : Frame) (m m' : Memory) → LeavesCall m m'
-    → known_of g m' ≡ record (known_of f m) { temps = g.temps.items; base = g.base; owns = drop 1 (map activation_of m.owns.items) }
-left_known f g m m' h =
-    known_same (known_of g m') _ refl refl (ap (λ bs. map activation_of bs.items) h.blocks) h.entered h.owns h.called
+-- what is known where the innermost function is left, and its caller goes on
+pub left_known : (f g : Frame) (m m' : Memory) (temps : List Value) (base : ℕ) → g.temps.items ≡ temps → g.base ≡ base → LeavesCall m m'
+    → known_of g m' ≡ record (known_of f m) { temps = temps; base = base; owns = drop 1 (map activation_of m.owns.items) }
+left_known f g m m' temps base holds outside h =
+    known_same (known_of g m') _ holds outside (ap (λ bs. map activation_of bs.items) h.blocks) h.entered h.owns h.called
     (ap (λ gs. map cells_of gs.items) h.globals) (ap regions_of h.regions) (ap (λ bs. map long_block_of bs.items) h.long_blocks)
 
 -- how it is left, and what waited, said in another way, with what is known then
@@ -54,28 +54,23 @@ block_left exit ws f m m' blocks entered owns called globals regions long_blocks
     (ap (λ gs. map cells_of gs.items) globals) (ap regions_of regions) (ap (λ bs. map long_block_of bs.items) long_blocks)))
     (block_leaves exit ws (known_of f m))
 
-module _ (exit : Exit) (results : List ℕ) (n : ℕ) (vs : List Content) (saved f f' : Frame) (ws : List Wait) (m m' : Memory) (left : LeavesCall m m')
-    (is : exit ≡ steps.Returns vs) (base : f'.base ≡ saved.base) where
-  abbrev back_known : List Value → ℕ → Known
-  back_known temps b = record (known_of f m) { temps = temps; base = b; owns = drop 1 (map activation_of m.owns.items) }
-
+module _ (exit : Exit) (results : List ℕ) (n : ℕ) (vs : List Content) (saved : Saved) (f f' : Frame) (ws : List Wait) (m m' : Memory)
+    (left : LeavesCall m m') (is : exit ≡ steps.Returns vs) (base : f'.base ≡ saved.base) where
   -- the temporaries of the caller get the result
-  pub result_given : are_as_many results vs ≡ true → Takes results vs saved.temps.items f'.temps.items
-      → IsMove (Leave exit) (Caller results n (saved_of saved) ∷ ws) (known_of f m) (Go (Leave steps.Falls)) ws (known_of f' m')
+  pub result_given : are_as_many results vs ≡ true → Takes results vs saved.temps f'.temps.items
+      → IsMove (Leave exit) (Caller results n saved ∷ ws) (known_of f m) (Go (Leave steps.Falls)) ws (known_of f' m')
   result_given fits takes =
-      left_to (steps.Returns vs) exit (Caller results n (saved_of saved) ∷ ws) (Caller results n (saved_of saved) ∷ ws) (known_of f m) _ ws _
-      (known_of f' m') is refl
-      (left_known f f' m m' left ∙ ap (λ b. back_known f'.temps.items b) base)
-      (result_taken (known_of f m) ws results n vs (saved_of saved) f'.temps.items fits takes)
+      left_to (steps.Returns vs) exit (Caller results n saved ∷ ws) (Caller results n saved ∷ ws) (known_of f m) _ ws _ (known_of f' m') is refl
+      (left_known f f' m m' f'.temps.items saved.base refl base left)
+      (result_taken (known_of f m) ws results n vs saved f'.temps.items fits takes)
 
   -- it is of another number of words
-  pub result_ungiven : are_as_many results vs ≡ false → f'.temps.items ≡ saved.temps.items
-      → IsMove (Leave exit) (Caller results n (saved_of saved) ∷ ws) (known_of f m) Wrong ws (known_of f' m')
+  pub result_ungiven : are_as_many results vs ≡ false → f'.temps.items ≡ saved.temps
+      → IsMove (Leave exit) (Caller results n saved ∷ ws) (known_of f m) Wrong ws (known_of f' m')
   result_ungiven unfit kept =
-      left_to (steps.Returns vs) exit (Caller results n (saved_of saved) ∷ ws) (Caller results n (saved_of saved) ∷ ws) (known_of f m) _ ws _
-      (known_of f' m') is refl
-      (left_known f f' m m' left ∙ ap (λ b. back_known f'.temps.items b) base ∙ ap (λ ts. back_known ts saved.base) kept)
-      (result_unfit (known_of f m) ws results n vs (saved_of saved) unfit)
+      left_to (steps.Returns vs) exit (Caller results n saved ∷ ws) (Caller results n saved ∷ ws) (known_of f m) _ ws _ (known_of f' m') is refl
+      (left_known f f' m m' saved.temps saved.base kept base left)
+      (result_unfit (known_of f m) ws results n vs saved unfit)
 
 -- nothing waits
 pub main_left : (exit : Exit) (ws rest : List Wait) (known : Known) (next : Next) → ws ≡ [] → rest ≡ [] → IsMove (Leave exit) [] known next [] known

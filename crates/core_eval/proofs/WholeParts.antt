@@ -35,12 +35,10 @@ use Rattle.core_meaning.specs.Memory.{Spot, Part, PartShape, Layout, Memory}
 use Rattle.core_meaning.specs.Operations.{cells_on, part_of, on_from, copied, in_element, cleared}
 use Rattle.cyc_core.specs.declared.layout.CellLayout.{CellLayout}
 use Rattle.cyc_core.specs.Trees.{cell_parts}
-use Rattle.core_eval.specs.declared.value.Place.{Place}
 use Rattle.core_eval.specs.declared.value.Slot.{Slot}
 use Rattle.core_eval.specs.declared.held.Held.{Held}
 use Rattle.core_eval.specs.Values.{part_in, first_held}
 use Rattle.core_eval.specs.Elements.{each_element}
-use Rattle.core_eval.specs.Blocks.{Stored, slot_in}
 use Rattle.core_eval.specs.Whole.{
   is_cell,
   is_alike,
@@ -48,7 +46,6 @@ use Rattle.core_eval.specs.Whole.{
   are_alike,
   are_elements,
   elements_alike,
-  slots_of,
   held_by,
   values_from,
   begins_as,
@@ -152,17 +149,6 @@ element_alike slots cs (suc n) zero k less alike =
 element_alike slots cs (suc n) (suc e) k less alike =
     let cells : k + suc e * length cs ≡ k + length cs + e * length cs = (let times = suc-mul e (length cs) in omega (arith, times)) in
     ap (λ (x : ℕ). are_alike slots x cs) cells ∙ element_alike slots cs n e (k + length cs) (omega (arith, less)) (and_parts _ _ alike).1
-
--- two places of one object
-pub cells_at : (stored : Stored) (p q : Place) (cs : List CellLayout) (k byte : ℕ) → q.area ≡ p.area → q.object ≡ p.object
-    → are_cells (slots_of stored p) k byte cs ≡ are_cells (slots_of stored q) k byte cs
-cells_at stored p q cs k byte area object =
-    ap (λ a. are_cells (λ x. slot_in stored a p.object x) k byte cs) (sym area) ∙ ap (λ o. are_cells (λ x. slot_in stored q.area o x) k byte cs) (sym object)
-
-pub alike_at : (stored : Stored) (p q : Place) (cs : List CellLayout) (k : ℕ) → q.area ≡ p.area → q.object ≡ p.object
-    → are_alike (slots_of stored p) k cs ≡ are_alike (slots_of stored q) k cs
-alike_at stored p q cs k area object =
-    ap (λ a. are_alike (λ x. slot_in stored a p.object x) k cs) (sym area) ∙ ap (λ o. are_alike (λ x. slot_in stored q.area o x) k cs) (sym object)
 
 -- elements that are tested one after the other
 pub alike_passed : (slots : ℕ → Option Slot) (cs : List CellLayout) (k n count : ℕ) (whole : Bool) → n < count → elements_alike slots k cs (count - n) ≡ whole

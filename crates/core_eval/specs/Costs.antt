@@ -1,5 +1,5 @@
 -- View of code: how many moves there are at most before a unit is due or the run is over: each move has fewer after it.
-use Rattle.std.specs.Prelude.{◌≡◌, ℕ, ◌+◌, ◌≤◌, List, [], ◌∷◌}
+use Rattle.std.specs.Prelude.{ℕ, ◌+◌, ◌≤◌, List, [], ◌∷◌}
 use Rattle.core_meaning.specs.Core.{Statement, Do, If, While, Block, Leave as LeaveOf, Statements, NoStatements, MoreStatements}
 use Rattle.core_meaning.specs.Memory.{Content, Word}
 use Rattle.core_meaning.specs.Steps.{Falls, Returns}
@@ -8,7 +8,7 @@ use Rattle.cyc_core.specs.Trees.{operation_tree}
 use Rattle.core_eval.specs.declared.value.Value.{Value}
 use Rattle.core_eval.specs.declared.frame.Frame.{Frame}
 use Rattle.core_eval.specs.declared.memory.Memory as code
-use Rattle.core_eval.specs.Pendings.{Task, Follow, Execute, Leave, Wait, Then, Body, Caller, Saved, Next, Go}
+use Rattle.core_eval.specs.Pendings.{Task, Follow, Execute, Leave, Wait, Then, Body, Next, Go}
 use Rattle.core_eval.specs.Standing.{Known, Gives, StandsStill, known_of}
 
 abbrev mutual
@@ -46,11 +46,6 @@ next_cost _ = 0
 pub record IsMove (task : Task) (ws : List Wait) (known : Known) (next : Next) (ws' : List Wait) (known' : Known) : Type 0 where
   pub still : StandsStill (Go task) ws known next ws' known'
   pub fewer : next_cost next + waits_cost ws' ≤ task_cost task + waits_cost ws
-
--- the caller of some function, which has saved this, and whose temporaries get the results
-pub record IsCaller (w : Wait) (results : List ℕ) (saved : Saved) : Type 0 where
-  pub function : ℕ
-  pub is : w ≡ Caller results function saved
 
 -- What waits ends with the function that it is within, whatever that returns.
 abbrev pub EndsWithin : Wait → code.Memory → code.Memory → Type 0

@@ -44,9 +44,14 @@ block_cells begun l count = elements_from begun l.cells.items l.bytes 0 count
 abbrev pub begun_cells : Begun → List Slot
 begun_cells b = b.slots.items ++ elements_from false b.layout.value.cells.items b.layout.value.bytes b.made (b.count - b.made)
 
+-- the cell of an object of one word
+abbrev pub word_slot : Value → Slot
+word_slot v = record { offset = 0; padding = 0; held = held.Word v }
+
 -- the cells of an object
 abbrev pub cells_of : Object → List Slot
-cells_of (object.Scalar s) = s ∷ []
+cells_of (object.Word v) = word_slot v ∷ []
+cells_of (object.Scalar s) = s.value ∷ []
 cells_of (object.Whole slots) = slots.items
 cells_of (object.Begun b) = begun_cells b
 

@@ -15,7 +15,9 @@ use Rattle.core_meaning.specs.Meaning.{falls_to, branch, with_results, out_of_bl
 use Rattle.cyc_core.specs.Trees.{optional_tree, body_tree}
 use Rattle.core_eval.specs.declared.value.Value.{Value}
 use Rattle.core_eval.specs.declared.value.Value.TheVariants as value
-use Rattle.core_eval.specs.declared.frame.Frame.{Frame}
+use Rattle.core_eval.specs.declared.caller.Temps.{Temps}
+use Rattle.core_eval.specs.declared.caller.Temps.TheVariants as temps
+use Rattle.core_eval.specs.declared.caller.Waiting.{Waiting}
 use Rattle.core_eval.specs.declared.pending.Returned as code_returned
 use Rattle.core_eval.specs.declared.pending.Returned.TheVariants as returned
 use Rattle.core_eval.specs.declared.pending.Flow as code_flow
@@ -94,22 +96,29 @@ abbrev pub task_of : code_now.Now → Task
 task_of (now.Follow ss) = Follow (body_tree ss.now)
 task_of (now.Leave f) = Leave (exit_of f)
 
-abbrev pub saved_of : Frame → Saved
-saved_of frame = record { temps = frame.temps.items; base = frame.base }
+abbrev pub kept_temps : Temps → List Value
+kept_temps (temps.Words ws) = map bound_value ws.items
+kept_temps (temps.Values vs) = vs.items
+
+abbrev pub saved_of : Waiting → Saved
+saved_of w = record { temps = kept_temps w.temps; base = w.base }
+
+abbrev pub caller_of : Waiting → Wait
+caller_of w = Caller (optional_tree w.to) w.function (saved_of w)
 
 abbrev pub wait_of : code_pending.Pending → Wait
 wait_of (pending.Then ss) = Then (body_tree ss.now)
-wait_of (pending.Test test flag body) = Test (body_tree test.now) flag.0 (body_tree body.now)
-wait_of (pending.Body test flag body) = Body (body_tree test.now) flag.0 (body_tree body.now)
+wait_of (pending.Test flag both) = Test (body_tree both.now.value.0.items) flag.0 (body_tree both.now.value.1.items)
+wait_of (pending.Body flag both) = Body (body_tree both.now.value.0.items) flag.0 (body_tree both.now.value.1.items)
 wait_of pending.Block = Block
 wait_of pending.Breakable = Breakable
-wait_of (pending.Caller result f saved) = Caller (optional_tree result) f (saved_of saved)
+wait_of (pending.Caller caller) = caller_of caller.value
 
 abbrev pub next_of : code_due.Due → Next
 next_of (due.Go next) = Go (task_of next)
 next_of (due.Getchar t) = GetcharDue t.0
 next_of (due.Putchar t x) = PutcharDue t.0 x
-next_of (due.Turn test flag body) = TurnDue (body_tree test.now) flag.0 (body_tree body.now)
+next_of (due.Turn flag both) = TurnDue (body_tree both.now.value.0.items) flag.0 (body_tree both.now.value.1.items)
 next_of (due.Call result f arguments) = CallDue (optional_tree result) f (map content_of arguments.items)
 next_of (due.Over status) = Over status
 next_of (due.Raised kind) = Raised kind

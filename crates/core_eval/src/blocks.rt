@@ -1,12 +1,14 @@
 // Blocks and functions that are active, each with its objects, the innermost first.
 
-ghost use Rattle.std.specs.Prelude.{◌≡◌, ℕ, Some, None, false, if◌then◌else◌, map, IfOk, IfSome, OnOk};
+ghost use Rattle.std.specs.Prelude.{◌≡◌, ℕ, Some, None, false, if◌then◌else◌, map, option_map, IfOk, IfSome, OnOk};
 ghost use Rattle.core_eval.specs.Blocks.{Descends, activation_of, position_of, put_through, slot_through};
-ghost use Rattle.core_eval.specs.Values.{value_of};
+ghost use Rattle.core_eval.specs.Values.{cell_in, value_of};
+ghost use Rattle.core_eval.specs.Elements.{cells_of};
 ghost use Rattle.core_eval.specs.Whole.{fill_through};
 
 use crate::held::Held;
-use crate::value::{Object, Part, Slot, Value, fill_in, put_in, slot_in, value_in, word_in};
+use crate::objects::{fill_in, object_in, put_in, slot_in, value_in, word_in};
+use crate::value::{Object, Part, Slot, Value};
 use cyc_core::Width;
 use std::alloc::{AllocError, Global};
 use std::collections::VecDeque;
@@ -37,6 +39,17 @@ fn slot_at(blocks: &VecDeque<Block>, position: usize, index: usize, cell: u64) -
 {
     match blocks.get(position) {
         Some(block) => slot_in(&block.objects, index, cell),
+        None => None,
+    }
+}
+
+/// An object of the one that stands there.
+fn object_at(blocks: &VecDeque<Block>, position: usize, index: usize) -> Option<&Object>
+    ensures { (k : ℕ) → slot_through (map activation_of blocks.now.items) (Some position) index k
+        ≡ cell_in (option_map (λ object. cells_of object.now) result) k }
+{
+    match blocks.get(position) {
+        Some(block) => object_in(&block.objects, index),
         None => None,
     }
 }
@@ -74,6 +87,18 @@ pub fn slot_by(blocks: &VecDeque<Block>, number: u64, index: usize, cell: u64) -
 {
     match position_of(blocks, number) {
         Some(position) => slot_at(blocks, position, index, cell),
+        None => None,
+    }
+}
+
+/// An object of the one with this number.
+pub fn object_by(blocks: &VecDeque<Block>, number: u64, index: usize) -> Option<&Object>
+    ensures { (bound : ℕ) → Descends bound (map activation_of blocks.now.items) → (k : ℕ)
+        → slot_through (map activation_of blocks.now.items) (position_of (map activation_of blocks.now.items) number) index k
+        ≡ cell_in (option_map (λ object. cells_of object.now) result) k }
+{
+    match position_of(blocks, number) {
+        Some(position) => object_at(blocks, position, index),
         None => None,
     }
 }

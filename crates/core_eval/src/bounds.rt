@@ -6,7 +6,7 @@ use crate::kept::kept_of_run;
 use crate::pending::Run;
 
 /// The most that a run may keep. None is no bound.
-#[derive(Clone, Copy, Debug)]
+#[derive(Clone, Copy)]
 pub struct Bounds {
     /// The most calls that are active at once, `main` not counted.
     pub calls: Option<u64>,
@@ -15,7 +15,7 @@ pub struct Bounds {
 }
 
 /// The bound that a run has passed.
-#[derive(Clone, Copy, Debug)]
+#[derive(Clone, Copy)]
 pub enum Exceeded {
     /// That of active calls.
     Calls,

@@ -7,9 +7,9 @@ ghost use Rattle.core_eval.specs.Values.{content_of};
 ghost use Rattle.core_eval.specs.Pendings.{next_of, waits_of};
 ghost use Rattle.core_eval.specs.Standing.{IsCall, Stands, first_known, known_of};
 
+use crate::caller::Waiting;
 use crate::enter::wait;
 use crate::frame::Frame;
-use crate::kept::kept_of_temps;
 use crate::object::blank_objects;
 use crate::pending::{Due, Now, Pending, Run};
 use crate::value::Value;
@@ -26,12 +26,36 @@ fn function_at<'p>(functions: &'p [Function], number: usize) -> Option<&'p Funct
     functions.get(number)
 }
 
+/// The most temporaries that a function gets space for when it is called. Of more it may use few.
+const MOST_RESERVED: u32 = 64;
+
+/// How many calls are active before each further one is kept in less space.
+const DEEP: usize = 1024;
+
 /// A call: the temporaries that get the result, the function's number, and what it is passed.
 #[derive(Drop)]
 pub struct Call {
     pub to: Option<Words>,
     pub function: usize,
     pub arguments: Vec<Value>,
+}
+
+/// The activation of a function that was passed these, has so many temporaries, and outside of which there are so many blocks. Fails only where no
+/// host memory is left.
+fn callee_frame(arguments: Vec<Value>, temporaries: u32, base: usize) -> Result<Frame, AllocError>
+    ensures temps { IfOk result (λ frame. frame.temps.items ≡ arguments.items) }
+    ensures base { IfOk result (λ frame. frame.base ≡ base) }
+{
+    let mut temps = arguments;
+    if temporaries <= MOST_RESERVED {
+        let others = (temporaries as usize).saturating_sub(temps.len());
+        temps.reserve_exact(others)?;
+    }
+    Ok(Frame {
+        temps,
+        base,
+        at: Origin(0),
+    })
 }
 
 /// The move of a call whose unit is paid: the callee's statements are next, and the caller waits.
@@ -52,14 +76,11 @@ pub fn enter_call<'p>(alloc: Global, call: Call, run: &mut Run<'p>) -> Result<Du
     if callee.parameters as usize != arguments.len() {
         return Ok(Due::Wrong);
     }
-    let begun = Frame {
-        temps: arguments,
-        base: run.memory.blocks.len(),
-        at: Origin(0),
-    };
+    let begun = callee_frame(arguments, callee.temporaries, run.memory.blocks.len())?;
     let saved = mem::replace(&mut run.frame, begun);
-    run.memory.spare.count(kept_of_temps(&saved.temps));
-    wait(&mut run.stack, Pending::Caller(to, function, saved))?;
+    let is_deep = run.memory.owns.len() > DEEP;
+    let caller = Waiting::new(alloc, to, function, saved, is_deep, &mut run.memory.spare)?;
+    wait(&mut run.stack, Pending::Caller(caller))?;
     let own = blank_objects(alloc, &callee.own)?;
     run.memory.enter_call(own)?;
     Ok(Due::Go(Now::Follow(&callee.body)))

@@ -18,7 +18,7 @@ use crate::held::Bound;
 use crate::memory::Memory;
 use crate::object::push_blanks;
 use crate::operation::operate;
-use crate::pending::{Due, Flow, Now, Pending, Returned};
+use crate::pending::{Due, Flow, Loop, Now, Pending, Returned};
 use crate::request::{allocate, allocate_unique};
 use crate::spare::Spare;
 use crate::take::leave_function;
@@ -96,6 +96,7 @@ fn arguments_of(
     ensures { IfOk result (λ values. AreRead frame.now.temps.items (map temporary_tree arguments.now) values.items) }
 {
     let mut values = spare.take_temps(alloc);
+    values.reserve_exact(arguments.len())?;
     'each: for argument in arguments {
         values.push(frame.temp(*argument))?;
     }
@@ -129,15 +130,15 @@ fn returned(frame: &Frame, words: Option<Words>) -> Result<Option<Returned>, All
 
 /// The first move of a loop, and of each further turn: its test is next.
 pub fn enter_loop<'p>(
-    test: &'p [Statement],
     flag: Temporary,
-    body: &'p [Statement],
+    both: &'p Loop,
     stack: &mut Vec<Pending<'p>>,
 ) -> Result<Due<'p>, AllocError>
-    ensures next { IfOk result (λ due. next_of due ≡ Go (Follow (body_tree test.entry.now))) }
-    ensures waits { OnOk result (waits_of stack.new.items ≡ Test (body_tree test.entry.now) flag.0 (body_tree body.entry.now) ∷ waits_of stack.old.items) }
+    ensures next { IfOk result (λ due. next_of due ≡ Go (Follow (body_tree both.entry.now.value.0.items))) }
+    ensures waits { OnOk result (waits_of stack.new.items
+        ≡ Test (body_tree both.entry.now.value.0.items) flag.0 (body_tree both.entry.now.value.1.items) ∷ waits_of stack.old.items) }
 {
-    follow(stack, Pending::Test(test, flag, body), test)
+    follow(stack, Pending::Test(flag, both), &both.0)
 }
 
 /// The first move of a block: its locals hold nothing, and its statements are next.
@@ -160,7 +161,8 @@ fn enter_block<'p>(
     ensures long_blocks { OnOk result (memory.new.long_blocks ≡ memory.old.long_blocks) }
 {
     let mut objects = memory.spare.take_objects(alloc);
-    push_blanks(alloc, &mut objects, locals)?;
+    objects.reserve_exact(locals.len())?;
+    push_blanks(alloc, &mut objects, locals, true)?;
     memory.enter_block(objects)?;
     follow(stack, Pending::Block, body)
 }
@@ -235,7 +237,7 @@ pub fn enter_statement<'p>(
             Some(false) => Ok(Due::Go(Now::Follow(&both.1))),
             None => Ok(Due::Wrong),
         },
-        Statement::While(flag, both) => enter_loop(&both.0, *flag, &both.1, stack),
+        Statement::While(flag, both) => enter_loop(*flag, both, stack),
         Statement::Block(block) => enter_block(alloc, &block.0, &block.1, stack, memory),
         Statement::Leave(body) => enter_breakable(body, stack),
         Statement::Break(_) => Ok(Due::Go(Now::Leave(Flow::Breaks))),

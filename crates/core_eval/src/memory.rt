@@ -1,8 +1,8 @@
 // What is stored: the globals and the blocks of regions, the locals of all blocks that aren't left yet, and the temporary objects of all
 // functions that are active.
 
-ghost use Rattle.std.specs.Prelude.{◌≡◌, ◌∷◌, ◌+◌, [], Some, None, false, if◌then◌else◌, drop, map, IfOk, IfSome, OnOk};
-ghost use Rattle.core_eval.specs.Values.{value_of};
+ghost use Rattle.std.specs.Prelude.{◌≡◌, ◌∷◌, ◌+◌, ℕ, [], Some, None, false, if◌then◌else◌, drop, map, option_map, IfOk, IfSome, OnOk};
+ghost use Rattle.core_eval.specs.Values.{cell_in, value_of};
 ghost use Rattle.core_eval.specs.Elements.{cells_of};
 ghost use Rattle.core_eval.specs.declared.frame.Frame.{Frame as TheFrame};
 ghost use Rattle.core_eval.specs.Standing.{first_known, known_of};
@@ -21,14 +21,17 @@ ghost use Rattle.core_eval.specs.Blocks.{
   stored_of,
 };
 
-use crate::blocks::{Block, fill_by, position_of, set_at, set_by, slot_by, value_at, word_at};
+use crate::blocks::{
+    Block, fill_by, object_by, position_of, set_at, set_by, slot_by, value_at, word_at,
+};
 use crate::held::Held;
 use crate::kept::kept_of_objects;
 use crate::long_block::LongBlock;
 use crate::object::{blank_objects, first_objects};
+use crate::objects::{fill_in, object_in, put_in, slot_in};
 use crate::regions::Regions;
 use crate::spare::Spare;
-use crate::value::{Area, Object, Part, Place, Slot, Value, fill_in, put_in, slot_in};
+use crate::value::{Area, Object, Part, Place, Slot, Value};
 use cyc_core::{Datum, Local, Variable, Width};
 use std::alloc::{AllocError, Global};
 use std::collections::VecDeque;
@@ -234,6 +237,18 @@ impl Memory {
             Area::Region(number) => self.regions.slot(number, object, cell),
             Area::Block(block) => slot_by(&self.blocks, block, object, cell),
             Area::Own(call) => slot_by(&self.owns, call, object, cell),
+        }
+    }
+
+    /// An object of an area, if there is one.
+    pub fn object(&self, area: Area, object: usize) -> Option<&Object>
+        ensures { AreOrdered self.now → (k : ℕ) → slot_in (stored_of self.now) area object k ≡ cell_in (option_map (λ o. cells_of o.now) result) k }
+    {
+        match area {
+            Area::Globals => object_in(&self.globals, object),
+            Area::Region(number) => self.regions.object(number, object),
+            Area::Block(block) => object_by(&self.blocks, block, object),
+            Area::Own(call) => object_by(&self.owns, call, object),
         }
     }
 

@@ -14,10 +14,12 @@ ghost use Rattle.core_eval.specs.Elements.{
   text_cells,
 };
 
+use crate::begun::Begun;
 use crate::held::{Bound, Held};
 use crate::value::{Area, Object, Place, Slot, Value};
 use cyc_core::{Cell, CellLayout, Datum, Layout, Local};
 use std::alloc::{AllocError, Global};
+use std::rc::Rc;
 
 /// How many bytes of the object lie before a byte of the element with this number, where each element has `bytes` bytes.
 pub fn offset_in(element: u32, bytes: u32, byte: u32) -> u64
@@ -26,15 +28,24 @@ pub fn offset_in(element: u32, bytes: u32, byte: u32) -> u64
     u64::from(element) * u64::from(bytes) + u64::from(byte)
 }
 
-/// An object of one cell.
-fn scalar(held: Held) -> Object
-    ensures { cells_of result ≡ scalar held }
+/// An object of one cell. Fails only where no host memory is left.
+fn scalar(alloc: Global, held: Held) -> Result<Object, AllocError>
+    ensures { IfOk result (λ object. cells_of object ≡ scalar held) }
 {
-    Object::Scalar(Slot {
-        offset: 0,
-        padding: 0,
-        held,
-    })
+    match held {
+        Held::Word(value) => Ok(Object::Word(value)),
+        _ => {
+            let slot = Box::new(
+                alloc,
+                Slot {
+                    offset: 0,
+                    padding: 0,
+                    held,
+                },
+            )?;
+            Ok(Object::Scalar(slot))
+        }
+    }
 }
 
 /// What a cell holds at first: what it begins as, or nothing as yet.
@@ -89,41 +100,58 @@ pub fn block_cells(
     Ok(slots)
 }
 
-/// A local, which holds nothing as yet.
-fn blank_object(alloc: Global, local: &Local) -> Result<Object, AllocError>
-    ensures { IfOk result (λ object. cells_of object ≡ blank_object local.now) }
+/// The most cells of an object that are made when it begins.
+const MOST_MADE: usize = 16;
+
+/// A number of elements of a layout, which hold nothing as yet: where they have many cells they aren't made before something is stored to them. Fails
+/// only where no host memory is left.
+pub fn blank_block(alloc: Global, layout: &Rc<Layout>, count: u32) -> Result<Object, AllocError>
+    ensures { IfOk result (λ block. cells_of block ≡ block_cells false layout.now.value count) }
 {
-    match local {
-        Local::Scalar(cell) => Ok(scalar(Held::first(*cell).blanked())),
-        Local::Whole(layout, count) => Ok(Object::Whole(block_cells(
-            alloc,
-            false,
-            layout.as_ref(),
-            *count,
-        )?)),
+    if layout.cells.len().saturating_mul(count as usize) > MOST_MADE {
+        Ok(Object::Begun(Begun::new(alloc, layout, count)?))
+    } else {
+        Ok(Object::Whole(block_cells(alloc, false, layout.as_ref(), count)?))
     }
 }
 
-/// These locals more, which hold nothing as yet.
+/// A local or a temporary object, which holds nothing as yet, and whether all its cells are made at once.
+fn blank_object(alloc: Global, local: &Local, is_made: bool) -> Result<Object, AllocError>
+    ensures { IfOk result (λ object. cells_of object ≡ blank_object local.now) }
+{
+    match local {
+        Local::Scalar(cell) => scalar(alloc, Held::first(*cell).blanked()),
+        Local::Whole(layout, count) => {
+            if is_made {
+                Ok(Object::Whole(block_cells(alloc, false, layout.as_ref(), *count)?))
+            } else {
+                blank_block(alloc, layout, *count)
+            }
+        }
+    }
+}
+
+/// These locals or temporary objects more, which hold nothing as yet, and whether all their cells are made at once.
 pub fn push_blanks(
     alloc: Global,
     objects: &mut Vec<Object>,
     locals: &[Local],
+    is_made: bool,
 ) -> Result<(), AllocError>
     ensures { OnOk result (map cells_of objects.new.items ≡ map cells_of objects.old.items ++ map blank_object locals.now) }
 {
     'each: for local in locals {
-        objects.push(blank_object(alloc, local)?)?;
+        objects.push(blank_object(alloc, local, is_made)?)?;
     }
     Ok(())
 }
 
-/// These locals, which hold nothing as yet.
+/// These temporary objects, which hold nothing as yet. A call may use few of them.
 pub fn blank_objects(alloc: Global, locals: &[Local]) -> Result<Vec<Object>, AllocError>
     ensures { IfOk result (λ objects. map cells_of objects.items ≡ map blank_object locals.now) }
 {
     let mut objects = Vec::with_capacity(alloc, locals.len())?;
-    push_blanks(alloc, &mut objects, locals)?;
+    push_blanks(alloc, &mut objects, locals, false)?;
     Ok(objects)
 }
 
@@ -168,16 +196,15 @@ fn first_object(alloc: Global, datum: &Datum) -> Result<Object, AllocError>
     ensures { IfOk result (λ object. cells_of object ≡ first_object datum.now) }
 {
     match datum {
-        Datum::Byte(byte) => Ok(scalar(Held::Byte(Value::Word(*byte as u32)))),
-        Datum::Word(word) => Ok(scalar(Held::Word(Value::Word(*word)))),
-        Datum::Null => Ok(scalar(Held::Word(Value::Null))),
+        Datum::Byte(byte) => scalar(alloc, Held::Byte(Value::Word(*byte as u32))),
+        Datum::Word(word) => scalar(alloc, Held::Word(Value::Word(*word))),
+        Datum::Null => scalar(alloc, Held::Word(Value::Null)),
         Datum::Text(bytes) => Ok(Object::Whole(text_cells(alloc, bytes)?)),
-        Datum::Address(object) => Ok(scalar(Held::Word(first_element(*object)))),
-        Datum::Bounds(object, count) => Ok(scalar(Held::Fat(
-            first_element(*object),
-            Bound::Word(*count),
-            Bound::Word(0),
-        ))),
+        Datum::Address(object) => scalar(alloc, Held::Word(first_element(*object))),
+        Datum::Bounds(object, count) => scalar(
+            alloc,
+            Held::Fat(first_element(*object), Bound::Word(*count), Bound::Word(0)),
+        ),
         Datum::Whole(layout, count) => Ok(Object::Whole(block_cells(
             alloc,
             true,

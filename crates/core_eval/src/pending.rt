@@ -1,5 +1,6 @@
 // What an evaluator does next, and what is still to be done after that.
 
+use crate::caller::Waiting;
 use crate::frame::Frame;
 use crate::held::Bound;
 use crate::memory::Memory;
@@ -22,6 +23,9 @@ pub enum Flow {
     Continues,
 }
 
+/// The test and the body of a loop.
+pub type Loop = Box<(Vec<Statement>, Vec<Statement>)>;
+
 /// What is done next.
 #[derive(Clone, Copy)]
 pub enum Now<'p> {
@@ -31,22 +35,25 @@ pub enum Now<'p> {
     Leave(Flow),
 }
 
-/// What waits for the end of a statement.
+/// What waits for the end of a statement. Most of what a call takes are these, so a caller is in a box.
 #[derive(Drop)]
 pub enum Pending<'p> {
     /// The statements after it.
     Then(&'p [Statement]),
-    /// A loop, for the end of its test: the test, the temporary that tells whether there is another turn, and the body.
-    Test(&'p [Statement], Temporary, &'p [Statement]),
+    /// A loop, for the end of its test: the temporary that tells whether there is another turn, the test and the body.
+    Test(Temporary, &'p Loop),
     /// A loop, for the end of its body.
-    Body(&'p [Statement], Temporary, &'p [Statement]),
+    Body(Temporary, &'p Loop),
     /// The end of a block.
     Block,
     /// A statement that a `Break` in its body ends, for the end of that body.
     Breakable,
-    /// The caller of the function with this number: the temporaries that get the result, and what the caller had.
-    Caller(Option<Words>, usize, Frame),
+    /// A caller, for the end of the function that it called.
+    Caller(Box<Waiting>),
 }
+
+// A run keeps up to four of these for each active call.
+const _: () = prove!(size_of::<Pending<'static>>() == 24);
 
 /// What a move leads to: another one, a unit of fuel that is due, or the end.
 #[derive(Drop)]
@@ -57,7 +64,7 @@ pub enum Due<'p> {
     /// A unit for a byte that is written, and that the temporary gets.
     Putchar(Temporary, u8),
     /// A unit for a turn of a loop.
-    Turn(&'p [Statement], Temporary, &'p [Statement]),
+    Turn(Temporary, &'p Loop),
     /// A unit for a call: the temporaries that get the result, the function's number, and what it is passed.
     Call(Option<Words>, usize, Vec<Value>),
     /// The end of the program, with its status.

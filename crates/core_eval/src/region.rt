@@ -13,10 +13,10 @@ ghost use Rattle.core_eval.specs.Regions.{
 };
 ghost use Rattle.core_eval.specs.Whole.{fill_held};
 
-use crate::begun::Begun;
 use crate::held::Held;
-use crate::object::block_cells;
-use crate::value::{Object, Part, Value, fill_in, put_in};
+use crate::object::blank_block;
+use crate::objects::{fill_in, put_in};
+use crate::value::{Object, Part, Value};
 use cyc_core::Layout;
 use std::alloc::{AllocError, Global};
 use std::rc::Rc;
@@ -68,18 +68,6 @@ pub enum Region {
     Freed,
 }
 
-/// A block of a number of elements of a layout, which hold nothing as yet: more than one aren't made before something is stored to them. Fails only
-/// where no host memory is left.
-fn new_block(alloc: Global, layout: &Rc<Layout>, count: u32) -> Result<Object, AllocError>
-    ensures { IfOk result (λ block. cells_of block ≡ block_cells false layout.now.value count) }
-{
-    if count > 1 {
-        Ok(Object::Begun(Begun::new(alloc, layout, count)?))
-    } else {
-        Ok(Object::Whole(block_cells(alloc, false, layout.as_ref(), count)?))
-    }
-}
-
 /// A block more, of a number of elements of a layout, which hold nothing as yet: how many there were before. Fails only where no host memory is left.
 pub fn push_block(
     alloc: Global,
@@ -91,7 +79,7 @@ pub fn push_block(
     ensures objects { OnOk result (map cells_of objects.new.items ≡ map cells_of objects.old.items ++ block_cells false layout.now.value count ∷ []) }
 {
     let before = objects.len();
-    let block = new_block(alloc, layout, count)?;
+    let block = blank_block(alloc, layout, count)?;
     objects.push(block)?;
     Ok(before)
 }

@@ -21,7 +21,8 @@ ghost use Rattle.std.specs.Prelude.{
   OnOk,
 };
 ghost use Rattle.std.specs.Borrow.{sem};
-ghost use Rattle.core_eval.specs.Elements.{block_cells};
+ghost use Rattle.core_eval.specs.Values.{cell_in};
+ghost use Rattle.core_eval.specs.Elements.{block_cells, cells_of};
 ghost use Rattle.core_eval.specs.Regions.{
   grown_region,
   held_at,
@@ -39,8 +40,9 @@ ghost use Rattle.core_eval.specs.Lending.{LendsRegion};
 
 use crate::held::Held;
 use crate::kept::{bytes_of, kept_of_objects};
+use crate::objects::{object_in, slot_in};
 use crate::region::{Region, Standing};
-use crate::value::{Part, Slot, Value, slot_in};
+use crate::value::{Object, Part, Slot, Value};
 use cyc_core::Layout;
 use std::alloc::{AllocError, Global};
 use std::mem::size_of;
@@ -196,6 +198,18 @@ impl Regions {
         match self.region(number) {
             Some(Region::Held(standing, objects)) if standing.is_open() => {
                 slot_in(objects, index, cell)
+            }
+            _ => None,
+        }
+    }
+
+    /// A block of the region with this number.
+    pub fn object(&self, number: u64, index: usize) -> Option<&Object>
+        ensures { (k : ℕ) → slot_within (live_at (regions_of self.now) number) index k ≡ cell_in (option_map (λ object. cells_of object.now) result) k }
+    {
+        match self.region(number) {
+            Some(Region::Held(standing, objects)) if standing.is_open() => {
+                object_in(objects, index)
             }
             _ => None,
         }

@@ -21,11 +21,11 @@ use crate::enter::{follow, follow_statements};
 use crate::frame::Frame;
 use crate::memory::Memory;
 use crate::operation::give;
-use crate::pending::{Due, Now, Pending, Run};
+use crate::pending::{Due, Loop, Now, Pending, Run};
 use crate::stop::{Stop, stop_of};
 use crate::take::take_flow;
 use crate::value::Value;
-use cyc_core::{Function, Program, Statement, Temporary};
+use cyc_core::{Function, Program, Temporary};
 use cyc_host::{Gathered, read};
 use cyc_words::{Input, Output};
 use std::alloc::{AllocError, Global};
@@ -91,15 +91,15 @@ fn ending_of(due: &Due<'_>, left: u64) -> Option<EvalEnding>
 
 /// The body of a loop is next, when its unit is paid.
 fn enter_turn<'p>(
-    test: &'p [Statement],
     flag: Temporary,
-    body: &'p [Statement],
+    both: &'p Loop,
     stack: &mut Vec<Pending<'p>>,
 ) -> Result<Due<'p>, AllocError>
-    ensures next { IfOk result (λ due. next_of due ≡ Go (Follow (body_tree body.entry.now))) }
-    ensures waits { OnOk result (waits_of stack.new.items ≡ Body (body_tree test.entry.now) flag.0 (body_tree body.entry.now) ∷ waits_of stack.old.items) }
+    ensures next { IfOk result (λ due. next_of due ≡ Go (Follow (body_tree both.entry.now.value.1.items))) }
+    ensures waits { OnOk result (waits_of stack.new.items
+        ≡ Body (body_tree both.entry.now.value.0.items) flag.0 (body_tree both.entry.now.value.1.items) ∷ waits_of stack.old.items) }
 {
-    follow(stack, Pending::Body(test, flag, body), body)
+    follow(stack, Pending::Body(flag, both), &both.1)
 }
 
 /// The byte that was read, or -1 at the input's end.
@@ -208,7 +208,7 @@ fn pay_unit<'p, R: Input, W: Output>(
             }
             give(&mut run.frame, to, Value::Word(byte as u32))
         }
-        Due::Turn(test, flag, body) => enter_turn(test, flag, body, &mut run.stack),
+        Due::Turn(flag, both) => enter_turn(flag, both, &mut run.stack),
         Due::Call(to, function, arguments) => {
             let call = Call {
                 to,

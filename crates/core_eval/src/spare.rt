@@ -6,7 +6,10 @@ use crate::kept::{kept_of_room, kept_of_temps};
 use crate::value::{Object, Value};
 use std::alloc::Global;
 
-/// Vectors that are done with, whose memory is used again: as many as were needed at the same time.
+/// The most vectors of a sort that are kept. What a deep recursion had is freed.
+const MOST_KEPT: usize = 1024;
+
+/// Vectors that are done with, whose memory is used again.
 #[derive(Drop)]
 pub struct Spare {
     temps: Vec<Vec<Value>>,
@@ -68,16 +71,20 @@ impl Spare {
         }
     }
 
-    /// Keeps one of temporaries. Where the host has no memory to keep it, it is freed.
+    /// Keeps one of temporaries. Where there are enough, or the host has no memory to keep it, it is freed.
     pub fn keep_temps(&mut self, temps: Vec<Value>) {
-        self.count(kept_of_temps(&temps));
-        let _ = self.temps.push(temps);
+        if self.temps.len() < MOST_KEPT {
+            self.count(kept_of_temps(&temps));
+            let _ = self.temps.push(temps);
+        }
     }
 
-    /// Keeps one of locals, whose objects end. Where the host has no memory to keep it, it is freed.
+    /// Keeps one of locals, whose objects end. Where there are enough, or the host has no memory to keep it, it is freed.
     pub fn keep_objects(&mut self, mut objects: Vec<Object>) {
         objects.clear();
-        self.count(kept_of_room(&objects));
-        let _ = self.objects.push(objects);
+        if self.objects.len() < MOST_KEPT {
+            self.count(kept_of_room(&objects));
+            let _ = self.objects.push(objects);
+        }
     }
 }

@@ -32,10 +32,10 @@ pub fn stop_of(
 ) -> Result<Stop, AllocError> {
     let mut calls = Vec::new(alloc);
     for pending in stack.iter().rev() {
-        if let Pending::Caller(_, function, saved) = pending {
+        if let Pending::Caller(caller) = pending {
             calls.push(ActiveCall {
-                function: *function,
-                origin: saved.at,
+                function: caller.function,
+                origin: caller.at,
             })?;
         }
     }

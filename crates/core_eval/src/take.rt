@@ -9,31 +9,29 @@ ghost use Rattle.core_eval.specs.Pendings.{
   Block,
   Body,
   Breakable,
-  Caller,
   Leave,
   Test,
   Wait,
+  caller_of,
   exit_of,
   next_of,
   optional_value,
-  saved_of,
   wait_of,
   waits_of,
   word_returned,
 };
 ghost use Rattle.core_eval.specs.Standing.{Known, LeavesCall, Takes, are_as_many, known_of};
-ghost use Rattle.core_eval.specs.Costs.{EndsWithin, IsCaller, IsMove};
+ghost use Rattle.core_eval.specs.Costs.{EndsWithin, IsMove};
 
+use crate::caller::Waiting;
 use crate::enter::{enter_loop, truth};
 use crate::frame::Frame;
-use crate::kept::kept_of_temps;
 use crate::memory::Memory;
-use crate::pending::{Due, Flow, Now, Pending, Returned};
+use crate::pending::{Due, Flow, Loop, Now, Pending, Returned};
 use crate::spare::Spare;
 use crate::value::Value;
-use cyc_core::{Statement, Temporary, Words};
+use cyc_core::{Temporary, Words};
 use std::alloc::AllocError;
-use std::mem;
 
 /// What is on top of the stack, which is taken off.
 fn next<'p>(stack: &mut Vec<Pending<'p>>) -> Option<Pending<'p>>
@@ -45,22 +43,16 @@ fn next<'p>(stack: &mut Vec<Pending<'p>>) -> Option<Pending<'p>>
 }
 
 /// A loop at the end of its test: a unit is due for another turn, or the loop is over.
-fn take_test<'p>(
-    flow: Flow,
-    test: &'p [Statement],
-    flag: Temporary,
-    body: &'p [Statement],
-    frame: &Frame,
-) -> Due<'p>
+fn take_test<'p>(flow: Flow, flag: Temporary, both: &'p Loop, frame: &Frame) -> Due<'p>
     ensures { (ws : List Wait) (memory : TheMemory)
-        → IsMove (Leave (exit_of flow)) (Test (body_tree test.entry.now) flag.0 (body_tree body.entry.now) ∷ ws)
+        → IsMove (Leave (exit_of flow)) (Test (body_tree both.entry.now.value.0.items) flag.0 (body_tree both.entry.now.value.1.items) ∷ ws)
         (known_of frame.now memory) (next_of result) ws (known_of frame.now memory) }
 {
     let Flow::Falls = flow else {
         return Due::Go(Now::Leave(flow));
     };
     match truth(frame.temp(flag)) {
-        Some(true) => Due::Turn(test, flag, body),
+        Some(true) => Due::Turn(flag, both),
         Some(false) => Due::Go(Now::Leave(Flow::Falls)),
         None => Due::Wrong,
     }
@@ -69,17 +61,17 @@ fn take_test<'p>(
 /// A loop at the end of its body: its test is next, or the loop is over.
 fn take_body<'p>(
     flow: Flow,
-    test: &'p [Statement],
     flag: Temporary,
-    body: &'p [Statement],
+    both: &'p Loop,
     stack: &mut Vec<Pending<'p>>,
 ) -> Result<Due<'p>, AllocError>
     ensures { IfOk result (λ due. (known : Known)
-        → IsMove (Leave (exit_of flow)) (Body (body_tree test.entry.now) flag.0 (body_tree body.entry.now) ∷ waits_of stack.old.items)
+        → IsMove (Leave (exit_of flow))
+        (Body (body_tree both.entry.now.value.0.items) flag.0 (body_tree both.entry.now.value.1.items) ∷ waits_of stack.old.items)
         known (next_of due) (waits_of stack.new.items) known) }
 {
     match flow {
-        Flow::Falls | Flow::Continues => enter_loop(test, flag, body, stack),
+        Flow::Falls | Flow::Continues => enter_loop(flag, both, stack),
         Flow::Breaks => Ok(Due::Go(Now::Leave(Flow::Falls))),
     }
 }
@@ -134,18 +126,16 @@ fn take_result(
 /// A caller goes on with what it had, and its temporaries get the result, if there is one.
 fn take_caller<'p>(
     returned: Option<Returned>,
-    to: Option<Words>,
-    saved: Frame,
+    caller: Waiting,
     frame: &mut Frame,
     spare: &mut Spare,
 ) -> Result<Due<'p>, AllocError>
-    ensures { IfOk result (λ due. (f : ℕ) (ws : List Wait) (memory after : TheMemory) → LeavesCall memory after
-        → IsMove (Leave (Returns (optional_value returned))) (Caller (optional_tree to) f (saved_of saved) ∷ ws) (known_of frame.old memory)
+    ensures { IfOk result (λ due. (ws : List Wait) (memory after : TheMemory) → LeavesCall memory after
+        → IsMove (Leave (Returns (optional_value returned))) (caller_of caller ∷ ws) (known_of frame.old memory)
         (next_of due) ws (known_of frame.new after)) }
 {
-    spare.uncount(kept_of_temps(&saved.temps));
-    let left = mem::replace(frame, saved);
-    spare.keep_temps(left.temps);
+    let to = caller.to;
+    caller.go_on(frame, spare)?;
     let fits = take_result(frame, to, returned)?;
     if fits {
         Ok(Due::Go(Now::Leave(Flow::Falls)))
@@ -174,28 +164,21 @@ fn status<'p>(returned: Option<Returned>) -> Due<'p>
     }
 }
 
-/// A function that waits for a call's end: the temporaries that get the result, and what it had.
-#[derive(Drop)]
-struct Waiting {
-    to: Option<Words>,
-    saved: Frame,
-}
-
 /// Ends what waits within a function that returns, as a block with its locals. The answer is the caller, where it is one that waits.
 fn end_within(pending: Pending<'_>, memory: &mut Memory) -> Option<Waiting>
-    ensures caller { IfSome result (λ caller. IsCaller (wait_of pending.entry) (optional_tree caller.to) (saved_of caller.saved)) }
+    ensures caller { IfSome result (λ caller. wait_of pending.entry ≡ caller_of caller) }
     ensures same { IfSome result (λ caller. memory.new ≡ memory.old) }
     ensures within { IfNone result (EndsWithin (wait_of pending.entry) memory.old memory.new) }
 {
     match pending {
-        Pending::Caller(to, _, saved) => Some(Waiting { to, saved }),
+        Pending::Caller(caller) => Some(Box::into_inner(caller)),
         Pending::Block => {
             memory.leave_block();
             None
         }
         Pending::Then(_) => None,
-        Pending::Test(_, _, _) => None,
-        Pending::Body(_, _, _) => None,
+        Pending::Test(_, _) => None,
+        Pending::Body(_, _) => None,
         Pending::Breakable => None,
     }
 }
@@ -216,7 +199,7 @@ pub fn leave_function<'p>(
         };
         if let Some(caller) = end_within(pending, memory) {
             memory.leave_call();
-            return take_caller(returned, caller.to, caller.saved, frame, &mut memory.spare);
+            return take_caller(returned, caller, frame, &mut memory.spare);
         }
     }
 }
@@ -237,13 +220,13 @@ pub fn take_flow<'p>(
     match (pending, flow) {
         (Pending::Then(others), Flow::Falls) => Ok(Due::Go(Now::Follow(others))),
         (Pending::Then(_), _) => Ok(Due::Go(Now::Leave(flow))),
-        (Pending::Test(test, flag, body), _) => Ok(take_test(flow, test, flag, body, frame)),
-        (Pending::Body(test, flag, body), _) => take_body(flow, test, flag, body, stack),
+        (Pending::Test(flag, both), _) => Ok(take_test(flow, flag, both, frame)),
+        (Pending::Body(flag, both), _) => take_body(flow, flag, both, stack),
         (Pending::Block, _) => Ok(take_block(flow, memory)),
         (Pending::Breakable, _) => Ok(take_breakable(flow)),
-        (Pending::Caller(_, _, saved), _) => {
+        (Pending::Caller(caller), _) => {
             memory.leave_call();
-            *frame = saved;
+            Box::into_inner(caller).go_on(frame, &mut memory.spare)?;
             Ok(Due::Wrong)
         }
     }

@@ -1,10 +1,10 @@
 // What temporaries and objects hold.
 
-ghost use Rattle.std.specs.Prelude.{◌≡◌, ◌+◌, IfOk, IfSome, OnOk, Some, None, false, if◌then◌else◌, map, slice_get, slice_set};
+ghost use Rattle.std.specs.Prelude.{◌≡◌, ◌+◌, ◌∷◌, [], IfOk, IfSome, OnOk, Some, None, false, if◌then◌else◌, slice_get, slice_set};
 ghost use Rattle.cyc_core.specs.Trees.{bytes_of};
-ghost use Rattle.core_eval.specs.Values.{fitted, is_fit, is_kept, put_cell, put_in, put_within, same_width, slot_at, value_of};
-ghost use Rattle.core_eval.specs.Elements.{cells_of};
-ghost use Rattle.core_eval.specs.Whole.{fill_cells, fill_in, fill_slot};
+ghost use Rattle.core_eval.specs.Values.{fitted, is_fit, is_kept, put_cell, put_within, same_width, value_of};
+ghost use Rattle.core_eval.specs.Elements.{cells_of, word_slot};
+ghost use Rattle.core_eval.specs.Whole.{fill_cells, fill_slot};
 
 use crate::begun::Begun;
 use crate::held::Held;
@@ -102,16 +102,6 @@ impl Slot {
         }
     }
 
-    /// The word that it holds, if it is the first cell of its object and of one word.
-    pub fn word(&self) -> Option<u32>
-        ensures { IfSome result (λ word. value_of 0 0 Width.Word (Some self.now) ≡ Some (Value.Word word)) }
-    {
-        match &self.held {
-            Held::Word(Value::Word(word)) => { if self.offset == 0 { Some(*word) } else { None } }
-            _ => None,
-        }
-    }
-
     /// Stores a value to the part with this number, if there is one that lies this number of bytes on and has this width, and answers whether
     /// there is.
     pub fn put(&mut self, byte: u64, part: u8, width: Width, value: Value) -> bool
@@ -126,11 +116,60 @@ impl Slot {
     }
 }
 
+/// The cell of an object of one word.
+fn word_slot(value: Value) -> Slot
+    ensures { result ≡ word_slot value }
+{
+    Slot {
+        offset: 0,
+        padding: 0,
+        held: Held::Word(value),
+    }
+}
+
+/// What a cell holds, if it is that of an object of one word.
+#[tactic(auto, using(crate::proofs::WordCells::is_word))]
+fn one_word(slot: Slot) -> Option<Value>
+    ensures { IfSome result (λ value. slot ≡ word_slot value) }
+{
+    match slot.held {
+        Held::Word(value) => {
+            if slot.offset == 0 && slot.padding == 0 {
+                Some(value)
+            } else {
+                None
+            }
+        }
+        _ => None,
+    }
+}
+
+/// Stores a value to a part of an object of one word, if there is one that lies there and has this width, and answers whether there is.
+fn put_word(held: &mut Value, part: Part, value: Value) -> bool
+    ensures put { put_cell (word_slot held.old ∷ []) part.cell part.byte part.number part.width value
+        ≡ (if result then Some (word_slot held.new ∷ []) else None) }
+    ensures kept { result ≡ false → held.new ≡ held.old }
+{
+    if part.cell != 0 {
+        return false;
+    }
+    let mut slot = word_slot(*held);
+    let is_put = slot.put(part.byte, part.number, part.width, value);
+    if is_put {
+        *held = slot.held.value();
+        true
+    } else {
+        false
+    }
+}
+
 /// A local, a temporary object, a global or a block of a region.
 #[derive(Drop)]
 pub enum Object {
-    /// Of one cell.
-    Scalar(Slot),
+    /// Of one cell of one word.
+    Word(Value),
+    /// Of one other cell.
+    Scalar(Box<Slot>),
     /// Of these cells.
     Whole(Vec<Slot>),
     /// Of these elements.
@@ -143,7 +182,14 @@ impl Object {
         ensures { result ≡ slice_get (cells_of self.now) cell }
     {
         match self {
-            Object::Scalar(slot) => { if cell == 0 { Some(*slot) } else { None } }
+            Object::Word(value) => {
+                if cell == 0 {
+                    Some(word_slot(*value))
+                } else {
+                    None
+                }
+            }
+            Object::Scalar(slot) => { if cell == 0 { Some(**slot) } else { None } }
             Object::Whole(slots) => match slots.get(cell as usize) {
                 Some(slot) => Some(*slot),
                 None => None,
@@ -153,10 +199,17 @@ impl Object {
     }
 
     /// What a part of it holds, if there is one that lies there and has this width.
-    fn value(&self, part: Part) -> Option<Value>
+    pub fn value(&self, part: Part) -> Option<Value>
         ensures { result ≡ value_of part.byte part.number part.width (slice_get (cells_of self.now) part.cell) }
     {
         match self {
+            Object::Word(value) => {
+                if part.cell == 0 {
+                    word_slot(*value).value(part.byte, part.number, part.width)
+                } else {
+                    None
+                }
+            }
             Object::Scalar(slot) => {
                 if part.cell == 0 {
                     slot.value(part.byte, part.number, part.width)
@@ -178,23 +231,35 @@ impl Object {
     }
 
     /// The word that it holds, if it is of one cell of one word.
-    fn word(&self) -> Option<u32>
+    pub fn word(&self) -> Option<u32>
         ensures { IfSome result (λ word. value_of 0 0 Width.Word (slice_get (cells_of self.now) 0) ≡ Some (Value.Word word)) }
     {
         match self {
-            Object::Scalar(slot) => slot.word(),
-            Object::Whole(_) | Object::Begun(_) => None,
+            Object::Word(value) => match value {
+                Value::Word(word) => Some(*word),
+                _ => None,
+            },
+            _ => None,
         }
     }
 
-    /// Sets the cell with this number, if there is one. Fails only where no host memory is left.
+    /// Sets the cell with this number, if there is one. Fails only where no host memory is left, or it is the cell of an object of one word and would
+    /// be another one.
     fn set(&mut self, cell: u64, slot: Slot) -> Result<(), AllocError>
         ensures { OnOk result (cells_of self.new ≡ slice_set (cells_of self.old) cell slot) }
     {
         match self {
+            Object::Word(old) => {
+                if cell == 0 {
+                    let Some(value) = one_word(slot) else {
+                        return Err(AllocError);
+                    };
+                    *old = value;
+                }
+            }
             Object::Scalar(old) => {
                 if cell == 0 {
-                    *old = slot;
+                    **old = slot;
                 }
             }
             Object::Whole(slots) => {
@@ -225,7 +290,7 @@ impl Object {
     }
 
     /// The cells from one on get these values. Fails only where no host memory is left, or there would be a cell with a number over 2^64 - 1.
-    fn fill(&mut self, cell: u64, values: &[Held]) -> Result<(), AllocError>
+    pub fn fill(&mut self, cell: u64, values: &[Held]) -> Result<(), AllocError>
         ensures { OnOk result (cells_of self.new ≡ fill_cells (cells_of self.old) cell values.now) }
     {
         let mut at = cell;
@@ -238,12 +303,13 @@ impl Object {
 
     /// Stores a value to a part of it, if there is one that lies there and has this width, and answers whether there is. Fails only where no
     /// host memory is left.
-    fn put(&mut self, part: Part, value: Value) -> Result<bool, AllocError>
+    pub fn put(&mut self, part: Part, value: Value) -> Result<bool, AllocError>
         ensures put { IfOk result (λ is_put. put_cell (cells_of self.old) part.cell part.byte part.number part.width value
             ≡ (if is_put then Some (cells_of self.new) else None)) }
         ensures kept { IfOk result (λ is_put. is_put ≡ false → self.new ≡ self.old) }
     {
         match self {
+            Object::Word(held) => Ok(put_word(held, part, value)),
             Object::Scalar(slot) => Ok(
                 part.cell == 0 && slot.put(part.byte, part.number, part.width, value),
             ),
@@ -284,36 +350,6 @@ fn fitted(width: Width, value: Value) -> Value
     }
 }
 
-/// The cell of the object with this number, if there is one.
-pub fn slot_in(objects: &[Object], index: usize, cell: u64) -> Option<Slot>
-    ensures { result ≡ slot_at (map cells_of objects.now) index cell }
-{
-    match objects.get(index) {
-        Some(object) => object.slot(cell),
-        None => None,
-    }
-}
-
-/// What a part of the object with this number holds, if there is one that lies there and has this width.
-pub fn value_in(objects: &[Object], index: usize, part: Part) -> Option<Value>
-    ensures { result ≡ value_of part.byte part.number part.width (slot_at (map cells_of objects.now) index part.cell) }
-{
-    match objects.get(index) {
-        Some(object) => object.value(part),
-        None => None,
-    }
-}
-
-/// The word that the object with this number holds, if it is of one cell of one word.
-pub fn word_in(objects: &[Object], index: usize) -> Option<u32>
-    ensures { IfSome result (λ word. value_of 0 0 Width.Word (slot_at (map cells_of objects.now) index 0) ≡ Some (Value.Word word)) }
-{
-    match objects.get(index) {
-        Some(object) => object.word(),
-        None => None,
-    }
-}
-
 /// How many bytes a width is.
 fn bytes_of(width: Width) -> u64
     ensures { result ≡ bytes_of width }
@@ -348,40 +384,6 @@ pub fn value_of(slot: Option<Slot>, byte: u64, part: u8, width: Width) -> Option
     match slot {
         Some(slot) => slot.value(byte, part, width),
         None => None,
-    }
-}
-
-/// Stores a value to a part of the object with this number, if there is one that lies there and has this width, and answers whether there is.
-/// Fails only where no host memory is left.
-pub fn put_in(
-    objects: &mut Vec<Object>,
-    index: usize,
-    part: Part,
-    value: Value,
-) -> Result<bool, AllocError>
-    ensures put { IfOk result (λ is_put. put_in (map cells_of objects.old.items) index part.cell part.byte part.number part.width value
-        ≡ (if is_put then Some (map cells_of objects.new.items) else None)) }
-    ensures kept { IfOk result (λ is_put. is_put ≡ false → objects.new.items ≡ objects.old.items) }
-{
-    match objects.get_mut(index) {
-        Some(object) => object.put(part, value),
-        None => Ok(false),
-    }
-}
-
-/// The cells of the object with this number get these values, from one on. Fails only where no host memory is left, or there would be a cell
-/// with a number over 2^64 - 1.
-pub fn fill_in(
-    objects: &mut Vec<Object>,
-    index: usize,
-    cell: u64,
-    values: &[Held],
-) -> Result<(), AllocError>
-    ensures { OnOk result (map cells_of objects.new.items ≡ fill_in (map cells_of objects.old.items) index cell values.now) }
-{
-    match objects.get_mut(index) {
-        Some(object) => object.fill(cell, values),
-        None => Ok(()),
     }
 }
 

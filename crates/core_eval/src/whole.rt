@@ -1,8 +1,10 @@
 // Copies of whole objects, and objects that begin anew.
 
-ghost use Rattle.std.specs.Prelude.{◌≡◌, ◌+◌, ◌++◌, true, List, IfOk, OnOk, map};
+ghost use Rattle.std.specs.Prelude.{◌≡◌, ◌+◌, ◌++◌, true, List, IfOk, OnOk, map, option_map};
 ghost use Rattle.core_meaning.specs.Core as core;
 ghost use Rattle.cyc_core.specs.Trees.{layout_tree};
+ghost use Rattle.core_eval.specs.Values.{cell_in};
+ghost use Rattle.core_eval.specs.Elements.{cells_of};
 ghost use Rattle.core_eval.specs.Blocks.{AreOrdered, stored_of};
 ghost use Rattle.core_eval.specs.Pendings.{Execute, Wait, next_of};
 ghost use Rattle.core_eval.specs.Standing.{known_of};
@@ -30,7 +32,7 @@ use crate::held::Held;
 use crate::memory::Memory;
 use crate::pending::{Due, Flow, Now};
 use crate::pointer::is_same_area;
-use crate::value::{Place, Slot, Value, further};
+use crate::value::{Object, Place, Slot, Value, further};
 use cyc_core::{CellLayout, Layout, Temporary};
 use std::alloc::{AllocError, Global};
 
@@ -84,17 +86,31 @@ fn is_alike(slot: Option<Slot>, cell: CellLayout) -> bool
     }
 }
 
-/// Whether the cells from a place on lie as a layout's. Fails only where there would be a cell with a number over 2^64 - 1, or one lies so
-/// and may have a pointer in another part.
-fn are_cells(memory: &Memory, place: Place, cells: &[CellLayout]) -> Result<bool, AllocError>
-    ensures laid { IfOk result (λ laid. AreOrdered memory.now
-        → laid ≡ are_cells (slots_of (stored_of memory.now) place) place.cell place.byte cells.now) }
-    ensures alike { IfOk result (λ laid. laid ≡ true → AreOrdered memory.now
-        → are_alike (slots_of (stored_of memory.now) place) place.cell cells.now ≡ true) }
+/// A cell of an object, if there is one.
+fn cell_of(object: Option<&Object>, cell: u64) -> Option<Slot>
+    ensures { result ≡ cell_in (option_map (λ o. cells_of o.now) object.entry) cell }
+{
+    match object {
+        Some(object) => object.slot(cell),
+        None => None,
+    }
+}
+
+/// Whether the cells of an object from a place on lie as a layout's. Fails only where there would be a cell with a number over 2^64 - 1, or one
+/// lies so and may have a pointer in another part.
+fn are_cells(
+    object: Option<&Object>,
+    place: Place,
+    cells: &[CellLayout],
+) -> Result<bool, AllocError>
+    ensures laid { IfOk result (λ laid.
+        laid ≡ are_cells (cell_in (option_map (λ o. cells_of o.now) object.entry)) place.cell place.byte cells.now) }
+    ensures alike { IfOk result (λ laid.
+        laid ≡ true → are_alike (cell_in (option_map (λ o. cells_of o.now) object.entry)) place.cell cells.now ≡ true) }
 {
     let mut at = place.cell;
     'each: for cell in cells {
-        let slot = memory.slot(place.area, place.object, at);
+        let slot = cell_of(object, at);
         if !is_cell(slot, place.byte, *cell) {
             return Ok(false);
         }
@@ -115,7 +131,7 @@ fn are_laid(memory: &Memory, place: Place, cells: &[CellLayout]) -> Result<bool,
         → are_alike (slots_of (stored_of memory.now) place) place.cell cells.now ≡ true) }
 {
     if memory.is_held(place.area) {
-        are_cells(memory, place, cells)
+        are_cells(memory.object(place.area, place.object), place, cells)
     } else {
         Ok(false)
     }
@@ -155,10 +171,11 @@ fn has_elements(
     if !memory.is_held(place.area) {
         return Ok(false);
     }
+    let object = memory.object(place.area, place.object);
     let cells: &[CellLayout] = &layout.cells;
     let mut at = place;
     'each: for _ in 0..count {
-        if !are_cells(memory, at, cells)? {
+        if !are_cells(object, at, cells)? {
             return Ok(false);
         }
         at = next_element(at, cells.len(), layout.bytes)?;
@@ -192,20 +209,19 @@ fn held_by(cell: CellLayout, slot: Option<Slot>) -> Held
     }
 }
 
-/// What as many cells hold as a layout has, from a place on.
+/// What as many cells of an object hold as a layout has, from one on.
 fn values_from(
     alloc: Global,
-    memory: &Memory,
-    place: Place,
+    object: Option<&Object>,
+    first: u64,
     cells: &[CellLayout],
 ) -> Result<Vec<Held>, AllocError>
-    ensures { IfOk result (λ values. AreOrdered memory.now
-        → values.items ≡ values_from (slots_of (stored_of memory.now) place) place.cell cells.now) }
+    ensures { IfOk result (λ values. values.items ≡ values_from (cell_in (option_map (λ o. cells_of o.now) object.entry)) first cells.now) }
 {
-    let mut values = Vec::new(alloc);
-    let mut at = place.cell;
+    let mut values = Vec::with_capacity(alloc, cells.len())?;
+    let mut at = first;
     'each: for cell in cells {
-        let slot = memory.slot(place.area, place.object, at);
+        let slot = cell_of(object, at);
         values.push(held_by(*cell, slot))?;
         at = further(at, 1)?;
     }
@@ -226,7 +242,7 @@ fn push_element(values: &mut Vec<Held>, cells: &[CellLayout]) -> Result<(), Allo
 fn first_elements(alloc: Global, cells: &[CellLayout], count: u32) -> Result<Vec<Held>, AllocError>
     ensures { IfOk result (λ values. values.items ≡ first_elements cells.now count) }
 {
-    let mut values = Vec::new(alloc);
+    let mut values = Vec::with_capacity(alloc, cells.len().saturating_mul(count as usize))?;
     'each: for _ in 0..count {
         push_element(&mut values, cells)?;
     }
@@ -271,7 +287,8 @@ pub fn copy<'p>(
     if is_same_object(target, source) {
         return Ok(Due::Wrong);
     }
-    let values = values_from(alloc, memory, source, cells)?;
+    let object = memory.object(source.area, source.object);
+    let values = values_from(alloc, object, source.cell, cells)?;
     memory.fill_to(target, &values)?;
     Ok(Due::Go(Now::Leave(Flow::Falls)))
 }

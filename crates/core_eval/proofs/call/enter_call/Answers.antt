@@ -1,10 +1,11 @@
 use Rattle.std.proofs.Common.{◌≡◌, ◌≢◌, ◌∷◌, length, map, ap, ◌∙◌, sym, rules}
 use Rattle.std.proofs.lemmas.List.{length-map}
 use Rattle.cyc_core.specs.Trees.{function_tree, optional_tree, body_tree}
+use Rattle.core_eval.specs.declared.frame.Frame.{Frame}
 use Rattle.core_eval.specs.Values.{content_of}
 use Rattle.core_eval.specs.Elements.{blank_object}
 use Rattle.core_eval.specs.Blocks.{activation_of}
-use Rattle.core_eval.specs.Pendings.{Go, Follow, Caller, saved_of, waits_of}
+use Rattle.core_eval.specs.Pendings.{Go, Follow, Caller, waits_of}
 use Rattle.core_eval.specs.Standing.{known_of}
 use Rattle.core_eval.proofs.Calls.{call_enters, call_missing, call_unfit}
 use Rattle.core_eval.proofs.CalledAs.{called_known, call_as}
@@ -37,9 +38,12 @@ returns-clause-enters c =
     call_as (map function_tree c.args.run.now.functions.now) (optional_tree c.args.call.to) c.args.call.function (map content_of c.args.call.arguments.items) ws
     (known_of f m) _ _ _ _ _ _
     (ap (λ b. Go (Follow (body_tree b))) c.deref-2.ensures.value)
-    (c.in_ok-wait.ensures ∙ ap (λ f. Caller (optional_tree c.args.call.to) c.args.call.function (saved_of f) ∷ ws) c.replace-saved.ensures.value)
+    (c.in_ok-wait.ensures ∙ ap (λ w. w ∷ ws) c.in_ok-caller.ensures
+    ∙ ap (λ (f : Frame). Caller (optional_tree c.args.call.to) c.args.call.function (record { temps = f.temps.items; base = f.base }) ∷ ws)
+    c.replace-saved.ensures.value)
     (ap (λ f. known_of f m') c.replace-saved.ensures.after
-    ∙ called_known f m m' (record { temps = c.args.call.arguments; base = c.len-2.result; at = record { 0 = 0 } }) c.in-Some.callee.now.own.items outside
+    ∙ called_known f m m' c.in_ok-begun.begun c.args.call.arguments.items c.in-Some.callee.now.own.items c.in_ok-begun.ensures.temps
+    (c.in_ok-begun.ensures.base ∙ outside)
     c.in_ok-enter_call.ensures.blocks c.in_ok-enter_call.ensures.entered
     (c.in_ok-enter_call.ensures.owns
     ∙ ap (λ os. record { number = m.called; objects = os } ∷ map activation_of m.owns.items)

@@ -94,8 +94,8 @@ returns-in-Ok-paid-clause-goes_on g c = λ p fuel read written same stage.
           (on_ok w.give-paid.result next e w.give-paid.ensures.base)) refl)
       | in-Turn w ↦
           let e = sym w.paid-is ∙ c.in-Ok-paid.is in
-          let test = body_tree w.in-Turn.test.now in
-          let body = body_tree w.in-Turn.body.now in
+          let test = body_tree w.in-Turn.both.now.value.0.items in
+          let body = body_tree w.in-Turn.both.now.value.1.items in
           let y = stage_as _ x (TurnDue test w.in-Turn.flag.0 body) _ _ _ (sym (ap next_of w.in-Turn.is)) refl refl refl in
           rw (w.reader-is, w.writer-is, w.streams-is, w.run-is)
           (stage_as _ (stage_turn test w.in-Turn.flag.0 body y some) _ _ _ _

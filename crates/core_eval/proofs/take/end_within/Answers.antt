@@ -1,6 +1,6 @@
-use Rattle.std.proofs.Common.{ap, sym, subst}
+use Rattle.std.proofs.Common.{ap, ◌∙◌, sym, subst}
 use Rattle.core_meaning.specs.Steps as steps
-use Rattle.core_eval.specs.Pendings.{Wait, wait_of}
+use Rattle.core_eval.specs.Pendings.{Wait, caller_of, wait_of}
 use Rattle.core_eval.specs.Standing.{known_of}
 use Rattle.core_eval.specs.Costs.{EndsWithin}
 use Rattle.core_eval.proofs.LeaveMoves.{then_returns, breakable_returns, test_leaves, turn_returns}
@@ -8,7 +8,7 @@ use Rattle.core_eval.proofs.Taken.{block_left}
 use Rattle.core_eval.proofs.take.end_within.Goals as goal
 
 pub returns-in-Caller-clause-caller : goal.returns-in-Caller-clause-caller
-returns-in-Caller-clause-caller c = record { function = _; is = ap wait_of c.in-Caller.is }
+returns-in-Caller-clause-caller c = ap wait_of c.in-Caller.is ∙ ap caller_of (sym c.into_inner.ensures)
 
 pub returns-in-Block-clause-within : goal.returns-in-Block-clause-within
 returns-in-Block-clause-within c =

@@ -1,6 +1,5 @@
 use Rattle.core_meaning.specs.Steps.{Returns}
-use Rattle.cyc_core.specs.Trees.{optional_tree}
-use Rattle.core_eval.specs.Pendings.{next_of, optional_value, wait_of, waits_of}
+use Rattle.core_eval.specs.Pendings.{caller_of, next_of, optional_value, wait_of, waits_of}
 use Rattle.core_eval.specs.Standing.{LeavesCall, known_of}
 use Rattle.core_eval.proofs.Follows.{reached, reaches_move}
 use Rattle.core_eval.proofs.Taken.{main_left}
@@ -36,6 +35,5 @@ returns-in-Some-end_within c =
       long_blocks = c.leave_call.ensures.long_blocks;
     } in
     gone_on c.waits.frame c.waits.memory c.waits.invariant (wait_of c.in-Some.pending) (waits_of c.next.new.stack.items) c.in-Some.ensures.some
-    c.take_caller.result
-    (optional_tree c.in-Some-end_within.caller.to) c.in-Some-end_within.caller.saved c.take_caller.new.frame m m' c.in-Some-end_within.ensures.caller
+    c.take_caller.result (caller_of c.in-Some-end_within.caller) c.take_caller.new.frame m m' c.in-Some-end_within.ensures.caller
     c.in-Some-end_within.ensures.same left c.take_caller.ensures

@@ -1,7 +1,8 @@
 use Rattle.std.proofs.Common.{◌∷◌, refl, ap, ◌∙◌}
 use Rattle.cyc_core.specs.Trees.{optional_tree}
+use Rattle.core_eval.specs.declared.caller.Waiting.{Waiting}
 use Rattle.core_eval.specs.declared.pending.Pending.TheVariants as pending
-use Rattle.core_eval.specs.Pendings.{Block, Breakable, Wrong, exit_of, saved_of, wait_of, waits_of}
+use Rattle.core_eval.specs.Pendings.{Block, Breakable, Wrong, caller_of, exit_of, kept_temps, saved_of, wait_of, waits_of}
 use Rattle.core_eval.specs.Standing.{LeavesCall, known_of}
 use Rattle.core_eval.proofs.LeaveMoves.{main_wrong, caller_wrong}
 use Rattle.core_eval.proofs.Taken.{left_as, left_ok, left_known, left_to, known_here, main_left}
@@ -18,7 +19,7 @@ pub returns-in-Test-default : goal.returns-in-Test-default
 returns-in-Test-default c =
     let ws = waits_of c.next.new.stack.items in
     left_as (exit_of c.args.flow) (exit_of c.args.flow)
-    (wait_of (pending.Test c.in-Test-default.test c.in-Test-default.flag c.in-Test-default.body) ∷ ws)
+    (wait_of (pending.Test c.in-Test-default.flag c.in-Test-default.both) ∷ ws)
     (waits_of c.args.stack.now.items) (known_of c.args.frame.now c.args.memory.now) _ ws _ refl
     (c.in-Some.ensures.some ∙ ap (λ p. wait_of p ∷ ws) c.in-Test-default.is-0)
     (c.take_test.ensures ws c.args.memory.now)
@@ -27,7 +28,7 @@ pub returns-in-Body-default : goal.returns-in-Body-default
 returns-in-Body-default c =
     let ws = waits_of c.next.new.stack.items in
     let known = known_of c.args.frame.now c.args.memory.now in
-    left_ok c.take_body.result (exit_of c.args.flow) (wait_of (pending.Body c.in-Body-default.test c.in-Body-default.flag c.in-Body-default.body) ∷ ws)
+    left_ok c.take_body.result (exit_of c.args.flow) (wait_of (pending.Body c.in-Body-default.flag c.in-Body-default.both) ∷ ws)
     (waits_of c.args.stack.now.items) known _ known
     (c.in-Some.ensures.some ∙ ap (λ p. wait_of p ∷ ws) c.in-Body-default.is-0)
     (known_here c.take_body.result _ _ _ known c.take_body.ensures)
@@ -48,8 +49,8 @@ returns-in-Breakable-default c =
     (c.in-Some.ensures.some ∙ ap (λ p. wait_of p ∷ ws) c.in-Breakable-default.is-0)
     (c.take_breakable.ensures ws known)
 
-pub returns-in-Caller-default : goal.returns-in-Caller-default
-returns-in-Caller-default c =
+pub returns-in_ok-go_on-in-Caller-default : goal.returns-in_ok-go_on-in-Caller-default
+returns-in_ok-go_on-in-Caller-default c =
     let ws = waits_of c.next.new.stack.items in
     let m = c.args.memory.now in
     let m' = c.leave_call.new.self in
@@ -62,10 +63,13 @@ returns-in-Caller-default c =
       regions = c.leave_call.ensures.regions;
       long_blocks = c.leave_call.ensures.long_blocks;
     } in
-    let caller = c.in-Caller-default in
-    left_to (exit_of c.args.flow) (exit_of c.args.flow) (wait_of (pending.Caller caller.field-0-0 caller.field-1-0 caller.saved) ∷ ws)
-    (waits_of c.args.stack.now.items) (known_of c.args.frame.now m) Wrong ws _ (known_of caller.saved m') refl
-    (c.in-Some.ensures.some ∙ ap (λ p. wait_of p ∷ ws) caller.is-0)
-    (left_known c.args.frame.now caller.saved m m' left)
-    (caller_wrong (known_of c.args.frame.now m) ws (optional_tree caller.field-0-0) caller.field-1-0 (saved_of caller.saved) (exit_of c.args.flow)
+    let caller = c.in-Caller-default.caller.value in
+    let saved = saved_of caller in
+    left_to (exit_of c.args.flow) (exit_of c.args.flow) (caller_of caller ∷ ws)
+    (waits_of c.args.stack.now.items) (known_of c.args.frame.now m) Wrong ws _ (known_of c.go_on.new.frame m') refl
+    (c.in-Some.ensures.some ∙ ap (λ p. wait_of p ∷ ws) c.in-Caller-default.is-0)
+    (left_known c.args.frame.now c.go_on.new.frame m m' saved.temps saved.base
+    (c.in_ok-go_on-in-Caller-default.ensures.temps ∙ ap (λ (w : Waiting). kept_temps w.temps) c.into_inner.ensures)
+    (c.in_ok-go_on-in-Caller-default.ensures.base ∙ ap (λ (w : Waiting). w.base) c.into_inner.ensures) left)
+    (caller_wrong (known_of c.args.frame.now m) ws (optional_tree caller.to) caller.function saved (exit_of c.args.flow)
     (no_return c.args.flow))

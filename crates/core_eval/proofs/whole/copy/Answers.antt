@@ -7,6 +7,7 @@ use Rattle.core_eval.specs.Standing.{known_of}
 use Rattle.core_eval.proofs.Changes.{with_stored}
 use Rattle.core_eval.proofs.Answered.{move_as, stored_known}
 use Rattle.core_eval.proofs.WholeMoves.{all_hold, first_fails, second_fails, third_fails, copy_moves, copy_wrong}
+use Rattle.core_eval.proofs.Lent.{all_cells}
 use Rattle.core_eval.proofs.whole.copy.Goals as goal
 
 pub returns : goal.returns
@@ -32,7 +33,8 @@ returns c =
     (λ d. ap (are_alike (slots_of (stored_of m) q) q.cell) (sym cells) ∙ c.in_ok-has_source.ensures.alike source d)
     (λ d. c.in_ok-fill_to.ensures.stored d
     ∙ ap (fill_to (stored_of m) p.area p.object p.cell)
-    (c.deref.ensures.value ∙ c.in_ok-values.ensures d ∙ ap (values_from (slots_of (stored_of m) q) q.cell) cells)))
+    (c.deref.ensures.value ∙ c.in_ok-values.ensures ∙ ap (λ s. values_from s q.cell c.deref-cells.result.now) (sym (all_cells _ _ (c.object-object.ensures d)))
+    ∙ ap (values_from (slots_of (stored_of m) q) q.cell) cells)))
 
 pub returns-then-not-is_there : goal.returns-then-not-is_there
 returns-then-not-is_there c =

@@ -5,8 +5,6 @@ use Rattle.core_eval.proofs.whole.has_elements.Given as goal
 
 abbrev pub invariant-each : goal.invariant-each
 invariant-each l = record {
-  area : l.at.area ≡ l.fn.place.area;
-  object : l.at.object ≡ l.fn.place.object;
   whole : AreOrdered l.memory
       → are_elements (slots_of (stored_of l.memory) l.fn.place) l.at.cell l.at.byte l.cells l.layout.bytes (l.count - l.counter)
       ≡ are_elements (slots_of (stored_of l.memory) l.fn.place) l.fn.place.cell l.fn.place.byte l.cells l.layout.bytes l.count;

@@ -1,6 +1,8 @@
 use Rattle.std.specs.Prelude.{if◌then◌else◌, slice_get, slice_set}
 use Rattle.std.proofs.Common.{◌≡◌, Bool, List, Some, None, ap, ◌∙◌, sym}
+use Rattle.std.specs.Box.{with_value}
 use Rattle.core_eval.specs.declared.value.Object.{Object}
+use Rattle.core_eval.specs.declared.value.Object.TheVariants as object
 use Rattle.core_eval.specs.declared.value.Slot.{Slot}
 use Rattle.core_eval.specs.Values.{put_cell}
 use Rattle.core_eval.specs.Elements.{cells_of}
@@ -33,3 +35,7 @@ returns-else-is_put-clause-put c =
     c.put-is_put.ensures.put
     ∙ ap (λ (b : Bool). if b then Some new else None) c.if-is_put.false
     ∙ sym (ap (λ (b : Bool). if b then Some cells else None) c.if-is_put.false)
+
+pub returns-then-part-eq0-clause-kept : goal.returns-then-part-eq0-clause-kept
+returns-then-part-eq0-clause-kept c =
+    λ unput. ap (λ (s : Slot). object.Scalar (with_value c.in-Scalar.slot s)) (c.put.ensures.kept unput ∙ c.deref_mut.ensures.value) ∙ sym c.in-Scalar.is

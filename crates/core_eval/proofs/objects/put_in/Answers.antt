@@ -1,7 +1,7 @@
 use Rattle.std.proofs.Common.{◌<◌, ◌≤◌, length, rules}
 use Rattle.std.proofs.lemmas.Result.{IfOk-weaker}
 use Rattle.core_eval.proofs.Lists.{put_object_some, put_object_none}
-use Rattle.core_eval.proofs.value.put_in.Goals as goal
+use Rattle.core_eval.proofs.objects.put_in.Goals as goal
 
 pub returns-in-Some-clause-put : goal.returns-in-Some-clause-put
 returns-in-Some-clause-put c =

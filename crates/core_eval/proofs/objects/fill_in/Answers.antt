@@ -1,7 +1,7 @@
 use Rattle.std.proofs.Common.{◌<◌, ◌≤◌, length, rules}
 use Rattle.std.proofs.lemmas.Result.{on_ok_weaker}
 use Rattle.core_eval.proofs.Lists.{fill_object_some, fill_object_none}
-use Rattle.core_eval.proofs.value.fill_in.Goals as goal
+use Rattle.core_eval.proofs.objects.fill_in.Goals as goal
 
 pub returns-in-Some : goal.returns-in-Some
 returns-in-Some c =
